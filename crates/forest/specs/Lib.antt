@@ -1,0 +1,1 @@
+-- Sound pools are forests: the theory over a codec.

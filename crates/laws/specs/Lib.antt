@@ -1,0 +1,4 @@
+-- The library of laws: each stands once, at its natural generality.
+pub mod Test
+pub mod Sum
+pub mod Bit

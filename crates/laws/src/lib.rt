@@ -1,0 +1,1 @@
+// Theorems alone: what the other crates' definitions and proofs lean on stands in specs/.

@@ -2,3 +2,4 @@
 pub mod Test
 pub mod Sum
 pub mod Bit
+pub mod Size

@@ -1,0 +1,2 @@
+-- Definitions that the contracts of `address` cite.
+pub mod Address

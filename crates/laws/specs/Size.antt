@@ -1,14 +1,16 @@
 -- Entry sizes, once over the level: 2^39, 2^30, 2^21 and 2^12 at levels 0 to 3, and 2^12 past them. Rounding to a multiple.
 -- Assumes nothing.
-use mathlib.Core.Path.{_≡_, refl, sym, ap, _∙_, subst}
-use mathlib.Core.Bool.{cond}
-use mathlib.Core.Logic.{_⊎_, inl, inr, ⊎-elim}
-use Prim.Native.Nat.{ℕ, zero, suc, _+_, _*_, _-_, _/_, _%_, _^_, _≤_, _<_}
-use native.Mathlib.Nat.{div-add-mod', mod-lt, mod-zero, div-zero, zero-div, div-eq-of-lt-le, mul-div-cancel, mul-mod-left, add-mul-mod-self-right, mod-eq-of-lt}
+use mathlib.Core.Path.{_≡_, ap, _∙_}
+use mathlib.Core.Bool.{_&&_}
+use mathlib.Core.Logic.{⊎-elim}
+use Prim.Native.Nat.{ℕ, _+_, _*_, _-_, _/_, _%_, _^_, _≤_, _<_}
+use native.Mathlib.Nat.{div-add-mod', mod-lt, div-eq-of-lt-le, mul-div-cancel}
 use native.Mathlib.Omega.{arith}
-use lib.Dec.{ltb}
+use lib.Bits.{bitAnd, bitOr}
+use lib.Dec.{eqb}
 use lib.Pow.{pow-add, pow-pos, pow-mono}
-use Rattle.laws.specs.Test.{eq-or, le-or}
+use Rattle.laws.specs.Bit.{or-ones, or-aligned}
+use Rattle.laws.specs.Test.{eq-or}
 
 -- the bytes that one entry of a table at this level spans (document 01, "What a word says": entry sizes)
 unfoldable pub sizeAt : ℕ → ℕ
@@ -100,3 +102,13 @@ down-le v a = let r = down-rest v a in omega arith
 pub le-up : (v a : ℕ) → 0 < a → v ≤ up v a
 le-up v a h = ⊎-elim (λ e. let r = up-exact v a h e in omega arith)
     (λ n. let r = up-next v a h n in let s = down-rest v a in let m = mod-lt v h in omega arith) (eq-or (v % a) 0)
+
+-- ---- sizes are powers of two: masks
+
+pub size-or : (level a : ℕ) → bitOr a (sizeAt level - 1) ≡ down a (sizeAt level) + (sizeAt level - 1)
+unfolding sizeAt down
+size-or level a = or-ones (12 + 9 * (3 - level)) a
+
+pub size-aligned : (level a b : ℕ) → eqb (bitAnd (bitOr a b) (sizeAt level - 1)) 0 ≡ eqb (a % sizeAt level) 0 && eqb (b % sizeAt level) 0
+unfolding sizeAt
+size-aligned level a b = or-aligned (12 + 9 * (3 - level)) a b

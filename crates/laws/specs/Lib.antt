@@ -3,3 +3,5 @@ pub mod Test
 pub mod Sum
 pub mod Bit
 pub mod Size
+pub mod Slot
+pub mod Part

@@ -1,0 +1,69 @@
+-- When a pool is sound (document 01, "Pool and ledger"), as a test that computes on the lists, clause by clause. Assumes nothing.
+use mathlib.Core.Bool.{Bool, true, false, not, cond, _&&_, _||_}
+use mathlib.Core.List.{List}
+use Prim.Native.Nat.{ℕ, zero, suc, _+_, _*_, _-_, _/_, _%_, _^_}
+use lib.Dec.{eqb, leb, ltb}
+use lib.ListN.{length, getD}
+use Rattle.laws.specs.Size.{sizeAt}
+use Rattle.laws.specs.Test.{allBelow, allFrom}
+use Rattle.entry.specs.Word.{addressOf, linkOf, only, el1Flags}
+use Rattle.pool.specs.State.{St, tables, wordAt, numberAt}
+use Rattle.pool.specs.Number.{rootNumber, levelOf, parentOf, slotOf}
+use Rattle.pool.specs.declared.Handle.{Handle}
+
+-- the flags that may stand in the tables of this handle
+unfoldable pub flagSet : Handle → ℕ
+flagSet h = el1Flags
+
+-- flags without bit 1: bits 0, 2 to 11 and 48 to 63
+unfoldable pub plainFlags : ℕ → ℕ
+plainFlags w = w % 2 + w / 4 % 1024 * 4 + w / 2 ^ 48 * 2 ^ 48
+
+-- what a word that is no table must be at its level: at level 0 it isn't valid, bit 1 is clear and its address is 0; at levels 1 and 2 bit 1 is clear and
+-- the address is a multiple of the entry's size; at level 3 a valid word has bit 1
+unfoldable pub fits : ℕ → ℕ → Bool
+fits zero w = eqb (w % 4) 0 && eqb (addressOf w) 0
+fits (suc zero) w = ltb (w % 4) 2 && eqb (addressOf w % sizeAt 1) 0
+fits (suc (suc zero)) w = ltb (w % 4) 2 && eqb (addressOf w % sizeAt 2) 0
+fits (suc (suc (suc l))) w = not (eqb (w % 4) 1)
+
+-- .. and has flags only from the set, bit 1 apart
+unfoldable pub leafb : ℕ → ℕ → ℕ → Bool
+leafb set level w = only set (plainFlags w) && fits level w
+
+-- the number x names a slot at all
+unfoldable pub namesb : ℕ → Bool
+namesb x = leb 4 (x % 8) && leb 1 (x / 8)
+
+-- table k's number names a slot of a used table one level higher in the tree, and that slot refers to it
+unfoldable pub hangsb : ℕ → St → ℕ → Bool
+hangsb base s k =
+    let x = numberAt s k in
+    let y = numberAt s (parentOf x) in
+    namesb x && (eqb (levelOf x) (suc (levelOf y)) && (ltb 0 y && eqb (wordAt s (parentOf x) (slotOf x)) (linkOf base k)))
+
+-- the ledger has the root's number at 0; every other table is free or hangs
+unfoldable pub tableb : Handle → St → ℕ → Bool
+tableb h s zero = eqb (numberAt s 0) (rootNumber (h .level))
+tableb h s (suc k) = eqb (numberAt s (suc k)) 0 || hangsb (h .base .0) s (suc k)
+
+-- the word w in slot i of table k is exactly a pool table's address + 3, and that table's number names this slot
+unfoldable pub linkb : ℕ → St → ℕ → ℕ → ℕ → Bool
+linkb base s k i w =
+    let c = (addressOf w - base) / 4096 in
+    let z = numberAt s c in
+    eqb w (linkOf base c) && (namesb z && (eqb (parentOf z) k && eqb (slotOf z) i))
+
+-- a table word: bits 0 and 1 set in a table of levels 0 to 2 (of a used table, whose number is y)
+unfoldable pub refersb : ℕ → ℕ → Bool
+refersb y w = ltb (levelOf y) 3 && eqb (w % 4) 3
+
+-- the word w in slot i of table k: free tables are all zero, a table word is a link, every other word a leaf
+unfoldable pub slotb : Handle → St → ℕ → ℕ → ℕ → Bool
+slotb h s k i w =
+    let y = numberAt s k in
+    cond (eqb y 0) (eqb w 0) (cond (refersb y w) (linkb (h .base .0) s k i w) (leafb (flagSet h) (levelOf y) w))
+
+-- the pool is sound
+unfoldable pub soundb : Handle → St → Bool
+soundb h s = allBelow (tables s) (tableb h s) && allFrom 0 (s .words) (λ x w. slotb h s (x / 512) (x % 512) w)

@@ -1,0 +1,24 @@
+-- The lent pool as one record: 512·n words and n ledger numbers, and what stands in a slot. Assumes nothing.
+use mathlib.Core.List.{List}
+use Prim.Native.Nat.{ℕ, _+_, _*_}
+use lib.ListN.{length, getD}
+
+-- document 01, "Pool and ledger"
+pub record St : Type 0 where
+  pub words : List ℕ
+  pub ledger : List ℕ
+
+abbrev pub st : List ℕ → List ℕ → St
+st w l = record { words = w; ledger = l }
+
+-- n, the ledger's length
+abbrev pub tables : St → ℕ
+tables s = length (s .ledger)
+
+-- the word in slot i of table k
+abbrev pub wordAt : St → ℕ → ℕ → ℕ
+wordAt s k i = getD (s .words) (512 * k + i) 0
+
+-- the ledger number of table k
+abbrev pub numberAt : St → ℕ → ℕ
+numberAt s k = getD (s .ledger) k 0

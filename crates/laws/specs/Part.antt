@@ -1,11 +1,12 @@
 -- A part of a list that was lent and has come back: what a callee says of the part, said of the whole. Assumes nothing.
 use mathlib.Core.Path.{_≡_, refl, sym, ap, _∙_}
-use mathlib.Core.List.{List, _++_}
+use mathlib.Core.List.{List, [], _∷_, _++_, append-nil}
 use mathlib.Core.Logic.{_⊎_, inl, inr}
-use Prim.Native.Nat.{ℕ, _+_, _-_, _≤_, _<_}
+use Prim.Native.Nat.{ℕ, zero, suc, _+_, _-_, _≤_, _<_}
+use native.Mathlib.Numerals.{add-one}
 use native.Mathlib.Omega.{arith}
-use lib.ListN.{length, getD, take, drop, length-append, length-take, length-drop, List·getD-append}
-use lib.Seq.{getD-take, getD-drop, getD-append-add, length-take-le}
+use lib.ListN.{length, getD, set, take, drop, replicate, length-append, length-take, length-drop, drop-of-length-le, List·getD-append}
+use lib.Seq.{getD-take, getD-drop, getD-append-add, length-take-le, take-all, drop-length}
 use borrow.Rule.Slice.PartMut.{putMid, midOf, post-is, mid-len}
 use Rattle.laws.specs.Test.{le-or}
 
@@ -57,3 +58,23 @@ put-after a p l j d h k =
     ∙ getD-append-add p (drop (a + length p) l) m d
     ∙ getD-drop (a + length p) l m d
     ∙ ap (λ (x : ℕ). getD l x d) (let r : a + length p + m ≡ j = omega arith in r)
+
+-- ---- a loop that writes a list from the front, one store a turn: after i turns it is `take i s ++ drop i d`
+
+write-suc {ℓ} : {A : Type ℓ} (d s : List A) (i : ℕ) (z : A) → i < length d → i < length s → set (take i s ++ drop i d) i (getD s i z) ≡ take (suc i) s ++ drop (suc i) d
+write-suc [] s i z h k = absurd (omega arith)
+write-suc (x ∷ d) [] i z h k = absurd (omega arith)
+write-suc (x ∷ d) (y ∷ s) zero z h k = refl
+write-suc (x ∷ d) (y ∷ s) (suc i) z h k = ap (λ t. y ∷ t) (write-suc d s i z (omega arith) (omega arith))
+
+pub write-more {ℓ} : {A : Type ℓ} (d s : List A) (i : ℕ) (z : A) → i < length d → i < length s
+    → set (take i s ++ drop i d) i (getD s i z) ≡ take (i + 1) s ++ drop (i + 1) d
+write-more d s i z h k = rw add-one (write-suc d s i z h k)
+
+-- all is written
+pub write-all {ℓ} : {A : Type ℓ} (d s : List A) (i : ℕ) → length d ≤ i → length s ≤ i → take i s ++ drop i d ≡ s
+write-all d s i h k = rw (take-all i s k, drop-of-length-le d h, append-nil)
+
+-- a loop that zeroes a list from the front has zeroed all
+pub zeroed : (l : List ℕ) (i : ℕ) → i ≡ length l → replicate i 0 ++ drop i l ≡ replicate (length l) 0
+zeroed l i e = rw (e, drop-length, append-nil)

@@ -4,7 +4,7 @@ use mathlib.Core.Path.{_≡_, ap, _∙_}
 use mathlib.Core.Bool.{_&&_}
 use mathlib.Core.Logic.{⊎-elim}
 use Prim.Native.Nat.{ℕ, _+_, _*_, _-_, _/_, _%_, _^_, _≤_, _<_}
-use native.Mathlib.Nat.{div-add-mod', mod-lt, div-eq-of-lt-le, mul-div-cancel}
+use native.Mathlib.Nat.{add-mul, div-add-mod', mod-lt, div-eq-of-lt-le, mul-div-cancel}
 use native.Mathlib.Omega.{arith}
 use lib.Bits.{bitAnd, bitOr}
 use lib.Dec.{eqb}
@@ -112,3 +112,6 @@ size-or level a = or-ones (12 + 9 * (3 - level)) a
 pub size-aligned : (level a b : ℕ) → eqb (bitAnd (bitOr a b) (sizeAt level - 1)) 0 ≡ eqb (a % sizeAt level) 0 && eqb (b % sizeAt level) 0
 unfolding sizeAt
 size-aligned level a b = or-aligned (12 + 9 * (3 - level)) a b
+
+pub next-multiple : (i a : ℕ) → (i + 1) * a ≡ i * a + a
+next-multiple i a = add-mul i 1 a ∙ (let e : i * a + 1 * a ≡ i * a + a = omega arith in e)

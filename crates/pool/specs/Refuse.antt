@@ -2,9 +2,11 @@
 -- Assumes nothing.
 use mathlib.Core.Bool.{Bool, true, false, cond, _&&_}
 use mathlib.Core.List.{List, [], _∷_}
-use Prim.Native.Nat.{ℕ, _+_, _*_, _%_, _^_}
-use lib.Dec.{eqb, leb}
+use mathlib.Core.Path.{_≡_}
+use Prim.Native.Nat.{ℕ, _+_, _*_, _%_, _^_, _≤_}
+use lib.Dec.{T, eqb, leb, leb→le, le→leb, eqb→eq}
 use lib.ListN.{length}
+use Rattle.laws.specs.Test.{and-l, and-r, and-i, eq→eqb}
 use Rattle.pool.specs.State.{St, tables}
 use Rattle.pool.specs.declared.Handle.{Handle}
 use Rattle.pool.specs.declared.Refusal.{Refusal}
@@ -50,6 +52,48 @@ unfoldable pub shaped : Handle → St → Bool
 shaped h s =
     leb 1 (tables s) && (leb (tables s) maxTables && (eqb (length (s .words)) (512 * tables s)
     && (eqb (h .base .0 % 4096) 0 && (leb (h .base .0 + 4096 * tables s) (2 ^ 48) && leb (h .level) 3))))
+
+-- what it says, part by part
+pub record Shaped (h : Handle) (s : St) : Type 0 where
+  pub some : 1 ≤ tables s
+  pub limit : tables s ≤ maxTables
+  pub sized : length (s .words) ≡ 512 * tables s
+  pub paged : h .base .0 % 4096 ≡ 0
+  pub ended : h .base .0 + 4096 * tables s ≤ 2 ^ 48
+  pub level : h .level ≤ 3
+
+pub shaped-says : (h : Handle) (s : St) → T (shaped h s) → Shaped h s
+unfolding shaped
+shaped-says h s t =
+    let n = tables s in
+    let a = leb 1 n in
+    let b = leb n maxTables in
+    let c = eqb (length (s .words)) (512 * n) in
+    let d = eqb (h .base .0 % 4096) 0 in
+    let e = leb (h .base .0 + 4096 * n) (2 ^ 48) in
+    let f = leb (h .level) 3 in
+    let t₁ = and-r a (b && (c && (d && (e && f)))) t in
+    let t₂ = and-r b (c && (d && (e && f))) t₁ in
+    let t₃ = and-r c (d && (e && f)) t₂ in
+    let t₄ = and-r d (e && f) t₃ in
+    record {
+      some = leb→le 1 n (and-l a (b && (c && (d && (e && f)))) t);
+      limit = leb→le n maxTables (and-l b (c && (d && (e && f))) t₁);
+      sized = eqb→eq (length (s .words)) (512 * n) (and-l c (d && (e && f)) t₂);
+      paged = eqb→eq (h .base .0 % 4096) 0 (and-l d (e && f) t₃);
+      ended = leb→le (h .base .0 + 4096 * n) (2 ^ 48) (and-l e f t₄);
+      level = leb→le (h .level) 3 (and-r e f t₄);
+    }
+
+pub says-shaped : (h : Handle) (s : St) → Shaped h s → T (shaped h s)
+unfolding shaped
+says-shaped h s p =
+    let n = tables s in
+    and-i (leb 1 n) _ (le→leb 1 n (p .some))
+    (and-i (leb n maxTables) _ (le→leb n maxTables (p .limit))
+    (and-i (eqb (length (s .words)) (512 * n)) _ (eq→eqb (length (s .words)) (512 * n) (p .sized))
+    (and-i (eqb (h .base .0 % 4096) 0) _ (eq→eqb (h .base .0 % 4096) 0 (p .paged))
+    (and-i (leb (h .base .0 + 4096 * n) (2 ^ 48)) (leb (h .level) 3) (le→leb (h .base .0 + 4096 * n) (2 ^ 48) (p .ended)) (le→leb (h .level) 3 (p .level))))))
 
 -- an answer and the state that it leaves
 pub record Out (A : Type 0) : Type 0 where

@@ -1,17 +1,21 @@
 -- One table of the pool: its words replaced as a whole, zeroed, taken, freed. Assumes nothing.
 use mathlib.Core.Path.{_≡_, refl, sym, ap, _∙_}
-use mathlib.Core.List.{List, [], _∷_, _++_}
+use mathlib.Core.List.{List, [], _∷_}
+use mathlib.Core.Logic.{_⊎_, inl, inr}
 use Prim.Native.Nat.{ℕ, zero, suc, _+_, _*_, _-_, _≤_, _<_}
+use native.Mathlib.Nat.{suc-mul}
 use native.Mathlib.Omega.{arith}
-use lib.ListN.{length, getD, set, take, drop, replicate, length-replicate, getD-replicate, length-set}
+use lib.ListN.{length, getD, set, replicate, length-replicate, getD-replicate, List·getD-eq-default}
 use Rattle.laws.specs.Part.{putPart, length-put}
 use Rattle.laws.specs.Slot.{iter}
+use Rattle.laws.specs.Test.{le-or}
 use Rattle.entry.specs.Word.{linkOf}
 use Rattle.entry.specs.Sub.{subOf}
 use Rattle.entry.specs.declared.Sub.{Sub}
 use Rattle.entry.specs.declared.Sub.the-variants.{Table, Outside, Leaf}
 use Rattle.pool.specs.State.{St, st, tables, wordAt}
 use Rattle.pool.specs.Number.{numberOf, lowestFree}
+use Rattle.pool.specs.declared.Handle.{Handle}
 use Rattle.pool.specs.declared.Found.{Found}
 use Rattle.pool.specs.declared.Found.the-variants.{At, Nothing}
 
@@ -32,10 +36,10 @@ unfoldable pub rising : ℕ → ℕ → ℕ → List ℕ
 rising zero first step = []
 rising (suc n) first step = first ∷ rising n (first + step) step
 
--- table j taken for slot i of table p, level for the new one: filled, entered, then linked
-unfoldable pub takeAt : ℕ → ℕ → ℕ → ℕ → List ℕ → ℕ → St → St
-takeAt base level p i t j s =
-    st (set (putTable j t (s .words)) (512 * p + i) (linkOf base j)) (set (s .ledger) j (numberOf level p i))
+-- table j taken for slot i of table p, at this level: filled with t, entered, then linked
+unfoldable pub takeAt : Handle → ℕ → ℕ → ℕ → List ℕ → ℕ → St → St
+takeAt h level p i t j s =
+    st (set (putTable j t (s .words)) (512 * p + i) (linkOf (h .base .0) j)) (set (s .ledger) j (numberOf level p i))
 
 -- "a new table is always the lowest free number at that moment"
 pub record Taken : Type 0 where
@@ -45,12 +49,12 @@ pub record Taken : Type 0 where
 abbrev pub taken : Found → St → Taken
 taken f s = record { table = f; state = s }
 
-unfoldable pub takeFound : ℕ → ℕ → ℕ → ℕ → List ℕ → Found → St → Taken
-takeFound base level p i t (At j) s = taken (At j) (takeAt base level p i t j s)
-takeFound base level p i t Nothing s = taken Nothing s
+unfoldable pub takeFound : Handle → ℕ → ℕ → ℕ → List ℕ → St → Found → Taken
+takeFound h level p i t s (At j) = taken (At j) (takeAt h level p i t j s)
+takeFound h level p i t s Nothing = taken Nothing s
 
-unfoldable pub takeTable : ℕ → ℕ → ℕ → ℕ → List ℕ → St → Taken
-takeTable base level p i t s = takeFound base level p i t (lowestFree (s .ledger)) s
+unfoldable pub takeTable : Handle → ℕ → ℕ → ℕ → List ℕ → St → Taken
+takeTable h level p i t s = takeFound h level p i t s (lowestFree (s .ledger))
 
 -- ---- a whole subtree: what its slots lead to, one level down, and then the table itself
 
@@ -60,10 +64,86 @@ freeSub rec (Table j) s = rec j s
 freeSub rec Outside s = s
 freeSub rec Leaf s = s
 
-unfoldable pub freeSlot : (ℕ → St → St) → ℕ → ℕ → ℕ → ℕ → St → St
-freeSlot rec base level k i s = freeSub rec (subOf base (tables s) level (wordAt s k i)) s
+unfoldable pub freeSlot : (ℕ → St → St) → Handle → ℕ → ℕ → ℕ → St → St
+freeSlot rec h level k i s = freeSub rec (subOf (h .base .0) (tables s) level (wordAt s k i)) s
 
 -- table k with `left` levels below its own
-unfoldable pub freeTree : ℕ → ℕ → ℕ → St → St
-freeTree zero base k s = clear k s
-freeTree (suc left) base k s = clear k (iter (freeSlot (λ j t. freeTree left base j t) base (3 - suc left) k) 512 s)
+unfoldable pub freeTree : ℕ → Handle → ℕ → St → St
+freeTree zero h k s = clear k s
+freeTree (suc left) h k s = clear k (iter (freeSlot (λ j t. freeTree left h j t) h (3 - suc left) k) 512 s)
+
+-- ---- laws: one for each way through the code
+
+pub clear-is : (k : ℕ) (s : St) → st (putTable k zeros (s .words)) (set (s .ledger) k 0) ≡ clear k s
+unfolding clear
+clear-is k s = refl
+
+pub take-none : (h : Handle) (level p i : ℕ) (t : List ℕ) (s : St) {f : Found} → f ≡ lowestFree (s .ledger) → f ≡ Nothing
+    → taken Nothing s ≡ takeTable h level p i t s
+unfolding takeTable takeFound
+take-none h level p i t s e q = ap (takeFound h level p i t s) (sym q ∙ e)
+
+pub take-some : (h : Handle) (level p i : ℕ) (t : List ℕ) (s : St) {f : Found} (j : ℕ) → f ≡ lowestFree (s .ledger) → f ≡ At j
+    → taken (At j) (takeAt h level p i t j s) ≡ takeTable h level p i t s
+unfolding takeTable takeFound
+take-some h level p i t s j e q = ap (takeFound h level p i t s) (sym q ∙ e)
+
+module _ (rec : ℕ → St → St) (h : Handle) (level k i : ℕ) (s : St) {x : Sub} (is : x ≡ subOf (h .base .0) (tables s) level (wordAt s k i)) where
+  chosen : (y : Sub) → x ≡ y → freeSub rec y s ≡ freeSlot rec h level k i s
+  unfolding freeSlot
+  chosen y e = ap (λ (z : Sub). freeSub rec z s) (sym e ∙ is)
+
+  pub slot-table : (j : ℕ) → x ≡ Table j → rec j s ≡ freeSlot rec h level k i s
+  unfolding freeSub
+  slot-table j e = chosen (Table j) e
+
+  pub slot-outside : x ≡ Outside → s ≡ freeSlot rec h level k i s
+  unfolding freeSub
+  slot-outside e = chosen Outside e
+
+  pub slot-leaf : x ≡ Leaf → s ≡ freeSlot rec h level k i s
+  unfolding freeSub
+  slot-leaf e = chosen Leaf e
+
+pub free-down : (level : ℕ) (h : Handle) (k : ℕ) (s : St) → level < 3
+    → clear k (iter (freeSlot (λ j t. freeTree (3 - (level + 1)) h j t) h level k) 512 s) ≡ freeTree (3 - level) h k s
+unfolding freeTree
+free-down level h k s low =
+    let e : suc (3 - (level + 1)) ≡ 3 - level = omega arith in
+    let q : level ≡ 3 - suc (3 - (level + 1)) = omega arith in
+    ap (λ (l : ℕ). clear k (iter (freeSlot (λ j t. freeTree (3 - (level + 1)) h j t) h l k) 512 s)) q ∙ ap (λ (d : ℕ). freeTree d h k s) e
+
+pub free-last : (level : ℕ) (h : Handle) (k : ℕ) (s : St) → 3 ≤ level → clear k s ≡ freeTree (3 - level) h k s
+unfolding freeTree
+free-last level h k s high =
+    let e : 0 ≡ 3 - level = omega arith in
+    ap (λ (d : ℕ). freeTree d h k s) e
+
+-- ---- lists of words
+
+pub length-zeros : length zeros ≡ 512
+unfolding zeros
+length-zeros = length-replicate {A = ℕ} 512 0
+
+pub zeros-at : (i : ℕ) → getD zeros i 0 ≡ 0
+unfolding zeros
+zeros-at i = go (le-or 512 i)
+  where
+    go : (512 ≤ i) ⊎ (i < 512) → getD zeros i 0 ≡ 0
+    go (inl h) = let e = length-replicate {A = ℕ} 512 0 in let past : length (replicate {A = ℕ} 512 0) ≤ i = omega arith in List·getD-eq-default (replicate 512 0) 0 past
+    go (inr h) = getD-replicate 512 i 0 0 h
+
+pub length-rising : (n first step : ℕ) → length (rising n first step) ≡ n
+unfolding rising
+length-rising zero first step = refl
+length-rising (suc n) first step = ap suc (length-rising n (first + step) step)
+
+pub rising-at : (n first step i : ℕ) → i < n → getD (rising n first step) i 0 ≡ first + i * step
+unfolding rising
+rising-at zero first step i h = absurd (omega arith)
+rising-at (suc n) first step zero h = omega arith
+rising-at (suc n) first step (suc i) h = rising-at n (first + step) step i (omega arith) ∙ (let e : first + step + i * step ≡ first + suc i * step = omega (arith, suc-mul i step) in e)
+
+pub length-table : (k : ℕ) (t w : List ℕ) → length t ≡ 512 → 512 * k + 512 ≤ length w → length (putTable k t w) ≡ length w
+unfolding putTable
+length-table k t w e h = length-put (512 * k) t w (omega arith)

@@ -1,0 +1,107 @@
+// One table's words, lent as a part of the pool from its middle; a table taken, freed, and freed with all that hangs from it.
+use crate::Found;
+use crate::Handle;
+use crate::ledger;
+use entry::Sub;
+ghost use mathlib.Core.Path.{_≡_};
+ghost use Prim.Native.Nat.{_+_, _*_, _-_, _≤_, _<_, _^_};
+ghost use lib.ListN.{length, replicate};
+ghost use Rattle.pool.specs.State.{st};
+ghost use Rattle.pool.specs.Refuse.{Shaped};
+ghost use Rattle.pool.specs.Table.{clear, rising, taken, takeTable, freeTree};
+
+// All words 0.
+pub fn zero_words(words: &mut [u64])
+    ensures { λ _. ⌜ now (words .exit) ≡ replicate (length (now (words .entry))) 0 ⌝ }
+{
+    let mut i = 0;
+    while i < words.len() {
+        words[i] = 0;
+        i += 1;
+    }
+}
+
+// All ledger numbers 0.
+pub fn zero_numbers(ledger: &mut [u32])
+    ensures { λ _. ⌜ now (ledger .exit) ≡ replicate (length (now (ledger .entry))) 0 ⌝ }
+{
+    let mut i = 0;
+    while i < ledger.len() {
+        ledger[i] = 0;
+        i += 1;
+    }
+}
+
+// A table's words, from the first on, each one step above the one before.
+pub fn fill(table: &mut [u64], first: u64, step: u64)
+    requires { ⌜ (length (now table) ≡ 512) × (first + 511 * step < 2 ^ 64) ⌝ }
+    ensures { λ _. ⌜ now (table .exit) ≡ rising 512 first step ⌝ }
+{
+    let mut word = first;
+    let mut i = 0;
+    while i < 511 {
+        table[i] = word;
+        word += step;
+        i += 1;
+    }
+    table[511] = word;
+}
+
+// Table k zero, and free.
+pub fn clear_table(words: &mut [u64], ledger: &mut [u32], k: usize)
+    requires { ⌜ (length (now words) ≡ 512 * length (now ledger)) × (k < length (now ledger)) ⌝ }
+    ensures { λ _. ⌜ st (now (words .exit)) (now (ledger .exit)) ≡ clear k (st (now (words .entry)) (now (ledger .entry))) ⌝ }
+{
+    let a = 512 * k;
+    let e = a + 512;
+    zero_words(&mut words[a..e]);
+    ledger[k] = 0;
+}
+
+// The lowest free table for slot i of table p: filled, entered, and only then linked.
+pub fn take_table(
+    words: &mut [u64],
+    ledger: &mut [u32],
+    handle: Handle,
+    level: usize,
+    p: usize,
+    i: usize,
+    first: u64,
+    step: u64,
+) -> Found
+    requires { ⌜ Shaped handle (st (now words) (now ledger)) × (level ≤ 3) × (p < length (now ledger)) × (i < 512) × (first + 511 * step < 2 ^ 64) ⌝ }
+    ensures { λ r. ⌜ taken r (st (now (words .exit)) (now (ledger .exit))) ≡ takeTable handle level p i (rising 512 first step) (st (now (words .entry)) (now (ledger .entry))) ⌝ }
+{
+    let free = ledger::lowest_free(ledger);
+    let Found::At(j) = free else {
+        return Found::Nothing;
+    };
+    let a = 512 * j;
+    let e = a + 512;
+    fill(&mut words[a..e], first, step);
+    ledger[j] = (4 + level + 8 * (512 * p + i + 1)) as u32;
+    words[512 * p + i] = entry::link(handle.base, j);
+    Found::At(j)
+}
+
+// Frees table k, at this level, and every table below it.
+pub fn free(words: &mut [u64], ledger: &mut [u32], handle: Handle, k: usize, level: usize)
+    requires { ⌜ (length (now words) ≡ 512 * length (now ledger)) × (k < length (now ledger)) × (level ≤ 3) ⌝ }
+    ensures { λ _. ⌜ st (now (words .exit)) (now (ledger .exit)) ≡ freeTree (3 - level) handle k (st (now (words .entry)) (now (ledger .entry))) ⌝ }
+{
+    if address::LEAF_LEVEL <= level {
+        clear_table(words, ledger, k);
+        return;
+    }
+    let mut i = 0;
+    while i < 512 {
+        let word = words[512 * k + i];
+        i += 1;
+        let kind = entry::subtable(handle.base, ledger.len(), level, word);
+        let Sub::Table(j) = kind else {
+            continue;
+        };
+        free(words, ledger, handle, j, level + 1);
+    }
+    clear_table(words, ledger, k);
+}

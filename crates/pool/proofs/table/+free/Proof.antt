@@ -1,3 +1,15 @@
+use mathlib.Core.Logic.{⊎-elim}
+use Rattle.entry.proofs.Tags.{no-table}
+use borrow.Author.Needs.{needs}
+use mathlib.Core.Path.{_≡_, refl, sym, ap, _∙_}
+use Prim.Native.Nat.{_+_, _-_, _≤_}
+use native.Mathlib.Omega.{arith}
+use lib.ListN.{length}
+use Rattle.laws.specs.Slot.{iter, iter-none, iter-step}
+use Rattle.entry.specs.Sub.{sub-below}
+use Rattle.pool.specs.State.{St, st}
+use Rattle.pool.specs.declared.Handle.{Handle}
+use Rattle.pool.specs.Table.{clear, freeSlot, freeTree, slot-table, slot-outside, slot-leaf, free-down, free-last}
 use Prim.Native.Nat.{ℕ, _<_}
 use borrow.Fn.Kinds.{In}
 use borrow.Fn.PlainCycle.{Measures, is, falls, and}
@@ -10,7 +22,7 @@ use Rattle.pool.proofs.table.+free.{statement}
 use Rattle.pool.proofs.table.+free.Tie.{close}
 
 abbrev μ-free : Measures 2 free-kinds.ps ℕ
-μ-free κs a = ?
+μ-free κs a = 3 - a .1 .1 .1 .1 .0
 
 abbrev free-at : ℕ → In 2 free-kinds.ps
 free-at t = and 2 free-kinds.ps (is 2 free-kinds.ps μ-free t) free.Pre
@@ -18,263 +30,143 @@ free-at t = and 2 free-kinds.ps (is 2 free-kinds.ps μ-free t) free.Pre
 abbrev free-below : ℕ → In 2 free-kinds.ps
 free-below t = and 2 free-kinds.ps (falls 2 free-kinds.ps _<_ μ-free t) free.Pre
 
+abbrev calls : ℕ → free-lts.Claims
+calls t = (clear-table-reads.Asked, clear-table-reads.Learnt, subtable-reads.Asked, subtable-reads.Learnt, free-below t, free.Post)
+
+-- what the call one level down does
+abbrev below : ℕ → Handle → ℕ → St → St
+below level handle = λ j t. freeTree (3 - (level + 1)) handle j t
+
 abbrev free-Inv-loop : free-lts.InvT-loop
-free-Inv-loop words₀ ledger₀ handle k level i₀ words ledger i = ?
+free-Inv-loop words₀ ledger₀ handle k level i₀ words ledger i = 
+    (i ≤ 512) × (length words ≡ length words₀) × (length ledger ≡ length ledger₀)
+    × (st words ledger ≡ iter (freeSlot (below level handle) handle level k) i (st words₀ ledger₀))
 
 abbrev free-μ-loop : free-lts.MeasureT-loop
-free-μ-loop words₀ ledger₀ handle k level i₀ words ledger i = ?
+free-μ-loop words₀ ledger₀ handle k level i₀ words ledger i = 512 - i
 
 -- src/table.rt:93:9
-free-clear-table-requires : (t : ℕ) → free-lts.Need-clear-table-requires (
-  clear-table-reads.Asked,
-  clear-table-reads.Learnt,
-  subtable-reads.Asked,
-  subtable-reads.Learnt,
-  free-below t,
-  free.Post,
-) (free-at t) free.Post free-Inv-loop free-μ-loop
-free-clear-table-requires t c κs = ?
+free-clear-table-requires : (t : ℕ) → free-lts.Need-clear-table-requires (calls t) (free-at t) free.Post free-Inv-loop free-μ-loop
+free-clear-table-requires t c κs = omega arith
 
 -- src/table.rt:94:9
-free-same-length : (t : ℕ) → free-lts.Need-same-length (
-  clear-table-reads.Asked,
-  clear-table-reads.Learnt,
-  subtable-reads.Asked,
-  subtable-reads.Learnt,
-  free-below t,
-  free.Post,
-) (free-at t) free.Post free-Inv-loop free-μ-loop
-free-same-length t c = ?
+free-same-length : (t : ℕ) → free-lts.Need-same-length (calls t) (free-at t) free.Post free-Inv-loop free-μ-loop
+free-same-length t c = search needs
 
 -- src/table.rt:94:9
-free-same-length-2 : (t : ℕ) → free-lts.Need-same-length-2 (
-  clear-table-reads.Asked,
-  clear-table-reads.Learnt,
-  subtable-reads.Asked,
-  subtable-reads.Learnt,
-  free-below t,
-  free.Post,
-) (free-at t) free.Post free-Inv-loop free-μ-loop
-free-same-length-2 t c = ?
+free-same-length-2 : (t : ℕ) → free-lts.Need-same-length-2 (calls t) (free-at t) free.Post free-Inv-loop free-μ-loop
+free-same-length-2 t c = search needs
 
 -- src/table.rt:94:9
-free-returns : (t : ℕ) → free-lts.Need-returns (
-  clear-table-reads.Asked,
-  clear-table-reads.Learnt,
-  subtable-reads.Asked,
-  subtable-reads.Learnt,
-  free-below t,
-  free.Post,
-) (free-at t) free.Post free-Inv-loop free-μ-loop
-free-returns t c = ?
+free-returns : (t : ℕ) → free-lts.Need-returns (calls t) (free-at t) free.Post free-Inv-loop free-μ-loop
+free-returns t c =
+    let a = c .before .before .before .before .before .before .before .before .before .before .args in
+    c .before .before .before .before .clear-table .ensures ∙ free-last (a .level) (a .handle) (a .k) (st (a .words .now) (a .ledger .now)) (omega arith)
 
 -- src/table.rt:97:5
-free-loop-holds : (t : ℕ) → free-lts.Need-loop-holds (
-  clear-table-reads.Asked,
-  clear-table-reads.Learnt,
-  subtable-reads.Asked,
-  subtable-reads.Learnt,
-  free-below t,
-  free.Post,
-) (free-at t) free.Post free-Inv-loop free-μ-loop
-free-loop-holds t c = ?
+free-loop-holds : (t : ℕ) → free-lts.Need-loop-holds (calls t) (free-at t) free.Post free-Inv-loop free-μ-loop
+free-loop-holds t c = (omega arith, refl, refl, iter-none _ _)
 
 -- src/table.rt:98:26
-free-mul-word : (t : ℕ) → free-lts.Need-mul-word (
-  clear-table-reads.Asked,
-  clear-table-reads.Learnt,
-  subtable-reads.Asked,
-  subtable-reads.Learnt,
-  free-below t,
-  free.Post,
-) (free-at t) free.Post free-Inv-loop free-μ-loop
-free-mul-word t c = ?
+free-mul-word : (t : ℕ) → free-lts.Need-mul-word (calls t) (free-at t) free.Post free-Inv-loop free-μ-loop
+free-mul-word t c = omega arith
 
 -- src/table.rt:98:26
-free-add-word : (t : ℕ) → free-lts.Need-add-word (
-  clear-table-reads.Asked,
-  clear-table-reads.Learnt,
-  subtable-reads.Asked,
-  subtable-reads.Learnt,
-  free-below t,
-  free.Post,
-) (free-at t) free.Post free-Inv-loop free-μ-loop
-free-add-word t c = ?
+free-add-word : (t : ℕ) → free-lts.Need-add-word (calls t) (free-at t) free.Post free-Inv-loop free-μ-loop
+free-add-word t c = omega arith
 
 -- src/table.rt:98:20
-free-mul-word-2 : (t : ℕ) → free-lts.Need-mul-word-2 (
-  clear-table-reads.Asked,
-  clear-table-reads.Learnt,
-  subtable-reads.Asked,
-  subtable-reads.Learnt,
-  free-below t,
-  free.Post,
-) (free-at t) free.Post free-Inv-loop free-μ-loop
-free-mul-word-2 t c = ?
+free-mul-word-2 : (t : ℕ) → free-lts.Need-mul-word-2 (calls t) (free-at t) free.Post free-Inv-loop free-μ-loop
+free-mul-word-2 t c = omega arith
 
 -- src/table.rt:98:20
-free-slice-read-word : (t : ℕ) → free-lts.Need-slice-read-word (
-  clear-table-reads.Asked,
-  clear-table-reads.Learnt,
-  subtable-reads.Asked,
-  subtable-reads.Learnt,
-  free-below t,
-  free.Post,
-) (free-at t) free.Post free-Inv-loop free-μ-loop
-free-slice-read-word t c = ?
+free-slice-read-word : (t : ℕ) → free-lts.Need-slice-read-word (calls t) (free-at t) free.Post free-Inv-loop free-μ-loop
+free-slice-read-word t c = omega arith
 
 -- src/table.rt:99:9
-free-add-i : (t : ℕ) → free-lts.Need-add-i (
-  clear-table-reads.Asked,
-  clear-table-reads.Learnt,
-  subtable-reads.Asked,
-  subtable-reads.Learnt,
-  free-below t,
-  free.Post,
-) (free-at t) free.Post free-Inv-loop free-μ-loop
-free-add-i t c = ?
+free-add-i : (t : ℕ) → free-lts.Need-add-i (calls t) (free-at t) free.Post free-Inv-loop free-μ-loop
+free-add-i t c = omega arith
 
 -- src/table.rt:100:13
-free-subtable-requires : (t : ℕ) → free-lts.Need-subtable-requires (
-  clear-table-reads.Asked,
-  clear-table-reads.Learnt,
-  subtable-reads.Asked,
-  subtable-reads.Learnt,
-  free-below t,
-  free.Post,
-) (free-at t) free.Post free-Inv-loop free-μ-loop
-free-subtable-requires t c κs = ?
+free-subtable-requires : (t : ℕ) → free-lts.Need-subtable-requires (calls t) (free-at t) free.Post free-Inv-loop free-μ-loop
+free-subtable-requires t c κs = search needs
 
 -- src/table.rt:101:24
-free-enum-known-kind : (t : ℕ) → free-lts.Need-enum-known-kind (
-  clear-table-reads.Asked,
-  clear-table-reads.Learnt,
-  subtable-reads.Asked,
-  subtable-reads.Learnt,
-  free-below t,
-  free.Post,
-) (free-at t) free.Post free-Inv-loop free-μ-loop
-free-enum-known-kind t c = ?
+free-enum-known-kind : (t : ℕ) → free-lts.Need-enum-known-kind (calls t) (free-at t) free.Post free-Inv-loop free-μ-loop
+free-enum-known-kind t c = c .match .keys1
 
 -- src/table.rt:97:5
-free-loop-less : (t : ℕ) → free-lts.Need-loop-less (
-  clear-table-reads.Asked,
-  clear-table-reads.Learnt,
-  subtable-reads.Asked,
-  subtable-reads.Learnt,
-  free-below t,
-  free.Post,
-) (free-at t) free.Post free-Inv-loop free-μ-loop
-free-loop-less t c = ?
+free-loop-less : (t : ℕ) → free-lts.Need-loop-less (calls t) (free-at t) free.Post free-Inv-loop free-μ-loop
+free-loop-less t c = omega arith
 
 -- src/table.rt:97:5
-free-loop-again : (t : ℕ) → free-lts.Need-loop-again (
-  clear-table-reads.Asked,
-  clear-table-reads.Learnt,
-  subtable-reads.Asked,
-  subtable-reads.Learnt,
-  free-below t,
-  free.Post,
-) (free-at t) free.Post free-Inv-loop free-μ-loop
-free-loop-again t c = ?
+free-loop-again : (t : ℕ) → free-lts.Need-loop-again (calls t) (free-at t) free.Post free-Inv-loop free-μ-loop
+free-loop-again t c =
+    let at = c .before .before .before .before  in
+    let a = c .before .before .before .before .before .before .before .before .args in
+    let s = st (at .loop .words) (at .loop .ledger) in
+    let sub = c .before .subtable in (
+      omega arith,
+      at .loop .inv .1,
+      at .loop .inv .2,
+      iter-step (freeSlot (below (a .level) (a .handle)) (a .handle) (a .level) (a .k)) (at .loop .i) (st (a .words .now) (a .ledger .now)) (at .loop .inv .3)
+      (⊎-elim (λ e. slot-outside (below (a .level) (a .handle)) (a .handle) (a .level) (a .k) (at .loop .i) s (sub .ensures) e)
+      (λ e. slot-leaf (below (a .level) (a .handle)) (a .handle) (a .level) (a .k) (at .loop .i) s (sub .ensures) e)
+      (no-table (sub .result) (c .match .keys2))),
+    )
 
 -- src/table.rt:104:40
-free-add-free : (t : ℕ) → free-lts.Need-add-free (
-  clear-table-reads.Asked,
-  clear-table-reads.Learnt,
-  subtable-reads.Asked,
-  subtable-reads.Learnt,
-  free-below t,
-  free.Post,
-) (free-at t) free.Post free-Inv-loop free-μ-loop
-free-add-free t c = ?
+free-add-free : (t : ℕ) → free-lts.Need-add-free (calls t) (free-at t) free.Post free-Inv-loop free-μ-loop
+free-add-free t c = omega arith
 
 -- src/table.rt:104:9
-free-free-requires : (t : ℕ) → free-lts.Need-free-requires (
-  clear-table-reads.Asked,
-  clear-table-reads.Learnt,
-  subtable-reads.Asked,
-  subtable-reads.Learnt,
-  free-below t,
-  free.Post,
-) (free-at t) free.Post free-Inv-loop free-μ-loop
-free-free-requires t c κs = ?
+free-free-requires : (t : ℕ) → free-lts.Need-free-requires (calls t) (free-at t) free.Post free-Inv-loop free-μ-loop
+free-free-requires t c κs =
+    let sub = c .before .before .before .before .before .subtable in
+    (omega arith, (omega arith, sub-below _ _ _ _ _ (sym (sub .ensures) ∙ c .before .before .before .kind .given .1), omega arith))
 
 -- src/table.rt:97:5
-free-loop-less-2 : (t : ℕ) → free-lts.Need-loop-less-2 (
-  clear-table-reads.Asked,
-  clear-table-reads.Learnt,
-  subtable-reads.Asked,
-  subtable-reads.Learnt,
-  free-below t,
-  free.Post,
-) (free-at t) free.Post free-Inv-loop free-μ-loop
-free-loop-less-2 t c = ?
+free-loop-less-2 : (t : ℕ) → free-lts.Need-loop-less-2 (calls t) (free-at t) free.Post free-Inv-loop free-μ-loop
+free-loop-less-2 t c = omega arith
 
 -- src/table.rt:97:5
-free-loop-again-2 : (t : ℕ) → free-lts.Need-loop-again-2 (
-  clear-table-reads.Asked,
-  clear-table-reads.Learnt,
-  subtable-reads.Asked,
-  subtable-reads.Learnt,
-  free-below t,
-  free.Post,
-) (free-at t) free.Post free-Inv-loop free-μ-loop
-free-loop-again-2 t c = ?
+free-loop-again-2 : (t : ℕ) → free-lts.Need-loop-again-2 (calls t) (free-at t) free.Post free-Inv-loop free-μ-loop
+free-loop-again-2 t c =
+    let at = c .before .before .before .before .before .before .before .before .before .before .before .before .before  in
+    let a = c .before .before .before .before .before .before .before .before .before .before .before .before .before .before .before .before .before .args in
+    let s = st (at .loop .words) (at .loop .ledger) in
+    let called = c .before .before .before .before  in (
+      omega arith,
+      omega arith,
+      omega arith,
+      iter-step (freeSlot (below (a .level) (a .handle)) (a .handle) (a .level) (a .k)) (at .loop .i) (st (a .words .now) (a .ledger .now)) (at .loop .inv .3)
+      (called .free .ensures ∙ slot-table (below (a .level) (a .handle)) (a .handle) (a .level) (a .k) (at .loop .i) s (c .before .before .before .before .before .before .before .before .before .before .subtable .ensures) _ (c .before .before .before .before .before .before .before .before .kind .given .1)),
+    )
 
 -- src/table.rt:106:5
-free-clear-table-requires-2 : (t : ℕ) → free-lts.Need-clear-table-requires-2 (
-  clear-table-reads.Asked,
-  clear-table-reads.Learnt,
-  subtable-reads.Asked,
-  subtable-reads.Learnt,
-  free-below t,
-  free.Post,
-) (free-at t) free.Post free-Inv-loop free-μ-loop
-free-clear-table-requires-2 t c κs = ?
+free-clear-table-requires-2 : (t : ℕ) → free-lts.Need-clear-table-requires-2 (calls t) (free-at t) free.Post free-Inv-loop free-μ-loop
+free-clear-table-requires-2 t c κs = omega arith
 
 -- src/table.rt:88:1
-free-same-length-3 : (t : ℕ) → free-lts.Need-same-length-3 (
-  clear-table-reads.Asked,
-  clear-table-reads.Learnt,
-  subtable-reads.Asked,
-  subtable-reads.Learnt,
-  free-below t,
-  free.Post,
-) (free-at t) free.Post free-Inv-loop free-μ-loop
-free-same-length-3 t c = ?
+free-same-length-3 : (t : ℕ) → free-lts.Need-same-length-3 (calls t) (free-at t) free.Post free-Inv-loop free-μ-loop
+free-same-length-3 t c = search needs
 
 -- src/table.rt:88:1
-free-same-length-4 : (t : ℕ) → free-lts.Need-same-length-4 (
-  clear-table-reads.Asked,
-  clear-table-reads.Learnt,
-  subtable-reads.Asked,
-  subtable-reads.Learnt,
-  free-below t,
-  free.Post,
-) (free-at t) free.Post free-Inv-loop free-μ-loop
-free-same-length-4 t c = ?
+free-same-length-4 : (t : ℕ) → free-lts.Need-same-length-4 (calls t) (free-at t) free.Post free-Inv-loop free-μ-loop
+free-same-length-4 t c = search needs
 
 -- src/table.rt:88:1
-free-returns-2 : (t : ℕ) → free-lts.Need-returns-2 (
-  clear-table-reads.Asked,
-  clear-table-reads.Learnt,
-  subtable-reads.Asked,
-  subtable-reads.Learnt,
-  free-below t,
-  free.Post,
-) (free-at t) free.Post free-Inv-loop free-μ-loop
-free-returns-2 t c = ?
+free-returns-2 : (t : ℕ) → free-lts.Need-returns-2 (calls t) (free-at t) free.Post free-Inv-loop free-μ-loop
+free-returns-2 t c =
+    let at = c .before .before .before .before .before .before .before .before  in
+    let a = c .before .before .before .before .before .before .before .before .before .before .before .before .args in
+    let all : at .loop .i ≡ 512 = omega arith in
+    c .before .before .before .before .clear-table2 .ensures
+    ∙ ap (clear (a .k)) (rw all at (at .loop .inv .3))
+    ∙ free-down (a .level) (a .handle) (a .k) (st (a .words .now) (a .ledger .now)) (omega arith)
 
 pub +free-spec : {M : Type 1} → statement M
-+free-spec = close μ-free λ t. free-lts.spec (
-  clear-table-reads.Asked,
-  clear-table-reads.Learnt,
-  subtable-reads.Asked,
-  subtable-reads.Learnt,
-  free-below t,
-  free.Post,
-)
++free-spec = close μ-free λ t. free-lts.spec (calls t)
     (free-at t)
     free.Post
     free-Inv-loop

@@ -1,3 +1,16 @@
+use mathlib.Core.List.{List}
+use mathlib.Core.Path.{_≡_, sym, ap, ap₂, _∙_}
+use Prim.Native.Nat.{ℕ, _+_, _*_, _-_}
+use native.Mathlib.Omega.{arith}
+use lib.ListN.{set}
+use borrow.Rule.Slice.PartMut.{putMid}
+use Rattle.entry.specs.Word.{linkOf, link-fits}
+use Rattle.pool.specs.State.{st}
+use Rattle.pool.specs.Refuse.{maxTables}
+use Rattle.pool.specs.Number.{numberOf, Lowest, lowest-found}
+use Rattle.pool.specs.Table.{rising, length-rising, taken, takeAt, take-none, take-some}
+use Rattle.pool.specs.declared.Found.the-variants.{At}
+use Rattle.pool.proofs.Parts.{table-part}
 use borrow.Author.Needs.{needs}
 use Rattle.pool.proofs.table.take_table.Statement.{statement}
 use Rattle.pool.proofs.table.take_table.Tie as tie
@@ -6,6 +19,10 @@ use Rattle.pool.proofs.table.take_table.Lts as lts
 use Rattle.entry.proofs.link.Reads as link-reads
 use Rattle.pool.proofs.ledger.lowest_free.Reads as lowest-free-reads
 use Rattle.pool.proofs.table.fill.Reads as fill-reads
+
+-- the table that was found
+lowest : (c : tie.After-known-told) → Lowest (c .before .before .before .before .before .before .before .args .ledger .now) (c .before .free .given .0 .0)
+lowest c = lowest-found (c .before .before .before .before .before .before .before .args .ledger .now) _ (sym (c .before .before .before .lowest-free .ensures) ∙ c .before .free .given .1)
 
 -- src/table.rt:75:9
 lowest-free-requires : tie.Need-lowest-free-requires
@@ -25,19 +42,21 @@ same-length c = search needs
 
 -- src/table.rt:77:9
 returns : tie.Need-returns
-returns c = ?
+returns c =
+    let a = c .before .before .before .before .before .before .args in
+    take-none (a .handle) (a .level) (a .p) (a .i) (rising 512 (a .first) (a .step)) (st (a .words .now) (a .ledger .now)) (c .before .before .lowest-free .ensures) (c .enum-told .given .1)
 
 -- src/table.rt:79:13
 mul-a : tie.Need-mul-a
-mul-a c = ?
+mul-a c = omega (arith, lowest c .inside)
 
 -- src/table.rt:80:13
 add-e : tie.Need-add-e
-add-e c = ?
+add-e c = omega (arith, lowest c .inside)
 
 -- src/table.rt:81:10
 mul-fill : tie.Need-mul-fill
-mul-fill c = ?
+mul-fill c = omega (arith, lowest c .inside)
 
 -- src/table.rt:81:10
 sub-fill : tie.Need-sub-fill
@@ -49,7 +68,7 @@ part-fill-start c = search needs
 
 -- src/table.rt:81:10
 part-fill-end : tie.Need-part-fill-end
-part-fill-end c = ?
+part-fill-end c = omega (arith, lowest c .inside)
 
 -- src/table.rt:81:5
 fill-requires : tie.Need-fill-requires
@@ -81,15 +100,16 @@ add-ledger-4 c = search needs
 
 -- src/table.rt:82:17
 cast-ledger : tie.Need-cast-ledger
-cast-ledger c = ?
+unfolding maxTables
+cast-ledger c = omega (arith, c .before .before .before .before .before .before .before .before .before .before .before .pre .0 .limit)
 
 -- src/table.rt:82:5
 mul-ledger-3 : tie.Need-mul-ledger-3
-mul-ledger-3 c = ?
+mul-ledger-3 c = let h = lowest (c .before .before .before .before) .inside in omega arith
 
 -- src/table.rt:82:5
 slice-write-ledger : tie.Need-slice-write-ledger
-slice-write-ledger c = ?
+slice-write-ledger c = let h = lowest (c .before .before .before .before) .inside in omega arith
 
 -- src/table.rt:83:26
 link-requires : tie.Need-link-requires
@@ -121,7 +141,19 @@ same-length-3 c = search needs
 
 -- src/table.rt:62:1
 returns-2 : tie.Need-returns-2
-returns-2 c = ?
+unfolding takeAt numberOf
+returns-2 c =
+    let a = c .before .before .before .before .before .before .before .before .before .before .before .before .args in
+    let shape = c .before .before .before .before .before .before .before .before .before .before .before .before .pre .0 in
+    let told = c .before .before .before .before .before  in
+    let j = told .before .free .given .0 .0 in
+    let inside = lowest told .inside in
+    let part = c .before .before .before .fill in
+    let all = rising 512 (a .first) (a .step) in
+    let linked : c .link .result ≡ linkOf (a .handle .base .0) j = c .link .ensures ∙ link-fits (a .handle .base .0) j (shape .paged) (omega (arith, shape .ended)) in
+    let filled = ap (putMid (512 * j) (512 * j + 512 - 512 * j) (a .words .now)) (part .ensures) ∙ table-part j (a .words .now) all (length-rising 512 (a .first) (a .step)) in
+    ap₂ (λ (w : List ℕ) (x : ℕ). taken (At j) (st (set w (512 * a .p + a .i) x) (set (a .ledger .now) j (4 + a .level + 8 * (512 * a .p + a .i + 1))))) filled linked
+    ∙ take-some (a .handle) (a .level) (a .p) (a .i) all (st (a .words .now) (a .ledger .now)) j (told .before .before .before .lowest-free .ensures) (told .before .free .given .1)
 
 pub take-table-spec : {M : Type 1} → statement M
 take-table-spec =

@@ -1,0 +1,2 @@
+-- Laws that proofs of other crates cite.
+pub mod Tags

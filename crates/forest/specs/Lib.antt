@@ -1,1 +1,7 @@
 -- Sound pools are forests: the theory over a codec.
+pub mod Tree
+pub mod Sound
+pub mod Under
+pub mod Hang
+pub mod Frame
+pub mod Keep

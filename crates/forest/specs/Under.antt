@@ -1,0 +1,158 @@
+-- Up the tree by the ledger: which tables lie under which. Since each table has one way up, subtrees are apart for free. Assumes nothing.
+use mathlib.Core.Path.{_≡_, refl, sym, ap, _∙_, subst}
+use mathlib.Core.Logic.{_⊎_, inl, inr, _≢_}
+use Prim.Native.Nat.{ℕ, zero, suc, _+_, _-_, _≤_, _<_}
+use native.Mathlib.Omega.{arith}
+use native.Mathlib.Nat.{add-zero}
+use Rattle.laws.specs.Test.{eq-or}
+use Rattle.forest.specs.Sound.{State, Codec, Used, levelIn, parent, slotIn, IsTable, Hangs, Refers, Sound}
+
+module _ (C : Codec) where
+  -- d steps up from table j
+  unfoldable pub up : State → ℕ → ℕ → ℕ
+  up s zero j = j
+  up s (suc d) j = up s d (parent C s j)
+
+  -- table j lies d levels under table c: the ledger leads from j to c in d steps
+  pub record Under (s : State) (c d j : ℕ) : Type 0 where
+    pub used : Used s j
+    pub deep : levelIn C s j ≡ levelIn C s c + d
+    pub leads : up s d j ≡ c
+
+  -- neither c itself nor under it
+  abbrev pub NotUnder : State → ℕ → ℕ → Type 0
+  NotUnder s c j = (d : ℕ) → ¬ (Under s c d j)
+
+  -- table k has `left` levels below its own
+  abbrev pub LevelsLeft : State → ℕ → ℕ → Type 0
+  LevelsLeft s k left = levelIn C s k + left ≡ 3
+
+module _ (C : Codec) (s : State) where
+  up-suc : (d j : ℕ) → up C s (suc d) j ≡ parent C s (up C s d j)
+  unfolding up
+  up-suc zero j = refl
+  up-suc (suc d) j = up-suc d (parent C s j)
+
+  up-add : (a b j : ℕ) → up C s (a + b) j ≡ up C s b (up C s a j)
+  unfolding up
+  up-add a zero j = ap (λ (d : ℕ). up C s d j) (add-zero a)
+  up-add a (suc b) j =
+      let e : a + suc b ≡ suc (a + b) = omega arith in
+      ap (λ (d : ℕ). up C s d j) e ∙ up-suc (a + b) j ∙ ap (parent C s) (up-add a b j) ∙ sym (up-suc b (up C s a j))
+
+module _ {C : Codec} {s : State} where
+  pub under-self : {c : ℕ} → Used s c → Under C s c 0 c
+  unfolding up
+  under-self {c} used = record { used = used; deep = sym (add-zero (levelIn C s c)); leads = refl }
+
+  pub under-zero : {c j : ℕ} → Under C s c 0 j → j ≡ c
+  unfolding up
+  under-zero un = un .leads
+
+  -- what lies under a table that hangs lies under the table over it
+  pub under-up : {c d j : ℕ} → Hangs C s c → Under C s c d j → Under C s (parent C s c) (suc d) j
+  under-up {c} {d} {j} h un = record {
+    used = un .used;
+    deep = omega (arith, h .below, un .deep);
+    leads = up-suc C s d j ∙ ap (parent C s) (un .leads);
+  }
+
+  pub under-step : {c d j : ℕ} → Used s j → Hangs C s j → Under C s c d (parent C s j) → Under C s c (suc d) j
+  unfolding up
+  under-step used h un = record { used = used; deep = omega (arith, h .below, un .deep); leads = un .leads }
+
+  -- SEPARATION: of one level, only one table is over j
+  pub under-one : {c c′ d d′ j : ℕ} → levelIn C s c ≡ levelIn C s c′ → Under C s c d j → Under C s c′ d′ j → c ≡ c′
+  under-one {c} {c′} {d} {d′} {j} level un un′ =
+      let same : d ≡ d′ = omega (arith, un .deep, un′ .deep) in
+      sym (un .leads) ∙ ap (λ (m : ℕ). up C s m j) same ∙ un′ .leads
+
+  -- what lies deeper than c is no root, so it hangs, from a table under c
+  pub under-back : {c d j : ℕ} → Sound C s → Under C s c (suc d) j → Hangs C s j × Under C s c d (parent C s j)
+  unfolding up
+  under-back {c} {d} {j} S un = go (S .hangs j (un .used))
+    where
+      stays : (m : ℕ) → parent C s j ≡ j → up C s m j ≡ j
+      stays zero e = refl
+      stays (suc m) e = ap (up C s m) e ∙ stays m e
+
+      go : C .Root j (s .ledger j) ⊎ Hangs C s j → Hangs C s j × Under C s c d (parent C s j)
+      go (inl root) =
+          let same : j ≡ c = sym (stays (suc d) (C .root-over j (s .ledger j) root)) ∙ un .leads in
+          absurd (omega (arith, un .deep, ap (levelIn C s) same))
+      go (inr h) = (h, record { used = h .used; deep = omega (arith, un .deep, h .below); leads = un .leads })
+
+  -- of two tables over j the higher is over the lower
+  pub under-chain : {c e x m j : ℕ} → Used s e → Under C s c (m + x) j → Under C s e m j → Under C s c x e
+  under-chain {c} {e} {x} {m} {j} used un un′ = record {
+    used = used;
+    deep = omega (arith, un .deep, un′ .deep);
+    leads = ap (up C s x) (sym (un′ .leads)) ∙ sym (up-add C s m x j) ∙ un .leads;
+  }
+
+  -- ---- the tables that the slots of k refer to
+
+  -- a used table that hangs is referred to at the slot that its number names
+  pub hangs-refers : {c : ℕ} → Used s c → Hangs C s c → Refers C s (parent C s c) (slotIn C s c) c
+  hangs-refers used h = record { says = h .refers; used = used; from = refl; at = refl; hung = h }
+
+  pub refers-level : {k i c : ℕ} → Refers C s k i c → levelIn C s c ≡ suc (levelIn C s k)
+  refers-level r = omega (arith, r .hung .below, ap (levelIn C s) (r .from))
+
+  -- at a table word
+  pub refers-table : {k i c : ℕ} → Refers C s k i c → IsTable C s k i
+  refers-table {c = c} r = (omega (arith, refers-level r, C .level-le (s .ledger c)), rw (r .says) (C .link-table c))
+
+  pub refers-child : {k i c : ℕ} → Refers C s k i c → C .child (s .word k i) ≡ c
+  refers-child {c = c} r = ap (C .child) (r .says) ∙ C .child-link c
+
+  -- what lies under c lies under k; k itself does not lie under c
+  pub refers-under : {k i c d j : ℕ} → Refers C s k i c → Under C s c d j → Under C s k (suc d) j
+  refers-under {d = d} {j = j} r un = subst (λ (k : ℕ). Under C s k (suc d) j) (r .from) (under-up (r .hung) un)
+
+  pub refers-over : {k i c : ℕ} → Refers C s k i c → NotUnder C s c k
+  refers-over r d un = omega (arith, un .deep, refers-level r)
+
+  -- only one slot of k is over j
+  pub refers-one : {k i i′ c c′ d d′ j : ℕ} → Refers C s k i c → Refers C s k i′ c′ → Under C s c d j → Under C s c′ d′ j → i ≡ i′
+  refers-one r r′ un un′ =
+      let same = under-one (omega (arith, refers-level r, refers-level r′)) un un′ in
+      sym (r .at) ∙ ap (slotIn C s) same ∙ r′ .at
+
+module _ (C : Codec) where
+  -- the table over j that a slot of k refers to
+  pub record Via (s : State) (k j : ℕ) : Type 0 where
+    pub slot : ℕ
+    pub top : ℕ
+    pub deep : ℕ
+    pub refers : Refers C s k slot top
+    pub under : Under C s top deep j
+
+module _ {C : Codec} {s : State} where
+  pub under-via : {k d j : ℕ} → Sound C s → Under C s k (suc d) j → Via C s k j
+  under-via {k} {d} {j} S un = go d j un
+    where
+      go : (d j : ℕ) → Under C s k (suc d) j → Via C s k j
+      go zero j un =
+          let back = under-back S un in
+          let r = hangs-refers (un .used) (back .0) in
+          record { slot = slotIn C s j; top = j; deep = 0; refers = subst (λ (k : ℕ). Refers C s k (slotIn C s j) j) (under-zero (back .1)) r; under = under-self (un .used) }
+      go (suc d) j un =
+          let back = under-back S un in
+          let via = go d (parent C s j) (back .1) in
+          record { slot = via .slot; top = via .top; deep = suc (via .deep); refers = via .refers; under = under-step (un .used) (back .0) (via .under) }
+
+  -- does j lie under c? One number of steps is possible, so one comparison decides it.
+  pub under-or : (c j : ℕ) → ((d : ℕ) × Under C s c d j) ⊎ NotUnder C s c j
+  under-or c j = go (eq-or (s .ledger j) 0) (eq-or (levelIn C s c + steps) (levelIn C s j)) (eq-or (up C s steps j) c)
+    where
+      steps : ℕ
+      steps = levelIn C s j - levelIn C s c
+
+      go : (s .ledger j ≡ 0) ⊎ (s .ledger j ≢ 0) → (levelIn C s c + steps ≡ levelIn C s j) ⊎ (levelIn C s c + steps ≢ levelIn C s j)
+          → (up C s steps j ≡ c) ⊎ (up C s steps j ≢ c) → ((d : ℕ) × Under C s c d j) ⊎ NotUnder C s c j
+      go (inl free) level leads = inr (λ d un. omega (arith, un .used, free))
+      go (inr used) (inr apart) leads = inr (λ d un. apart (omega (arith, un .deep)))
+      go (inr used) (inl level) (inl leads) = inl (steps, record { used = omega (arith, used); deep = sym level; leads = leads })
+      go (inr used) (inl level) (inr apart) =
+          inr (λ d un. let same : steps ≡ d = omega (arith, un .deep) in apart (ap (λ (m : ℕ). up C s m j) same ∙ un .leads))

@@ -32,6 +32,12 @@ module _ (C : Codec) where
   abbrev pub Outside : State → State → ℕ → Type 0
   Outside s s′ k = (j : ℕ) → Used s j → NotUnder C s k j → (i : ℕ) → s′ .word j i ≡ s .word j i
 
+module _ {C : Codec} {s : State} where
+  -- a slot that refers to a table shows its tree
+  pub slot-refers : (left : ℕ) {k i c : ℕ} → Refers C s k i c → slotTree C s (suc left) k i ≡ treeOf C s left c
+  slot-refers left {k} {i} r =
+      entry-table (C .child) left (s .word) (s .word k i) (refers-table r .1) ∙ ap (treeAt (C .child) left (s .word)) (refers-child r)
+
 -- ---- the frame lemma
 
 module _ {C : Codec} {s : State} (S : Sound C s) (s′ : State) where

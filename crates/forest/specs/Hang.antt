@@ -5,9 +5,8 @@ use mathlib.Core.List.{List, [], _∷_}
 use mathlib.Core.Logic.{_⊎_, inl, inr, _≢_}
 use Prim.Native.Nat.{ℕ, zero, suc, _+_, _-_, _≤_, _<_}
 use native.Mathlib.Omega.{arith}
-use Rattle.laws.specs.Test.{le-or}
 use Rattle.forest.specs.Sound.{State, Codec, Used, levelIn, parent, slotIn, IsTable, Hangs, Refers, Sound}
-use Rattle.forest.specs.Under.{Under, under-self, under-zero, under-step, under-back, under-chain, hangs-refers, refers-level, refers-table, refers-child}
+use Rattle.forest.specs.Under.{Under, under-self, under-zero, under-step, under-back, under-either, hangs-refers, refers-level, refers-table, refers-child}
 
 module _ (C : Codec) where
   -- table j lies under a root
@@ -87,15 +86,15 @@ module _ {C : Codec} {s : State} where
 
   -- no table lies under two roots, whatever their levels
   pub root-one : {c c′ d d′ j : ℕ} → Sound C s → C .Root c (s .ledger c) → C .Root c′ (s .ledger c′) → Under C s c d j → Under C s c′ d′ j → c ≡ c′
-  root-one {c} {c′} {d} {d′} {j} S root root′ un un′ = go (le-or d d′)
+  root-one {c} {c′} S root root′ un un′ = go (under-either (used c root) (used c′ root′) un un′)
     where
       used : (k : ℕ) → C .Root k (s .ledger k) → Used s k
       used k r = C .root-used k (s .ledger k) r
 
-      deeper : (a b m x : ℕ) → C .Root a (s .ledger a) → Under C s b (m + x) j → Under C s a m j → a ≡ b
-      deeper a b m zero r un un′ = under-zero (under-chain (used a r) un un′)
-      deeper a b m (suc x) r un un′ = absurd (root-not-hung r (under-back S (under-chain (used a r) un un′) .0))
+      top : (a b x : ℕ) → C .Root b (s .ledger b) → Under C s a x b → b ≡ a
+      top a b zero r un = under-zero un
+      top a b (suc x) r un = absurd (root-not-hung r (under-back S un .0))
 
-      go : (d ≤ d′) ⊎ (d′ < d) → c ≡ c′
-      go (inl h) = deeper c c′ d (d′ - d) root (subst (λ (x : ℕ). Under C s c′ x j) (omega arith) un′) un
-      go (inr h) = sym (deeper c′ c d′ (d - d′) root′ (subst (λ (x : ℕ). Under C s c x j) (omega arith) un) un′)
+      go : ((x : ℕ) × Under C s c x c′) ⊎ ((x : ℕ) × Under C s c′ x c) → c ≡ c′
+      go (inl at) = sym (top c c′ (at .0) root′ (at .1))
+      go (inr at) = top c′ c (at .0) root (at .1)

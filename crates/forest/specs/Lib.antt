@@ -5,3 +5,6 @@ pub mod Under
 pub mod Hang
 pub mod Frame
 pub mod Keep
+pub mod Store
+pub mod Split
+pub mod Free

@@ -4,7 +4,7 @@ use mathlib.Core.Logic.{_⊎_, inl, inr, _≢_}
 use Prim.Native.Nat.{ℕ, zero, suc, _+_, _-_, _≤_, _<_}
 use native.Mathlib.Omega.{arith}
 use native.Mathlib.Nat.{add-zero}
-use Rattle.laws.specs.Test.{eq-or}
+use Rattle.laws.specs.Test.{eq-or, le-or}
 use Rattle.forest.specs.Sound.{State, Codec, Used, levelIn, parent, slotIn, IsTable, Hangs, Refers, Sound}
 
 module _ (C : Codec) where
@@ -83,12 +83,28 @@ module _ {C : Codec} {s : State} where
       go (inr h) = (h, record { used = h .used; deep = omega (arith, un .deep, h .below); leads = un .leads })
 
   -- of two tables over j the higher is over the lower
-  pub under-chain : {c e x m j : ℕ} → Used s e → Under C s c (m + x) j → Under C s e m j → Under C s c x e
+  under-chain : {c e x m j : ℕ} → Used s e → Under C s c (m + x) j → Under C s e m j → Under C s c x e
   under-chain {c} {e} {x} {m} {j} used un un′ = record {
     used = used;
     deep = omega (arith, un .deep, un′ .deep);
     leads = ap (up C s x) (sym (un′ .leads)) ∙ sym (up-add C s m x j) ∙ un .leads;
   }
+
+  -- of two tables over j one is over the other
+  pub under-either : {c e d m j : ℕ} → Used s c → Used s e → Under C s c d j → Under C s e m j → ((x : ℕ) × Under C s c x e) ⊎ ((x : ℕ) × Under C s e x c)
+  under-either {c} {e} {d} {m} {j} used used′ un un′ = go (le-or d m)
+    where
+      go : (d ≤ m) ⊎ (m < d) → ((x : ℕ) × Under C s c x e) ⊎ ((x : ℕ) × Under C s e x c)
+      go (inl h) = inr (m - d, under-chain used (subst (λ (x : ℕ). Under C s e x j) (omega arith) un′) un)
+      go (inr h) = inl (d - m, under-chain used′ (subst (λ (x : ℕ). Under C s c x j) (omega arith) un) un′)
+
+  -- SEPARATION: what lies under one of two tables, neither of which is over the other, does not lie under the other
+  pub under-apart : {c e d j : ℕ} → Used s c → Used s e → NotUnder C s c e → NotUnder C s e c → Under C s c d j → NotUnder C s e j
+  under-apart {c} {e} used used′ off off′ un m un′ = go (under-either used used′ un un′)
+    where
+      go : ((x : ℕ) × Under C s c x e) ⊎ ((x : ℕ) × Under C s e x c) → ⊥
+      go (inl at) = off (at .0) (at .1)
+      go (inr at) = off′ (at .0) (at .1)
 
   -- ---- the tables that the slots of k refer to
 
@@ -112,6 +128,11 @@ module _ {C : Codec} {s : State} where
 
   pub refers-over : {k i c : ℕ} → Refers C s k i c → NotUnder C s c k
   refers-over r d un = omega (arith, un .deep, refers-level r)
+
+  -- a table that is neither over k nor under c is not over c
+  pub refers-apart : {k i c a : ℕ} → Sound C s → Refers C s k i c → NotUnder C s a k → NotUnder C s c a → NotUnder C s a c
+  refers-apart {c = c} S r off off′ zero un = off′ 0 (subst (λ (a : ℕ). Under C s c 0 a) (under-zero un) (under-self (r .used)))
+  refers-apart {a = a} S r off off′ (suc d) un = off d (subst (λ (k : ℕ). Under C s a d k) (r .from) (under-back S un .1))
 
   -- only one slot of k is over j
   pub refers-one : {k i i′ c c′ d d′ j : ℕ} → Refers C s k i c → Refers C s k i′ c′ → Under C s c d j → Under C s c′ d′ j → i ≡ i′

@@ -87,7 +87,7 @@ module _ {C : Codec} {s : State} (S : Sound C s) (s′ : State) where
       (put-node i rest t at (λ i′ other. change-slot left ch used low other))
 
   -- a change at a slot of k is one in table k and under it; a change in a table and under it is one at the slot that it hangs in
-  change-outside : {k i : ℕ} → Used s k → Change C s s′ k i → Outside C s s′ k
+  pub change-outside : {k i : ℕ} → Used s k → Change C s s′ k i → Outside C s s′ k
   change-outside used ch j used′ off = ch .others j used′ (λ same. off 0 (rw same (under-self used))) (λ c d r un. off (suc d) (refers-under r un))
 
   outside-change : {p : ℕ} → Used s p → Hangs C s p → Outside C s s′ p → Change C s s′ (parent C s p) (slotIn C s p)

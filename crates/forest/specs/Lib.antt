@@ -8,3 +8,4 @@ pub mod Keep
 pub mod Store
 pub mod Split
 pub mod Free
+pub mod Place

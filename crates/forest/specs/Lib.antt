@@ -9,3 +9,4 @@ pub mod Store
 pub mod Split
 pub mod Free
 pub mod Place
+pub mod Move

@@ -4,9 +4,9 @@ use mathlib.Core.Path.{_≡_, refl, ap, _∙_, fun-ext}
 use mathlib.Core.Bool.{true, false, cond}
 use mathlib.Core.List.{List, [], _∷_}
 use mathlib.Core.Logic.{_⊎_, inl, inr, _≢_}
-use Prim.Native.Nat.{ℕ, zero, suc, _%_}
-use lib.Dec.{eqb}
-use Rattle.laws.specs.Test.{eqb-cases}
+use Prim.Native.Nat.{ℕ, zero, suc, _%_, _≤_, _<_}
+use lib.Dec.{T, eqb, ltb, ltb→lt, nltb→le}
+use Rattle.laws.specs.Test.{byBool, eqb-cases}
 
 -- A leaf holds its word; a node, which is a table, holds a tree for each slot. Slots from 512 on read as `leaf 0`, so two trees are equal
 -- when their slots are.
@@ -38,6 +38,18 @@ put-node {f} {g} i path t here others = node-ext (λ j. go j (eqb-cases j i))
     go : (j : ℕ) → ((j ≡ i) × (eqb j i ≡ true)) ⊎ ((j ≢ i) × (eqb j i ≡ false)) → g j ≡ cond (eqb j i) (put path t (f j)) (f j)
     go j (inl e) = rw (e .1) (rw (e .0) here)
     go j (inr e) = rw (e .1) (others j (e .0))
+
+-- ---- something done to each slot of a table
+
+unfoldable pub eachSlot : (ℕ → Tree → Tree) → Tree → Tree
+eachSlot h (leaf w) = leaf w
+eachSlot h (node f) = node (λ i. cond (ltb i 512) (h i (f i)) (f i))
+
+pub each-slot : {f g : ℕ → Tree} (h : ℕ → Tree → Tree) → ((i : ℕ) → i < 512 → g i ≡ h i (f i)) → ((i : ℕ) → 512 ≤ i → g i ≡ f i)
+    → node g ≡ eachSlot h (node f)
+unfolding eachSlot
+each-slot {f} {g} h low high =
+    node-ext (λ i. byBool (ltb i 512) (λ e. rw e (low i (ltb→lt i 512 (rw e tt)))) (λ e. rw e (high i (nltb→le i 512 (rw e tt)))))
 
 -- ---- the tree that the words show: `w k i` is the word in slot i of table k, `child x` the table that a table word x names
 

@@ -10,3 +10,7 @@ pub mod Split
 pub mod Free
 pub mod Place
 pub mod Move
+pub mod Walk
+pub mod Nodes
+pub mod Compact
+pub mod Make

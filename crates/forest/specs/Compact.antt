@@ -3,9 +3,9 @@
 use mathlib.Core.Path.{_≡_, refl, sym, ap, _∙_}
 use mathlib.Core.Bool.{Bool, true, false, cond, _&&_}
 use mathlib.Core.Logic.{_⊎_, inl, inr, _≢_}
-use Prim.Native.Nat.{ℕ, zero, suc, _+_, _%_, _≤_, _<_}
+use Prim.Native.Nat.{ℕ, zero, suc, _%_, _≤_, _<_}
 use native.Mathlib.Omega.{arith}
-use lib.Dec.{T, eqb, eqb→eq}
+use lib.Dec.{eqb, eqb→eq}
 use Rattle.laws.specs.Test.{eq-or, le-or, allBelow, all-to, is-false}
 use Rattle.forest.specs.Tree.{Tree, leaf, node, eachSlot, treeAt, entry, entry-low, entry-table, entry-leaf}
 use Rattle.forest.specs.Sound.{State, Codec, Used, IsTable, Refers, Sound}
@@ -90,7 +90,7 @@ module _ {C : Codec} {s : State} (S : Sound C s) (rec : Tree → Tree) (left : �
     -- it is: it is cleared, and its slot zeroed
     pub compact-drop : {s″ : State} → i < 512 → LevelsLeft C s k (suc left) → emptyWords (s′ .word c) ≡ true → Clears s′ s″ k i c 0
         → Move C s s″ (suc left) k i (squash rec (slotTree C s (suc left) k i))
-    compact-drop inside low test cl =
+    compact-drop inside low test clears =
         let zeros = empty-words (work .over .sound) c test in
-        let move = move-clear S left used inside low (zero-fits C (s .ledger k)) r work zeros cl in
+        let move = move-clear S left used inside low (zero-fits C (s .ledger k)) r work zeros clears in
         record { at = move .at; tree = move .tree ∙ sym (squashed test) }

@@ -1,14 +1,14 @@
 -- What a change of words does to trees. The frame lemma: a tree depends only on the tables under it. Grafting: a change at one slot puts the slot's
 -- new tree into every tree over it, and all else stays. Assumes nothing.
-use mathlib.Core.Path.{_≡_, refl, sym, ap, _∙_, subst}
+use mathlib.Core.Path.{_≡_, sym, ap, _∙_}
 use mathlib.Core.List.{List, [], _∷_}
 use mathlib.Core.Logic.{_⊎_, inl, inr, _≢_}
-use Prim.Native.Nat.{ℕ, zero, suc, _+_, _-_, _%_, _≤_, _<_}
+use Prim.Native.Nat.{ℕ, zero, suc, _%_}
 use native.Mathlib.Omega.{arith}
 use Rattle.laws.specs.Test.{eq-or}
-use Rattle.forest.specs.Tree.{Tree, leaf, node, node-ext, put, put-here, put-node, treeAt, entry, treeAt-node, entry-low, entry-table, entry-leaf}
-use Rattle.forest.specs.Sound.{State, Codec, Used, levelIn, parent, slotIn, IsTable, Hangs, Refers, Sound}
-use Rattle.forest.specs.Under.{Under, NotUnder, LevelsLeft, under-self, under-zero, under-up, under-back, hangs-refers, refers-level, refers-under, refers-table, refers-child, refers-over, refers-one}
+use Rattle.forest.specs.Tree.{Tree, leaf, node-ext, put, put-here, put-node, treeAt, entry, treeAt-node, entry-low, entry-table, entry-leaf}
+use Rattle.forest.specs.Sound.{State, Codec, Used, levelIn, parent, slotIn, Hangs, Refers, Sound}
+use Rattle.forest.specs.Under.{Under, NotUnder, LevelsLeft, under-self, under-zero, under-back, hangs-refers, refers-level, refers-under, refers-table, refers-child, refers-over, refers-one}
 use Rattle.forest.specs.Hang.{path}
 
 module _ (C : Codec) where
@@ -68,32 +68,32 @@ module _ {C : Codec} {s : State} (S : Sound C s) (s′ : State) where
       tree-same 0 c (λ i. slot-same 0 c i used low (same 0 c (under-self used) i) (λ e l r low′. absurd (omega (arith, low, low′, refers-level r))))
   frame (suc left) c used low same = tree-same (suc left) c (λ i. slot-same (suc left) c i used low (same 0 c (under-self used) i) (λ e l r low′.
       let at : l ≡ left = omega (arith, low, low′, refers-level r) in
-      rw at (frame left e (r .used) (omega (arith, low, refers-level r)) (λ d j un. same (suc d) j (refers-under r un)))))
+      rw at (frame left e (r .used) (omega (arith, low, refers-level r)) (λ d j under. same (suc d) j (refers-under r under)))))
 
   -- ---- a change at one slot
 
   -- the trees of the other slots stay
   pub change-slot : (left : ℕ) {k i i′ : ℕ} → Change C s s′ k i → Used s k → LevelsLeft C s k left → i′ ≢ i
       → slotTree C s′ left k i′ ≡ slotTree C s left k i′
-  change-slot left {k} {i} {i′} ch used low other = slot-same left k i′ used low (ch .slots i′ other) (λ e l r low′.
-      frame l e (r .used) low′ (λ d j un.
-      ch .others j (un .used) (λ same. refers-over r d (rw (← same) un)) (λ e′ d′ r′ un′. other (refers-one r r′ un un′))))
+  change-slot left {k} {i} {i′} change used low other = slot-same left k i′ used low (change .slots i′ other) (λ e l r low′.
+      frame l e (r .used) low′ (λ d j under.
+      change .others j (under .used) (λ same. refers-over r d (rw (← same) under)) (λ e′ d′ r′ under′. other (refers-one r r′ under under′))))
 
   -- what is put into the tree of slot i is put into the tree of its table
   change-table : (left : ℕ) {k i : ℕ} (rest : List ℕ) (t : Tree) → Change C s s′ k i → Used s k → LevelsLeft C s k left
       → slotTree C s′ left k i ≡ put rest t (slotTree C s left k i) → treeOf C s′ left k ≡ put (i ∷ rest) t (treeOf C s left k)
-  change-table left {k} {i} rest t ch used low at =
+  change-table left {k} {i} rest t change used low at =
       rw (treeAt-node (C .child) left (s′ .word) k, treeAt-node (C .child) left (s .word) k)
-      (put-node i rest t at (λ i′ other. change-slot left ch used low other))
+      (put-node i rest t at (λ i′ other. change-slot left change used low other))
 
   -- a change at a slot of k is one in table k and under it; a change in a table and under it is one at the slot that it hangs in
   pub change-outside : {k i : ℕ} → Used s k → Change C s s′ k i → Outside C s s′ k
-  change-outside used ch j used′ off = ch .others j used′ (λ same. off 0 (rw same (under-self used))) (λ c d r un. off (suc d) (refers-under r un))
+  change-outside used change j used′ off = change .others j used′ (λ same. off 0 (rw same (under-self used))) (λ c d r under. off (suc d) (refers-under r under))
 
   outside-change : {p : ℕ} → Used s p → Hangs C s p → Outside C s s′ p → Change C s s′ (parent C s p) (slotIn C s p)
   outside-change {p} used h out = record {
     slots = λ i other. out (parent C s p) (h .used) (refers-over (hangs-refers used h)) i;
-    others = λ j used′ ne off. out j used′ (λ d un. off p d (hangs-refers used h) un);
+    others = λ j used′ ne off. out j used′ (λ d under. off p d (hangs-refers used h) under);
   }
 
   -- one step up: the tree of a table stands in the slot that the table hangs in
@@ -112,27 +112,31 @@ module _ {C : Codec} {s : State} (S : Sound C s) (s′ : State) where
       here : slotTree C s′ (suc left) (parent C s p) (slotIn C s p) ≡ put rest t (slotTree C s (suc left) (parent C s p) (slotIn C s p))
       here =
           let table = refers-table r .1 in
-          rw (out (parent C s p) (h .used) (refers-over r) (slotIn C s p), entry-table (C .child) left (s′ .word) x table, entry-table (C .child) left (s .word) x table,
-          refers-child r) at
+          rw (
+            out (parent C s p) (h .used) (refers-over r) (slotIn C s p),
+            entry-table (C .child) left (s′ .word) x table,
+            entry-table (C .child) left (s .word) x table,
+            refers-child r,
+          ) at
 
   -- GRAFT: what is put into the tree of p is put into every tree over p
   graft : (d left p c all : ℕ) (rest : List ℕ) (t : Tree) → Under C s c d p → LevelsLeft C s p left → LevelsLeft C s c all → Outside C s s′ p
       → treeOf C s′ left p ≡ put rest t (treeOf C s left p) → treeOf C s′ all c ≡ put (path C s d p rest) t (treeOf C s all c)
   unfolding path
-  graft zero left p c all rest t un low low′ out at =
-      let same : p ≡ c = under-zero un in
+  graft zero left p c all rest t under low low′ out at =
+      let same : p ≡ c = under-zero under in
       let flat : left ≡ all = omega (arith, low, low′, ap (levelIn C s) same) in
       rw (← same, ← flat) at
-  graft (suc d) left p c all rest t un low low′ out at =
-      let back = under-back S un in
+  graft (suc d) left p c all rest t under low low′ out at =
+      let back = under-back S under in
       let h = back .0 in
       graft d (suc left) (parent C s p) c all (slotIn C s p ∷ rest) t (back .1) (omega (arith, low, h .below)) low′
-      (change-outside (h .used) (outside-change (un .used) h out)) (climb left p rest t (un .used) h low out at)
+      (change-outside (h .used) (outside-change (under .used) h out)) (climb left p rest t (under .used) h low out at)
 
   -- EFFECT: every tree over the slot has the slot's new tree put in, and is otherwise as before
   pub change-over : (left all : ℕ) {p i c d : ℕ} → Change C s s′ p i → Under C s c d p → LevelsLeft C s p left → LevelsLeft C s c all
       → treeOf C s′ all c ≡ put (path C s d p (i ∷ [])) (slotTree C s′ left p i) (treeOf C s all c)
-  change-over left all {p} {i} {c} {d} ch un low low′ =
+  change-over left all {p} {i} {c} {d} change under low low′ =
       let t = slotTree C s′ left p i in
-      graft d left p c all (i ∷ []) t un low low′ (change-outside (un .used) ch)
-      (change-table left [] t ch (un .used) low (sym (put-here t (slotTree C s left p i))))
+      graft d left p c all (i ∷ []) t under low low′ (change-outside (under .used) change)
+      (change-table left [] t change (under .used) low (sym (put-here t (slotTree C s left p i))))

@@ -3,10 +3,11 @@
 use mathlib.Core.Path.{_≡_, refl, sym, ap, _∙_, subst}
 use mathlib.Core.List.{List, [], _∷_}
 use mathlib.Core.Logic.{_⊎_, inl, inr, _≢_}
-use Prim.Native.Nat.{ℕ, zero, suc, _+_, _-_, _≤_, _<_}
+use Prim.Native.Nat.{ℕ, zero, suc}
 use native.Mathlib.Omega.{arith}
+use Rattle.laws.specs.Test.{eq-or}
 use Rattle.forest.specs.Sound.{State, Codec, Used, levelIn, parent, slotIn, IsTable, Hangs, Refers, Sound}
-use Rattle.forest.specs.Under.{Under, under-self, under-zero, under-step, under-back, under-either, hangs-refers, refers-level, refers-table, refers-child}
+use Rattle.forest.specs.Under.{Under, under-self, under-zero, under-step, under-back, under-either, hangs-refers, refers-table, refers-child}
 
 module _ (C : Codec) where
   -- table j lies under a root
@@ -54,13 +55,13 @@ module _ {C : Codec} {s : State} where
 
   pub reached : {c d j : ℕ} → Sound C s → Under C s c d j → Reaches C s c (path C s d j []) j
   unfolding path
-  reached {c} {d} {j} S un = go d j [] j un here
+  reached {c} {d} {j} S under = go d j [] j under here
     where
       go : (d j : ℕ) (rest : List ℕ) (t : ℕ) → Under C s c d j → Reaches C s j rest t → Reaches C s c (path C s d j rest) t
-      go zero j rest t un to = subst (λ (k : ℕ). Reaches C s k rest t) (under-zero un) to
-      go (suc d) j rest t un to =
-          let back = under-back S un in
-          go d (parent C s j) (slotIn C s j ∷ rest) t (back .1) (down (refers-points (back .0 .used) (hangs-refers (un .used) (back .0))) to)
+      go zero j rest t under to = subst (λ (k : ℕ). Reaches C s k rest t) (under-zero under) to
+      go (suc d) j rest t under to =
+          let back = under-back S under in
+          go d (parent C s j) (slotIn C s j ∷ rest) t (back .1) (down (refers-points (back .0 .used) (hangs-refers (under .used) (back .0))) to)
 
   -- ---- exactly one slot of a used table refers to it
 
@@ -85,16 +86,26 @@ module _ {C : Codec} {s : State} where
   free-unreferred S free at = omega (arith, free, once S at .used)
 
   -- no table lies under two roots, whatever their levels
-  pub root-one : {c c′ d d′ j : ℕ} → Sound C s → C .Root c (s .ledger c) → C .Root c′ (s .ledger c′) → Under C s c d j → Under C s c′ d′ j → c ≡ c′
-  root-one {c} {c′} S root root′ un un′ = go (under-either (used c root) (used c′ root′) un un′)
+  pub root-one : {c c′ d d′ j : ℕ} → Sound C s → C .Root c (s .ledger c) → C .Root c′ (s .ledger c′)
+      → Under C s c d j → Under C s c′ d′ j → c ≡ c′
+  root-one {c} {c′} S root root′ under under′ = go (under-either (used c root) (used c′ root′) under under′)
     where
       used : (k : ℕ) → C .Root k (s .ledger k) → Used s k
       used k r = C .root-used k (s .ledger k) r
 
       top : (a b x : ℕ) → C .Root b (s .ledger b) → Under C s a x b → b ≡ a
-      top a b zero r un = under-zero un
-      top a b (suc x) r un = absurd (root-not-hung r (under-back S un .0))
+      top a b zero r under = under-zero under
+      top a b (suc x) r under = absurd (root-not-hung r (under-back S under .0))
 
       go : ((x : ℕ) × Under C s c x c′) ⊎ ((x : ℕ) × Under C s c′ x c) → c ≡ c′
       go (inl at) = sym (top c c′ (at .0) root′ (at .1))
       go (inr at) = top c′ c (at .0) root (at .1)
+
+-- the used tables say all: two sound pools that agree on the ledger and on the words of used tables agree on every word
+pub used-words : {C : Codec} {s s′ : State} → Sound C s → Sound C s′ → ((k : ℕ) → s′ .ledger k ≡ s .ledger k)
+    → ((k i : ℕ) → Used s k → s′ .word k i ≡ s .word k i) → (k i : ℕ) → s′ .word k i ≡ s .word k i
+used-words {C} {s} {s′} S S′ ledger words k i = go (eq-or (s .ledger k) 0)
+  where
+    go : (s .ledger k ≡ 0) ⊎ (s .ledger k ≢ 0) → s′ .word k i ≡ s .word k i
+    go (inl free) = S′ .free k i (ledger k ∙ free) ∙ sym (S .free k i free)
+    go (inr used) = words k i (omega (arith, used))

@@ -1,12 +1,12 @@
 -- Making a pool (document 01, "Pool and ledger"): all words zero, and in the ledger the roots alone. It is sound, and its trees are empty.
 -- Assumes nothing.
-use mathlib.Core.Path.{_≡_, refl, sym, ap, _∙_, subst⁻¹}
-use mathlib.Core.Logic.{_⊎_, inl, inr, _≢_}
-use Prim.Native.Nat.{ℕ, zero, suc, _+_, _%_, _≤_, _<_}
+use mathlib.Core.Path.{_≡_, _∙_, subst⁻¹}
+use mathlib.Core.Logic.{inl}
+use Prim.Native.Nat.{ℕ}
 use native.Mathlib.Omega.{arith}
-use Rattle.forest.specs.Tree.{Tree, leaf, node, node-ext, treeAt-node, entry-leaf}
+use Rattle.forest.specs.Tree.{leaf, node, node-ext, treeAt-node, entry-leaf}
 use Rattle.forest.specs.Sound.{State, Codec, Used, Sound}
-use Rattle.forest.specs.Frame.{treeOf, slotTree}
+use Rattle.forest.specs.Frame.{treeOf}
 
 module _ (C : Codec) where
   pub record Made (s : State) : Type 0 where

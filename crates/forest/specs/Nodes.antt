@@ -1,8 +1,8 @@
 -- As many tables are in use as the trees have nodes. Assumes nothing.
-use mathlib.Core.Path.{_≡_, refl, sym, ap, _∙_, subst}
-use mathlib.Core.Bool.{Bool, true, false, cond}
+use mathlib.Core.Path.{_≡_, refl, sym, ap, _∙_}
+use mathlib.Core.Bool.{true, false, cond}
 use mathlib.Core.Logic.{_⊎_, inl, inr, _≢_}
-use Prim.Native.Nat.{ℕ, zero, suc, _+_, _-_, _%_, _≤_, _<_}
+use Prim.Native.Nat.{ℕ, zero, suc, _+_, _%_, _<_}
 use native.Mathlib.Omega.{arith}
 use lib.Dec.{eqb}
 use Rattle.laws.specs.Test.{eq-or, eqb-cases}
@@ -56,7 +56,7 @@ module _ (C : Codec) (s : State) where
 
   pub lies-yes : (c d j : ℕ) → Under C s c d j → lies c j ≡ 1
   unfolding lies
-  lies-yes c d j un = tally-yes (under-or {C = C} {s = s} c j) (λ off. off d un)
+  lies-yes c d j under = tally-yes (under-or {C = C} {s = s} c j) (λ off. off d under)
 
   pub lies-no : (c j : ℕ) → NotUnder C s c j → lies c j ≡ 0
   unfolding lies
@@ -88,29 +88,29 @@ module _ {C : Codec} {s : State} (S : Sound C s) where
         none off = sum-none 512 (λ i. inSlot C s c i j) (λ i l. slot-no i j (off i))
 
         at : (d : ℕ) → Under C s c d j → lies C s c j ≡ is c j + sum 512 (λ i. inSlot C s c i j)
-        at zero un =
-            let e : j ≡ c = under-zero un in
-            let a = lies-yes C s c 0 j un in
+        at zero under =
+            let e : j ≡ c = under-zero under in
+            let a = lies-yes C s c 0 j under in
             let b = is-yes c j e in
-            let z = none (λ i k r d un′. refers-over r d (rw (← e) un′)) in
+            let z = none (λ i k r d under′. refers-over r d (rw (← e) under′)) in
             omega arith
-        at (suc d) un =
-            let via = under-via S un in
+        at (suc d) under =
+            let via = under-via S under in
             let r = via .refers in
-            let a = lies-yes C s c (suc d) j un in
-            let b = is-no c j (λ e. omega (arith, un .deep, ap (levelIn C s) e)) in
+            let a = lies-yes C s c (suc d) j under in
+            let b = is-no c j (λ e. omega (arith, under .deep, ap (levelIn C s) e)) in
             let inside : via .slot < 512 = rw (← r .at) (C .slot-lt (s .ledger (via .top))) in
             let z = sum-one 512 (λ i. inSlot C s c i j) (via .slot) inside
             (slot-yes C s c (via .slot) (via .top) j r ∙ lies-yes C s (via .top) (via .deep) j (via .under))
-            (λ i ne. slot-no i j (λ e r′ d′ un′. ne (refers-one r′ r un′ (via .under)))) in
+            (λ i ne. slot-no i j (λ e r′ d′ under′. ne (refers-one r′ r under′ (via .under)))) in
             omega arith
 
         go : ((d : ℕ) × Under C s c d j) ⊎ NotUnder C s c j → lies C s c j ≡ is c j + sum 512 (λ i. inSlot C s c i j)
-        go (inl un) = at (un .0) (un .1)
+        go (inl under) = at (under .0) (under .1)
         go (inr off) =
             let a = lies-no C s c j off in
             let b = is-no c j (λ e. off 0 (rw e (under-self used))) in
-            let z = none (λ i e r d un. off (suc d) (refers-under r un)) in
+            let z = none (λ i e r d under. off (suc d) (refers-under r under)) in
             omega arith
 
   -- ---- all tables are among the first n
@@ -128,11 +128,11 @@ module _ {C : Codec} {s : State} (S : Sound C s) where
         ∙ ap suc (sum-none 512 (λ i. nodes (slotTree C s 0 c i)) (λ i l. ap nodes (entry-low (C .child) (s .word) (s .word c i)))))
       where
         at : (j d : ℕ) → Under C s c d j → lies C s c j ≡ is c j
-        at j zero un = lies-yes C s c 0 j un ∙ sym (is-yes c j (under-zero un))
-        at j (suc d) un = absurd (omega (arith, un .deep, low, C .level-le (s .ledger j)))
+        at j zero under = lies-yes C s c 0 j under ∙ sym (is-yes c j (under-zero under))
+        at j (suc d) under = absurd (omega (arith, under .deep, low, C .level-le (s .ledger j)))
 
         only : (j : ℕ) → ((d : ℕ) × Under C s c d j) ⊎ NotUnder C s c j → lies C s c j ≡ is c j
-        only j (inl un) = at j (un .0) (un .1)
+        only j (inl under) = at j (under .0) (under .1)
         only j (inr off) = lies-no C s c j off ∙ sym (is-no c j (λ e. off 0 (rw e (under-self used))))
     under-nodes (suc left) c used low =
         let a = sum-ext n (lies C s c) (λ j. is c j + sum 512 (λ i. inSlot C s c i j)) (λ j l. parts c used high j) in
@@ -166,7 +166,7 @@ module _ {C : Codec} {s : State} (S : Sound C s) where
       where
         at : (k : ℕ) → ((s .ledger k ≡ 0) × (eqb (s .ledger k) 0 ≡ true)) ⊎ ((s .ledger k ≢ 0) × (eqb (s .ledger k) 0 ≡ false))
             → cond (eqb (s .ledger k) 0) 0 1 ≡ lies C s root k
-        at k (inl t) = rw (t .1) (sym (lies-no C s root k (λ d un. omega (arith, un .used, t .0))))
+        at k (inl t) = rw (t .1) (sym (lies-no C s root k (λ d under. omega (arith, under .used, t .0))))
         at k (inr t) =
             let g = grounded {C = C} {s = s} {j = k} S (omega (arith, t .0)) in
             rw (t .1) (sym (lies-yes C s root (g .deep) k (rw (← single (g .root) (g .isRoot)) (g .under))))

@@ -1,12 +1,12 @@
 -- Where a state differs from another, so that steps compose. `At s s′ k i`: s′ is sound and differs only in slot i of table k and under it.
 -- `Over s s′ k`: only in table k and under it. Assumes nothing.
-use mathlib.Core.Path.{_≡_, refl, sym, ap, _∙_, subst, subst₂}
+use mathlib.Core.Path.{_≡_, refl, _∙_, subst₂}
 use mathlib.Core.Logic.{_⊎_, inl, inr, _≢_}
-use Prim.Native.Nat.{ℕ, zero, suc, _+_, _≤_, _<_}
+use Prim.Native.Nat.{ℕ, zero, suc}
 use native.Mathlib.Omega.{arith}
-use Rattle.forest.specs.Sound.{State, Codec, Used, levelIn, parent, slotIn, Hangs, Refers, Sound}
+use Rattle.forest.specs.Sound.{State, Codec, Used, parent, slotIn, Hangs, Refers, Sound}
 use Rattle.forest.specs.Under.{Under, NotUnder, LevelsLeft, under-self, under-zero, under-step, under-back, under-apart, hangs-refers, refers-under, refers-over}
-use Rattle.forest.specs.Hang.{root-not-hung}
+use Rattle.forest.specs.Hang.{root-not-hung, root-one}
 use Rattle.forest.specs.Frame.{treeOf, NotUnderSlot, Change, Outside, change-outside, frame}
 use Rattle.forest.specs.Keep.{refers-keep}
 
@@ -28,13 +28,13 @@ module _ (C : Codec) where
 module _ {C : Codec} {s : State} where
   -- table k itself keeps its number
   pub slot-self : {k i : ℕ} → NotUnderSlot C s k i k
-  slot-self c d r un = refers-over r d un
+  slot-self c d r under = refers-over r d under
 
   pub below-self : {k : ℕ} → NotBelow C s k k
-  below-self d un = omega (arith, un .deep)
+  below-self d under = omega (arith, under .deep)
 
   below-slot : {k i j : ℕ} → NotBelow C s k j → NotUnderSlot C s k i j
-  below-slot off c d r un = off d (refers-under r un)
+  below-slot off c d r under = off d (refers-under r under)
 
 -- ---- the way up from a kept table is kept
 
@@ -54,12 +54,12 @@ module _ {C : Codec} {s s′ : State} (S : Sound C s) (S′ : Sound C s′) (Kep
     kept : Kept c
 
   before : (c d j : ℕ) → Used s j → Kept j → Under C s′ c d j → Before c d j
-  before c zero j used kept un =
-      let e : j ≡ c = under-zero un in
+  before c zero j used kept under =
+      let e : j ≡ c = under-zero under in
       let used′ : Used s c = rw (← e) used in
       record { under = rw e (under-self used′); used = used′; kept = rw (← e) kept }
-  before c (suc d) j used kept un =
-      let back = under-back S′ un in
+  before c (suc d) j used kept under =
+      let back = under-back S′ under in
       let h = hangs-before j used kept (back .0) in
       let e : parent C s′ j ≡ parent C s j = rw (same j used kept, parent) refl in
       let b = before c d (parent C s j) (h .used) (closed j used kept h) (rw (← e) (back .1)) in
@@ -70,21 +70,21 @@ module _ {C : Codec} {s s′ : State} (S : Sound C s) (S′ : Sound C s′) (Kep
 module _ {C : Codec} {s s′ : State} (S : Sound C s) where
   -- what is not under the slot before is not under it after, and is still in use
   at-slot : {k i j : ℕ} → At C s s′ k i → Used s j → NotUnderSlot C s k i j → NotUnderSlot C s′ k i j
-  at-slot {k} {i} {j} a used off c d r un =
-      let b = before S (a .sound) (NotUnderSlot C s k i) closed (a .ledger) c d j used off un in
+  at-slot {k} {i} {j} a used off c d r under =
+      let b = before S (a .sound) (NotUnderSlot C s k i) closed (a .ledger) c d j used off under in
       let own = a .ledger c (b .used) (b .kept) in
       let h = hangs-before S (a .sound) (NotUnderSlot C s k i) closed (a .ledger) c (b .used) (b .kept) (r .hung) in
       let r′ = subst₂ (λ (k i : ℕ). Refers C s k i c) (rw (own, parent) at (r .from)) (rw (own, slotIn) at (r .at)) (hangs-refers (b .used) h) in
       b .kept c 0 r′ (under-self (b .used))
     where
       closed : (j : ℕ) → Used s j → NotUnderSlot C s k i j → Hangs C s j → NotUnderSlot C s k i (parent C s j)
-      closed j used off h c d r un = off c (suc d) r (under-step used h un)
+      closed j used off h c d r under = off c (suc d) r (under-step used h under)
 
   over-before : {k d j : ℕ} → Over C s s′ k → Used s j → NotBelow C s k j → Under C s′ k d j → Under C s k d j
-  over-before {k} {d} {j} o used off un = before S (o .sound) (NotBelow C s k) closed (o .ledger) k d j used off un .under
+  over-before {k} {d} {j} o used off under = before S (o .sound) (NotBelow C s k) closed (o .ledger) k d j used off under .under
     where
       closed : (j : ℕ) → Used s j → NotBelow C s k j → Hangs C s j → NotBelow C s k (parent C s j)
-      closed j used off h d un = off (suc d) (under-step used h un)
+      closed j used off h d under = off (suc d) (under-step used h under)
 
   pub at-used : {k i j : ℕ} → At C s s′ k i → Used s j → NotUnderSlot C s k i j → Used s′ j
   at-used {j = j} a used off = rw (a .ledger j used off) used
@@ -107,8 +107,8 @@ module _ {C : Codec} {s s′ : State} (S : Sound C s) where
     sound = b .sound;
     words = λ j used off i.
         let off′ : NotBelow C s _ j = λ d. off (suc d) in
-        b .words j (over-used a used off′) (λ d un. off d (over-before a used off′ un)) i ∙ a .words j used off i;
-    ledger = λ j used off. b .ledger j (over-used a used off) (λ d un. off d (over-before a used off un)) ∙ a .ledger j used off;
+        b .words j (over-used a used off′) (λ d under. off d (over-before a used off′ under)) i ∙ a .words j used off i;
+    ledger = λ j used off. b .ledger j (over-used a used off) (λ d under. off d (over-before a used off under)) ∙ a .ledger j used off;
   }
 
   -- a change at a slot of k is a change of k
@@ -134,7 +134,15 @@ module _ {C : Codec} {s s′ : State} (S : Sound C s) where
   -- every tree that is neither over k nor under it stays: the trees of other roots
   pub over-stays : (all : ℕ) {k c : ℕ} → Over C s s′ k → Used s k → Used s c → LevelsLeft C s c all → NotUnder C s c k → NotUnder C s k c
       → treeOf C s′ all c ≡ treeOf C s all c
-  over-stays all {k} {c} o used used′ low off off′ = frame S s′ all c used′ low (λ d j un. o .words j (un .used) (under-apart used′ used off off′ un))
+  over-stays all {k} {c} o used used′ low off off′ = frame S s′ all c used′ low (λ d j under. o .words j (under .used) (under-apart used′ used off off′ under))
+
+  pub root-stays : (all : ℕ) {k c : ℕ} → Over C s s′ k → C .Root k (s .ledger k) → C .Root c (s .ledger c) → k ≢ c → LevelsLeft C s c all
+      → treeOf C s′ all c ≡ treeOf C s all c
+  root-stays all {k} {c} o root root′ other low =
+      let used : Used s k = C .root-used k (s .ledger k) root in
+      let used′ : Used s c = C .root-used c (s .ledger c) root′ in
+      over-stays all o used used′ low
+      (λ d under. other (root-one S root root′ (under-self used) under)) (λ d under. other (root-one S root root′ under (under-self used′)))
 
 module _ {C : Codec} {s : State} (S : Sound C s) where
   pub at-refl : {k i : ℕ} → At C s s k i

@@ -2,7 +2,7 @@
 -- roots, which words may stand as leaves and how a table word is made; the theory of sound pools holds for any. Assumes nothing.
 use mathlib.Core.Path.{_≡_}
 use mathlib.Core.Logic.{_⊎_}
-use Prim.Native.Nat.{ℕ, zero, suc, _%_, _≤_, _<_}
+use Prim.Native.Nat.{ℕ, suc, _%_, _≤_, _<_}
 
 -- `word k i` is the word in slot i of table k, `ledger k` the ledger number of table k; 0 is free. Out of range both read 0.
 pub record State : Type 0 where
@@ -26,7 +26,7 @@ pub record Codec : Type 1 where
   pub link : ℕ → ℕ
   -- the table that a table word names
   pub child : ℕ → ℕ
-  -- every table's own number k is below the limit
+  -- tables are numbered below the limit
   pub limit : ℕ
   -- the ledger number of a new table in slot i of table p, which has the number x
   pub number : ℕ → ℕ → ℕ → ℕ

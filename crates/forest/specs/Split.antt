@@ -1,9 +1,9 @@
 -- The second step, a split: a free table is filled with leaves, entered in the ledger and linked in the place of a leaf. Sound again, the effect on
 -- every tree, what stays. Assumes nothing.
-use mathlib.Core.Path.{_≡_, refl, sym, ap, _∙_}
+use mathlib.Core.Path.{_≡_, sym, ap, _∙_}
 use mathlib.Core.List.{[], _∷_}
 use mathlib.Core.Logic.{_⊎_, inl, inr, _≢_}
-use Prim.Native.Nat.{ℕ, zero, suc, _+_, _-_, _%_, _≤_, _<_}
+use Prim.Native.Nat.{ℕ, suc, _+_, _-_, _≤_, _<_}
 use native.Mathlib.Omega.{arith}
 use Rattle.laws.specs.Test.{eq-or, le-or}
 use Rattle.forest.specs.Tree.{Tree, leaf, node, node-ext, put, treeAt-node}
@@ -46,14 +46,14 @@ module _ (C : Codec) where
     wide = wide;
   }
 
-module _ {C : Codec} {s s′ : State} {p i f x : ℕ} {g : ℕ → ℕ} (S : Sound C s) (sp : Splits C s s′ p i f x g) (fit : Fit C s p i f x g)
+module _ {C : Codec} {s s′ : State} {p i f x : ℕ} {g : ℕ → ℕ} (S : Sound C s) (splits : Splits C s s′ p i f x g) (fit : Fit C s p i f x g)
     (used : Used s p) (inside : i < 512) (old : ¬ (IsTable C s p i)) (fresh : s .ledger f ≡ 0) where
   -- a table that was in use is not the new one
   not-new : (k : ℕ) → Used s k → k ≢ f
   not-new k u e = omega (arith, u, fresh, ap (s .ledger) e)
 
   p-ledger : s′ .ledger p ≡ s .ledger p
-  p-ledger = sp .ledger p (not-new p used)
+  p-ledger = splits .ledger p (not-new p used)
 
   -- table p is not at the lowest level
   high : levelIn C s p < 3
@@ -68,84 +68,84 @@ module _ {C : Codec} {s s′ : State} {p i f x : ℕ} {g : ℕ → ℕ} (S : Sou
 
   -- slot i of p refers to the new table
   pub new-refers : Refers C s′ p i f
-  new-refers = record { says = sp .linked; used = rw (sp .number) (fit .used); from = from; at = at; hung = hung }
+  new-refers = record { says = splits .linked; used = rw (splits .number) (fit .used); from = from; at = at; hung = hung }
     where
       from : parent C s′ f ≡ p
-      from = rw (sp .number, parent) (fit .over)
+      from = rw (splits .number, parent) (fit .over)
 
       at : slotIn C s′ f ≡ i
-      at = rw (sp .number, slotIn) (fit .slot)
+      at = rw (splits .number, slotIn) (fit .slot)
 
       hung : Hangs C s′ f
       hung = record {
-        well = rw (from, p-ledger, sp .number) (fit .well);
+        well = rw (from, p-ledger, splits .number) (fit .well);
         used = rw (from, p-ledger) used;
-        below = rw (from, p-ledger, sp .number, levelIn) (fit .level);
-        refers = rw (from, at) (sp .linked);
+        below = rw (from, p-ledger, splits .number, levelIn) (fit .level);
+        refers = rw (from, at) (splits .linked);
       }
 
   pub split-change : Change C s s′ p i
   split-change = record {
-    slots = λ j other. sp .words p j (not-new p used) (λ e. other (e .1));
-    others = λ k u other off j. sp .words k j (not-new k u) (λ e. other (e .0));
+    slots = λ j other. splits .words p j (not-new p used) (λ e. other (e .1));
+    others = λ k u other off j. splits .words k j (not-new k u) (λ e. other (e .0));
   }
 
   pub split-sound : Sound C s′
   split-sound = record {
-    rooted = λ k y root. sp .ledger k (λ e. omega (arith, fresh, C .root-used k y root, ap (s .ledger) e, S .rooted k y root)) ∙ S .rooted k y root;
+    rooted = λ k y root. splits .ledger k (λ e. omega (arith, fresh, C .root-used k y root, ap (s .ledger) e, S .rooted k y root)) ∙ S .rooted k y root;
     hangs = λ k u. hang k u (eq-or k f);
     names = λ k j u t. name k j u t (eq-or k f) (same-slot-or k j p i);
     leaves = λ k j u l nt. leafy k j u l nt (eq-or k f) (same-slot-or k j p i);
-    free = λ k j z. free k j z (λ e. omega (arith, z, fit .used, sp .number, ap (s′ .ledger) e));
+    free = λ k j z. free k j z (λ e. omega (arith, z, fit .used, splits .number, ap (s′ .ledger) e));
     wide = λ k j l. wide k j l (eq-or k f);
   }
     where
       before : (k : ℕ) → k ≢ f → Used s′ k → Used s k
-      before k ne u = rw (← sp .ledger k ne) u
+      before k ne u = rw (← splits .ledger k ne) u
 
       keep : (k : ℕ) → k ≢ f → Used s k → C .Root k (s .ledger k) ⊎ Hangs C s k → C .Root k (s′ .ledger k) ⊎ Hangs C s′ k
-      keep k ne u (inl root) = inl (rw (sp .ledger k ne) root)
+      keep k ne u (inl root) = inl (rw (splits .ledger k ne) root)
       keep k ne u (inr h) =
           let over = not-new (parent C s k) (h .used) in
-          inr (hangs-keep s′ (sp .ledger k ne) (sp .ledger (parent C s k) over) (sp .words (parent C s k) (slotIn C s k) over (hangs-elsewhere old u h)) h)
+          inr (hangs-keep s′ (splits .ledger k ne) (splits .ledger (parent C s k) over) (splits .words (parent C s k) (slotIn C s k) over (hangs-elsewhere old u h)) h)
 
       hang : (k : ℕ) → Used s′ k → (k ≡ f) ⊎ (k ≢ f) → C .Root k (s′ .ledger k) ⊎ Hangs C s′ k
       hang k u (inl e) = inr (rw e (new-refers .hung))
       hang k u (inr ne) = keep k ne (before k ne u) (S .hangs k (before k ne u))
 
       name : (k j : ℕ) → Used s′ k → IsTable C s′ k j → (k ≡ f) ⊎ (k ≢ f) → SameSlot k j p i ⊎ (¬ (SameSlot k j p i)) → (c : ℕ) × Refers C s′ k j c
-      name k j u t (inl e) at = absurd (plain j (rw (← sp .number, ← e) (t .0), rw (← sp .filled j, ← e) (t .1)))
+      name k j u t (inl e) at = absurd (plain j (rw (← splits .number, ← e) (t .0), rw (← splits .filled j, ← e) (t .1)))
       name k j u t (inr ne) (inl e) = (f, rw (e .0, e .1) new-refers)
       name k j u t (inr ne) (inr off) =
-          let n = S .names k j (before k ne u) (rw (sp .ledger k ne, levelIn) at (t .0), rw (sp .words k j ne off) at (t .1)) in
-          (n .0, refers-keep s′ (sp .ledger (n .0) (not-new (n .0) (n .1 .used))) (sp .ledger k ne) (sp .words k j ne off) (n .1))
+          let n = S .names k j (before k ne u) (rw (splits .ledger k ne, levelIn) at (t .0), rw (splits .words k j ne off) at (t .1)) in
+          (n .0, refers-keep s′ (splits .ledger (n .0) (not-new (n .0) (n .1 .used))) (splits .ledger k ne) (splits .words k j ne off) (n .1))
 
       leafy : (k j : ℕ) → Used s′ k → j < 512 → ¬ (IsTable C s′ k j) → (k ≡ f) ⊎ (k ≢ f) → SameSlot k j p i ⊎ (¬ (SameSlot k j p i))
           → C .Leaf (s′ .ledger k) (s′ .word k j)
-      leafy k j u l nt (inl e) at = rw (e, sp .number, sp .filled j) (fit .fits j l .good)
-      leafy k j u l nt (inr ne) (inl e) = absurd (nt (rw (e .0, p-ledger, levelIn) high, rw (e .0, e .1, sp .linked) (C .link-table f)))
+      leafy k j u l nt (inl e) at = rw (e, splits .number, splits .filled j) (fit .fits j l .good)
+      leafy k j u l nt (inr ne) (inl e) = absurd (nt (rw (e .0, p-ledger, levelIn) high, rw (e .0, e .1, splits .linked) (C .link-table f)))
       leafy k j u l nt (inr ne) (inr off) =
-          rw (sp .ledger k ne, sp .words k j ne off)
-          (S .leaves k j (before k ne u) l (λ t. nt (rw (sp .ledger k ne, levelIn) (t .0), rw (sp .words k j ne off) (t .1))))
+          rw (splits .ledger k ne, splits .words k j ne off)
+          (S .leaves k j (before k ne u) l (λ t. nt (rw (splits .ledger k ne, levelIn) (t .0), rw (splits .words k j ne off) (t .1))))
 
       free : (k j : ℕ) → s′ .ledger k ≡ 0 → k ≢ f → s′ .word k j ≡ 0
       free k j z ne =
-          let z′ : s .ledger k ≡ 0 = sym (sp .ledger k ne) ∙ z in
-          sp .words k j ne (λ e. omega (arith, used, z′, ap (s .ledger) (e .0))) ∙ S .free k j z′
+          let z′ : s .ledger k ≡ 0 = sym (splits .ledger k ne) ∙ z in
+          splits .words k j ne (λ e. omega (arith, used, z′, ap (s .ledger) (e .0))) ∙ S .free k j z′
 
       wide : (k j : ℕ) → 512 ≤ j → (k ≡ f) ⊎ (k ≢ f) → s′ .word k j ≡ 0
-      wide k j l (inl e) = rw (e, sp .filled j) (fit .wide j l)
-      wide k j l (inr ne) = sp .words k j ne (λ e. omega (arith, inside, l, e .1)) ∙ S .wide k j l
+      wide k j l (inl e) = rw (e, splits .filled j) (fit .wide j l)
+      wide k j l (inr ne) = splits .words k j ne (λ e. omega (arith, inside, l, e .1)) ∙ S .wide k j l
 
   -- the new table's own tree: the words as leaves
   pub new-tree : (left : ℕ) → C .level x + left ≡ 3 → treeOf C s′ left f ≡ node (λ j. leaf (g j))
-  new-tree left low = treeAt-node (C .child) left (s′ .word) f ∙ node-ext (λ j. slot-leaf C s′ left f j low (sp .filled j) (plain j))
+  new-tree left low = treeAt-node (C .child) left (s′ .word) f ∙ node-ext (λ j. slot-leaf C s′ left f j low (splits .filled j) (plain j))
 
   -- every tree over the slot gets the new table's tree there
   pub split-effect : (all : ℕ) {c d : ℕ} → Under C s c d p → LevelsLeft C s c all
       → treeOf C s′ all c ≡ put (path C s d p (i ∷ [])) (node (λ j. leaf (g j))) (treeOf C s all c)
-  split-effect all {c} {d} un low =
-      change-over S s′ (suc left) all split-change un (omega (arith, C .level-le x, fit .level)) low
+  split-effect all {c} {d} under low =
+      change-over S s′ (suc left) all split-change under (omega (arith, C .level-le x, fit .level)) low
       ∙ ap (λ (t : Tree). put (path C s d p (i ∷ [])) t (treeOf C s all c)) slot
     where
       left : ℕ
@@ -156,4 +156,4 @@ module _ {C : Codec} {s s′ : State} {p i f x : ℕ} {g : ℕ → ℕ} (S : Sou
 
   -- every tree that table p is not in stays
   pub split-stays : (all : ℕ) {c : ℕ} → Used s c → LevelsLeft C s c all → NotUnder C s c p → treeOf C s′ all c ≡ treeOf C s all c
-  split-stays all {c} u low off = frame S s′ all c u low (λ d j un k. sp .words j k (not-new j (un .used)) (λ e. off d (rw (← e .0) un)))
+  split-stays all {c} u low off = frame S s′ all c u low (λ d j under k. splits .words j k (not-new j (under .used)) (λ e. off d (rw (← e .0) under)))

@@ -1,11 +1,11 @@
 -- Trees of words, and how a tree is read off the words of a pool. Nothing here knows the ledger or asks that the pool be sound.
 -- Assumes nothing.
-use mathlib.Core.Path.{_≡_, refl, ap, _∙_, fun-ext}
+use mathlib.Core.Path.{_≡_, refl, ap, fun-ext}
 use mathlib.Core.Bool.{true, false, cond}
 use mathlib.Core.List.{List, [], _∷_}
 use mathlib.Core.Logic.{_⊎_, inl, inr, _≢_}
 use Prim.Native.Nat.{ℕ, zero, suc, _%_, _≤_, _<_}
-use lib.Dec.{T, eqb, ltb, ltb→lt, nltb→le}
+use lib.Dec.{eqb, ltb, ltb→lt, nltb→le}
 use Rattle.laws.specs.Test.{byBool, eqb-cases}
 
 -- A leaf holds its word; a node, which is a table, holds a tree for each slot. Slots from 512 on read as `leaf 0`, so two trees are equal

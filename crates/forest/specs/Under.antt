@@ -47,30 +47,30 @@ module _ {C : Codec} {s : State} where
 
   pub under-zero : {c j : ℕ} → Under C s c 0 j → j ≡ c
   unfolding up
-  under-zero un = un .leads
+  under-zero under = under .leads
 
   -- what lies under a table that hangs lies under the table over it
   pub under-up : {c d j : ℕ} → Hangs C s c → Under C s c d j → Under C s (parent C s c) (suc d) j
-  under-up {c} {d} {j} h un = record {
-    used = un .used;
-    deep = omega (arith, h .below, un .deep);
-    leads = up-suc C s d j ∙ ap (parent C s) (un .leads);
+  under-up {c} {d} {j} h under = record {
+    used = under .used;
+    deep = omega (arith, h .below, under .deep);
+    leads = up-suc C s d j ∙ ap (parent C s) (under .leads);
   }
 
   pub under-step : {c d j : ℕ} → Used s j → Hangs C s j → Under C s c d (parent C s j) → Under C s c (suc d) j
   unfolding up
-  under-step used h un = record { used = used; deep = omega (arith, h .below, un .deep); leads = un .leads }
+  under-step used h under = record { used = used; deep = omega (arith, h .below, under .deep); leads = under .leads }
 
   -- SEPARATION: of one level, only one table is over j
   pub under-one : {c c′ d d′ j : ℕ} → levelIn C s c ≡ levelIn C s c′ → Under C s c d j → Under C s c′ d′ j → c ≡ c′
-  under-one {c} {c′} {d} {d′} {j} level un un′ =
-      let same : d ≡ d′ = omega (arith, un .deep, un′ .deep) in
-      sym (un .leads) ∙ ap (λ (m : ℕ). up C s m j) same ∙ un′ .leads
+  under-one {c} {c′} {d} {d′} {j} level under under′ =
+      let same : d ≡ d′ = omega (arith, under .deep, under′ .deep) in
+      sym (under .leads) ∙ ap (λ (m : ℕ). up C s m j) same ∙ under′ .leads
 
   -- what lies deeper than c is no root, so it hangs, from a table under c
   pub under-back : {c d j : ℕ} → Sound C s → Under C s c (suc d) j → Hangs C s j × Under C s c d (parent C s j)
   unfolding up
-  under-back {c} {d} {j} S un = go (S .hangs j (un .used))
+  under-back {c} {d} {j} S under = go (S .hangs j (under .used))
     where
       stays : (m : ℕ) → parent C s j ≡ j → up C s m j ≡ j
       stays zero e = refl
@@ -78,29 +78,30 @@ module _ {C : Codec} {s : State} where
 
       go : C .Root j (s .ledger j) ⊎ Hangs C s j → Hangs C s j × Under C s c d (parent C s j)
       go (inl root) =
-          let same : j ≡ c = sym (stays (suc d) (C .root-over j (s .ledger j) root)) ∙ un .leads in
-          absurd (omega (arith, un .deep, ap (levelIn C s) same))
-      go (inr h) = (h, record { used = h .used; deep = omega (arith, un .deep, h .below); leads = un .leads })
+          let same : j ≡ c = sym (stays (suc d) (C .root-over j (s .ledger j) root)) ∙ under .leads in
+          absurd (omega (arith, under .deep, ap (levelIn C s) same))
+      go (inr h) = (h, record { used = h .used; deep = omega (arith, under .deep, h .below); leads = under .leads })
 
   -- of two tables over j the higher is over the lower
   under-chain : {c e x m j : ℕ} → Used s e → Under C s c (m + x) j → Under C s e m j → Under C s c x e
-  under-chain {c} {e} {x} {m} {j} used un un′ = record {
+  under-chain {c} {e} {x} {m} {j} used under under′ = record {
     used = used;
-    deep = omega (arith, un .deep, un′ .deep);
-    leads = ap (up C s x) (sym (un′ .leads)) ∙ sym (up-add C s m x j) ∙ un .leads;
+    deep = omega (arith, under .deep, under′ .deep);
+    leads = ap (up C s x) (sym (under′ .leads)) ∙ sym (up-add C s m x j) ∙ under .leads;
   }
 
   -- of two tables over j one is over the other
-  pub under-either : {c e d m j : ℕ} → Used s c → Used s e → Under C s c d j → Under C s e m j → ((x : ℕ) × Under C s c x e) ⊎ ((x : ℕ) × Under C s e x c)
-  under-either {c} {e} {d} {m} {j} used used′ un un′ = go (le-or d m)
+  pub under-either : {c e d m j : ℕ} → Used s c → Used s e → Under C s c d j → Under C s e m j
+      → ((x : ℕ) × Under C s c x e) ⊎ ((x : ℕ) × Under C s e x c)
+  under-either {c} {e} {d} {m} {j} used used′ under under′ = go (le-or d m)
     where
       go : (d ≤ m) ⊎ (m < d) → ((x : ℕ) × Under C s c x e) ⊎ ((x : ℕ) × Under C s e x c)
-      go (inl h) = inr (m - d, under-chain used (subst (λ (x : ℕ). Under C s e x j) (omega arith) un′) un)
-      go (inr h) = inl (d - m, under-chain used′ (subst (λ (x : ℕ). Under C s c x j) (omega arith) un) un′)
+      go (inl h) = inr (m - d, under-chain used (subst (λ (x : ℕ). Under C s e x j) (omega arith) under′) under)
+      go (inr h) = inl (d - m, under-chain used′ (subst (λ (x : ℕ). Under C s c x j) (omega arith) under) under′)
 
   -- SEPARATION: what lies under one of two tables, neither of which is over the other, does not lie under the other
   pub under-apart : {c e d j : ℕ} → Used s c → Used s e → NotUnder C s c e → NotUnder C s e c → Under C s c d j → NotUnder C s e j
-  under-apart {c} {e} used used′ off off′ un m un′ = go (under-either used used′ un un′)
+  under-apart {c} {e} used used′ off off′ under m under′ = go (under-either used used′ under under′)
     where
       go : ((x : ℕ) × Under C s c x e) ⊎ ((x : ℕ) × Under C s e x c) → ⊥
       go (inl at) = off (at .0) (at .1)
@@ -124,20 +125,20 @@ module _ {C : Codec} {s : State} where
 
   -- what lies under c lies under k; k itself does not lie under c
   pub refers-under : {k i c d j : ℕ} → Refers C s k i c → Under C s c d j → Under C s k (suc d) j
-  refers-under {d = d} {j = j} r un = subst (λ (k : ℕ). Under C s k (suc d) j) (r .from) (under-up (r .hung) un)
+  refers-under {d = d} {j = j} r under = subst (λ (k : ℕ). Under C s k (suc d) j) (r .from) (under-up (r .hung) under)
 
   pub refers-over : {k i c : ℕ} → Refers C s k i c → NotUnder C s c k
-  refers-over r d un = omega (arith, un .deep, refers-level r)
+  refers-over r d under = omega (arith, under .deep, refers-level r)
 
   -- a table that is neither over k nor under c is not over c
   pub refers-apart : {k i c a : ℕ} → Sound C s → Refers C s k i c → NotUnder C s a k → NotUnder C s c a → NotUnder C s a c
-  refers-apart {c = c} S r off off′ zero un = off′ 0 (subst (λ (a : ℕ). Under C s c 0 a) (under-zero un) (under-self (r .used)))
-  refers-apart {a = a} S r off off′ (suc d) un = off d (subst (λ (k : ℕ). Under C s a d k) (r .from) (under-back S un .1))
+  refers-apart {c = c} S r off off′ zero under = off′ 0 (subst (λ (a : ℕ). Under C s c 0 a) (under-zero under) (under-self (r .used)))
+  refers-apart {a = a} S r off off′ (suc d) under = off d (subst (λ (k : ℕ). Under C s a d k) (r .from) (under-back S under .1))
 
   -- only one slot of k is over j
   pub refers-one : {k i i′ c c′ d d′ j : ℕ} → Refers C s k i c → Refers C s k i′ c′ → Under C s c d j → Under C s c′ d′ j → i ≡ i′
-  refers-one r r′ un un′ =
-      let same = under-one (omega (arith, refers-level r, refers-level r′)) un un′ in
+  refers-one r r′ under under′ =
+      let same = under-one (omega (arith, refers-level r, refers-level r′)) under under′ in
       sym (r .at) ∙ ap (slotIn C s) same ∙ r′ .at
 
 module _ (C : Codec) where
@@ -151,17 +152,17 @@ module _ (C : Codec) where
 
 module _ {C : Codec} {s : State} where
   pub under-via : {k d j : ℕ} → Sound C s → Under C s k (suc d) j → Via C s k j
-  under-via {k} {d} {j} S un = go d j un
+  under-via {k} {d} {j} S under = go d j under
     where
       go : (d j : ℕ) → Under C s k (suc d) j → Via C s k j
-      go zero j un =
-          let back = under-back S un in
-          let r = hangs-refers (un .used) (back .0) in
-          record { slot = slotIn C s j; top = j; deep = 0; refers = subst (λ (k : ℕ). Refers C s k (slotIn C s j) j) (under-zero (back .1)) r; under = under-self (un .used) }
-      go (suc d) j un =
-          let back = under-back S un in
+      go zero j under =
+          let back = under-back S under in
+          let r = subst (λ (k : ℕ). Refers C s k (slotIn C s j) j) (under-zero (back .1)) (hangs-refers (under .used) (back .0)) in
+          record { slot = slotIn C s j; top = j; deep = 0; refers = r; under = under-self (under .used) }
+      go (suc d) j under =
+          let back = under-back S under in
           let via = go d (parent C s j) (back .1) in
-          record { slot = via .slot; top = via .top; deep = suc (via .deep); refers = via .refers; under = under-step (un .used) (back .0) (via .under) }
+          record { slot = via .slot; top = via .top; deep = suc (via .deep); refers = via .refers; under = under-step (under .used) (back .0) (via .under) }
 
   -- does j lie under c? One number of steps is possible, so one comparison decides it.
   pub under-or : (c j : ℕ) → ((d : ℕ) × Under C s c d j) ⊎ NotUnder C s c j
@@ -172,8 +173,8 @@ module _ {C : Codec} {s : State} where
 
       go : (s .ledger j ≡ 0) ⊎ (s .ledger j ≢ 0) → (levelIn C s c + steps ≡ levelIn C s j) ⊎ (levelIn C s c + steps ≢ levelIn C s j)
           → (up C s steps j ≡ c) ⊎ (up C s steps j ≢ c) → ((d : ℕ) × Under C s c d j) ⊎ NotUnder C s c j
-      go (inl free) level leads = inr (λ d un. omega (arith, un .used, free))
-      go (inr used) (inr apart) leads = inr (λ d un. apart (omega (arith, un .deep)))
+      go (inl free) level leads = inr (λ d under. omega (arith, under .used, free))
+      go (inr used) (inr apart) leads = inr (λ d under. apart (omega (arith, under .deep)))
       go (inr used) (inl level) (inl leads) = inl (steps, record { used = omega (arith, used); deep = sym level; leads = leads })
       go (inr used) (inl level) (inr apart) =
-          inr (λ d un. let same : steps ≡ d = omega (arith, un .deep) in apart (ap (λ (m : ℕ). up C s m j) same ∙ un .leads))
+          inr (λ d under. let same : steps ≡ d = omega (arith, under .deep) in apart (ap (λ (m : ℕ). up C s m j) same ∙ under .leads))

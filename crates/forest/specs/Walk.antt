@@ -1,9 +1,9 @@
 -- A walk of the words is a walk of the tree that they show. Nothing is asked of the pool. Assumes nothing.
-use mathlib.Core.Path.{_≡_, refl, ap, _∙_}
+use mathlib.Core.Path.{_≡_, refl}
 use mathlib.Core.Bool.{Bool, true, false, cond}
 use Prim.Native.Nat.{ℕ, zero, suc, _%_}
 use lib.Dec.{eqb}
-use Rattle.forest.specs.Tree.{Tree, leaf, node, treeAt, entry, treeAt-node}
+use Rattle.forest.specs.Tree.{Tree, leaf, node, treeAt, entry}
 
 -- the word that a walk ends in, and how many levels lie below the table of that word
 pub record Ends : Type 0 where

@@ -91,11 +91,11 @@ module _ (C : Codec) where
   pub record Sound (s : State) : Type 0 where
     -- the ledger has each root's number
     pub rooted : (k x : ℕ) → C .Root k x → s .ledger k ≡ x
-    -- every other used table hangs
+    -- every other used table's number names a slot of a used table one level higher, and that slot refers to it
     pub hangs : (k : ℕ) → Used s k → C .Root k (s .ledger k) ⊎ Hangs s k
-    -- every table word of a used table refers to a table
+    -- every word with bits 0 and 1 set at levels 0 to 2 is exactly a pool table's address + 3, and that table's number names this slot
     pub names : (k i : ℕ) → Used s k → IsTable s k i → (c : ℕ) × Refers s k i c
-    -- every other word of a used table may stand as a leaf
+    -- every other word is one that may stand as a leaf
     pub leaves : (k i : ℕ) → Used s k → i < 512 → ¬ (IsTable s k i) → C .Leaf (s .ledger k) (s .word k i)
     -- free tables are all zero
     pub free : (k i : ℕ) → s .ledger k ≡ 0 → s .word k i ≡ 0

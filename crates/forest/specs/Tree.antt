@@ -1,0 +1,86 @@
+-- Trees of words, and how a tree is read off the words of a pool. Nothing here knows the ledger or asks that the pool be sound.
+-- Assumes nothing.
+use mathlib.Core.Path.{_≡_, refl, ap, fun-ext}
+use mathlib.Core.Bool.{true, false, cond}
+use mathlib.Core.List.{List, [], _∷_}
+use mathlib.Core.Logic.{_⊎_, inl, inr, _≢_}
+use Prim.Native.Nat.{ℕ, zero, suc, _%_, _≤_, _<_}
+use lib.Dec.{eqb, ltb, ltb→lt, nltb→le}
+use Rattle.laws.specs.Test.{byBool, eqb-cases}
+
+-- A leaf holds its word; a node, which is a table, holds a tree for each slot. Slots from 512 on read as `leaf 0`, so two trees are equal
+-- when their slots are.
+pub data Tree : Type 0 where
+  leaf : ℕ → Tree
+  node : (ℕ → Tree) → Tree
+
+pub node-ext : {f g : ℕ → Tree} → ((i : ℕ) → f i ≡ g i) → node f ≡ node g
+node-ext same = ap node (fun-ext same)
+
+-- ---- a tree put in a place of another
+
+-- `put path t u` is u with t in the place that the path leads to, slot by slot
+unfoldable pub put : List ℕ → Tree → Tree → Tree
+put [] t u = t
+put (i ∷ path) t (leaf w) = leaf w
+put (i ∷ path) t (node f) = node (λ j. let u = put path t (f j) in cond (eqb j i) u (f j))
+
+pub put-here : (t u : Tree) → put [] t u ≡ t
+unfolding put
+put-here t u = refl
+
+-- one slot of a node changes, and its other slots stay
+pub put-node : {f g : ℕ → Tree} (i : ℕ) (path : List ℕ) (t : Tree) → g i ≡ put path t (f i) → ((j : ℕ) → j ≢ i → g j ≡ f j)
+    → node g ≡ put (i ∷ path) t (node f)
+unfolding put
+put-node {f} {g} i path t here others = node-ext (λ j. go j (eqb-cases j i))
+  where
+    go : (j : ℕ) → ((j ≡ i) × (eqb j i ≡ true)) ⊎ ((j ≢ i) × (eqb j i ≡ false)) → g j ≡ cond (eqb j i) (put path t (f j)) (f j)
+    go j (inl e) = rw (e .1) (rw (e .0) here)
+    go j (inr e) = rw (e .1) (others j (e .0))
+
+-- ---- something done to each slot of a table
+
+unfoldable pub eachSlot : (ℕ → Tree → Tree) → Tree → Tree
+eachSlot h (leaf w) = leaf w
+eachSlot h (node f) = node (λ i. cond (ltb i 512) (h i (f i)) (f i))
+
+pub each-slot : {f g : ℕ → Tree} (h : ℕ → Tree → Tree) → ((i : ℕ) → i < 512 → g i ≡ h i (f i)) → ((i : ℕ) → 512 ≤ i → g i ≡ f i)
+    → node g ≡ eachSlot h (node f)
+unfolding eachSlot
+each-slot {f} {g} h low high =
+    node-ext (λ i. byBool (ltb i 512) (λ e. rw e (low i (ltb→lt i 512 (rw e tt)))) (λ e. rw e (high i (nltb→le i 512 (rw e tt)))))
+
+-- ---- the tree that the words show: `w k i` is the word in slot i of table k, `child x` the table that a table word x names
+
+module _ (child : ℕ → ℕ) where
+  -- What the word x shows in a table with `left` levels below its own: a word with bits 0 and 1 set is a table, any other a leaf; at the
+  -- lowest level all are leaves.
+  unfoldable pub entry : ℕ → (ℕ → ℕ → ℕ) → ℕ → Tree
+  entry zero w x = leaf x
+  entry (suc left) w x = let t = node (λ i. entry left w (w (child x) i)) in cond (eqb (x % 4) 3) t (leaf x)
+
+  -- the tree of table k with `left` levels below its own
+  unfoldable pub treeAt : ℕ → (ℕ → ℕ → ℕ) → ℕ → Tree
+  treeAt left w k = node (λ i. entry left w (w k i))
+
+  pub treeAt-node : (left : ℕ) (w : ℕ → ℕ → ℕ) (k : ℕ) → treeAt left w k ≡ node (λ i. entry left w (w k i))
+  unfolding treeAt
+  treeAt-node left w k = refl
+
+  pub entry-low : (w : ℕ → ℕ → ℕ) (x : ℕ) → entry zero w x ≡ leaf x
+  unfolding entry
+  entry-low w x = refl
+
+  pub entry-table : (left : ℕ) (w : ℕ → ℕ → ℕ) (x : ℕ) → x % 4 ≡ 3 → entry (suc left) w x ≡ treeAt left w (child x)
+  unfolding entry treeAt
+  entry-table left w x both = rw both
+
+  pub entry-leaf : (left : ℕ) (w : ℕ → ℕ → ℕ) (x : ℕ) → x % 4 ≢ 3 → entry left w x ≡ leaf x
+  unfolding entry
+  entry-leaf zero w x other = refl
+  entry-leaf (suc left) w x other = go (eqb-cases (x % 4) 3)
+    where
+      go : ((x % 4 ≡ 3) × (eqb (x % 4) 3 ≡ true)) ⊎ ((x % 4 ≢ 3) × (eqb (x % 4) 3 ≡ false)) → entry (suc left) w x ≡ leaf x
+      go (inl e) = absurd (other (e .0))
+      go (inr e) = rw (e .1)

@@ -5,3 +5,5 @@ pub mod Table
 pub mod Refuse
 pub mod Sound
 pub mod Stream
+pub mod Image
+pub mod Calls

@@ -5,6 +5,7 @@ use mathlib.Core.Bool.{Bool, true, false, not, cond, _&&_}
 use mathlib.Core.List.{List, [], _∷_}
 use mathlib.Core.Logic.{_⊎_, inl, inr, _≢_}
 use Prim.Native.Nat.{ℕ, zero, suc, _+_, _*_, _-_, _/_, _%_, _^_, _≤_, _<_, min}
+use native.Mathlib.Nat.{zero-add, add-zero, add-assoc}
 use native.Mathlib.Numerals.{add-one}
 use native.Mathlib.Omega.{arith}
 use lib.Bits.{bitAnd, bitOr, and-high, and-mask, and-le-l, or-lt, or-zero-r}
@@ -149,7 +150,7 @@ module _ (set w : ℕ) (plain : PlainSet set) (word : w < 2 ^ 64) where
         (λ e t z. let l = eqb→eq (w % 4) 0 t in omega arith)
 
   -- levels 0, 1 and 2
-  leaf-word : (level : ℕ) → level < 3 → only (allowedAt set level) w ≡ leafb set level w
+  pub leaf-word : (level : ℕ) → level < 3 → only (allowedAt set level) w ≡ leafb set level w
   unfolding leafb fits allowedAt
   leaf-word zero h = zero-word
   leaf-word (suc zero) h = block-word 1
@@ -164,3 +165,181 @@ module _ (set w : ℕ) (plain : PlainSet set) (word : w < 2 ^ 64) where
       same-test (eqb (bitAnd w (allowedAt set 3)) w) (eqb (bitAnd (plainFlags w) set) (plainFlags w))
         (λ t. eq→eqb (bitAnd (plainFlags w) set) (plainFlags w) (let e = eqb→eq (bitAnd w (allowedAt set 3)) w t in omega arith))
         (λ t. eq→eqb (bitAnd w (allowedAt set 3)) w (let e = eqb→eq (bitAnd (plainFlags w) set) (plainFlags w) t in omega arith))
+
+  -- level 3
+  pub page-word : only (allowedAt set 3) w && not (eqb (w % 4) 1) ≡ leafb set 3 w
+  unfolding leafb fits
+  page-word = ap (λ (b : Bool). b && not (eqb (w % 4) 1)) only-page
+
+-- ---- unions
+
+-- a union has only allowed bits where both words have
+pub only-or : (m a b : ℕ) → only m (bitOr a b) ≡ only m a && only m b
+unfolding only
+only-or m a b =
+    same-test (eqb (bitAnd (bitOr a b) m) (bitOr a b)) (eqb (bitAnd a m) a && eqb (bitAnd b m) b)
+      (λ t. let p = sub-parts a b m (eqb→eq (bitAnd (bitOr a b) m) (bitOr a b) t) in
+        and-i (eqb (bitAnd a m) a) (eqb (bitAnd b m) b) (eq→eqb (bitAnd a m) a (p .0)) (eq→eqb (bitAnd b m) b (p .1)))
+      (λ t. eq→eqb (bitAnd (bitOr a b) m) (bitOr a b) (sub-or a b m
+        (eqb→eq (bitAnd a m) a (and-l (eqb (bitAnd a m) a) (eqb (bitAnd b m) b) t))
+        (eqb→eq (bitAnd b m) b (and-r (eqb (bitAnd a m) a) (eqb (bitAnd b m) b) t))))
+
+only-zero : (m : ℕ) → only m 0 ≡ true
+unfolding only
+only-zero m = refl
+
+-- a union is 0 where both words are
+zero-or : (a b : ℕ) → eqb (bitOr a b) 0 ≡ eqb a 0 && eqb b 0
+zero-or a b =
+    same-test (eqb (bitOr a b) 0) (eqb a 0 && eqb b 0)
+      (λ t. let p = or-none a b (eqb→eq (bitOr a b) 0 t) in and-i (eqb a 0) (eqb b 0) (eq→eqb a 0 (p .0)) (eq→eqb b 0 (p .1)))
+      (λ t. eq→eqb (bitOr a b) 0 (ap₂ bitOr (eqb→eq a 0 (and-l (eqb a 0) (eqb b 0) t)) (eqb→eq b 0 (and-r (eqb a 0) (eqb b 0) t))))
+
+even-or : (a b : ℕ) → eqb (bitOr a b % 2) 0 ≡ eqb (a % 2) 0 && eqb (b % 2) 0
+even-or a b = ap (λ (x : ℕ). eqb x 0) (sym (and-mask (bitOr a b) 1)) ∙ or-aligned 1 a b
+
+-- bit 0 of a word that lacks bit 1
+stray-word : (w : ℕ) → w < 2 ^ 64 → eqb (bitAnd w (2 ^ 64 - 1 - w / 2) % 2) 0 ≡ not (eqb (w % 4) 1)
+stray-word w h = go (eqb-cases (w % 4) 1)
+  where
+    stray : ℕ
+    stray = bitAnd w (2 ^ 64 - 1 - w / 2) % 2
+
+    bit : stray ≡ min (w % 2) (1 - w / 2 % 2)
+    bit = and-odd w (2 ^ 64 - 1 - w / 2) ∙ ap (λ (x : ℕ). min (w % 2) x) (omega arith)
+
+    go : ((w % 4 ≡ 1) × (eqb (w % 4) 1 ≡ true)) ⊎ ((w % 4 ≢ 1) × (eqb (w % 4) 1 ≡ false)) → eqb stray 0 ≡ not (eqb (w % 4) 1)
+    go (inl e) = rw (e .1) (ne-eqb stray 0 (λ z. omega (arith, bit)))
+    go (inr e) = rw (e .1) (eq-eqb stray 0 (omega (arith, bit, e .0)))
+
+-- ---- runs
+
+-- the words of a run have 64 bits
+abbrev pub Words : List ℕ → Type 0
+Words ws = (i : ℕ) → i < length ws → getD ws i 0 < 2 ^ 64
+
+-- a free table: all words are 0
+pub free-pass : (set : ℕ) (ws : List ℕ) → passAll set 0 ws ≡ eqb (union ws) 0
+unfolding union passAll passesb
+free-pass set [] = refl
+free-pass set (w ∷ ws) = ap (λ (b : Bool). eqb w 0 && b) (free-pass set ws) ∙ sym (zero-or w (union ws))
+
+pub free-count : (ws : List ℕ) → countAll 0 ws ≡ 0
+unfolding countAll linkCount
+free-count [] = refl
+free-count (w ∷ ws) = zero-add (countAll 0 ws) ∙ free-count ws
+
+pub free-run : (set : ℕ) (ws : List ℕ) → runOf set 0 ws ≡ cond (eqb (union ws) 0) (Passed 0) Failed
+unfolding runOf
+free-run set ws = ap₂ (λ (b : Bool) (n : ℕ). cond b (Passed n) Failed) (free-pass set ws) (free-count ws)
+
+and-four : (a b c d : Bool) → (a && b) && (c && d) ≡ (a && c) && (b && d)
+and-four true true c d = refl
+and-four true false true d = refl
+and-four true false false d = refl
+and-four false b c d = refl
+
+-- a used table of level 3: only allowed bits, and no valid word lacks bit 1
+module _ (set y : ℕ) (plain : PlainSet set) (some : 0 < y) (at : levelOf y ≡ 3) where
+  passes-page : (w : ℕ) → w < 2 ^ 64 → passesb set y w ≡ only (allowedAt set 3) w && not (eqb (w % 4) 1)
+  unfolding passesb refersb
+  passes-page w h = rw (ne-eqb y 0 (λ e. omega arith), at) (sym (page-word set w plain h))
+
+  pub pages-pass : (ws : List ℕ) → Words ws → passAll set y ws ≡ only (allowedAt set 3) (union ws) && eqb (strays ws % 2) 0
+  unfolding union strays passAll
+  pages-pass [] words = rw (only-zero (allowedAt set 3))
+  pages-pass (w ∷ ws) words =
+      let word : w < 2 ^ 64 = words 0 (omega arith) in
+      let ih = pages-pass ws (λ i l. words (suc i) (omega arith)) in
+      let m = allowedAt set 3 in
+      ap₂ (λ (b c : Bool). b && c) (passes-page w word ∙ ap (λ (b : Bool). only m w && b) (sym (stray-word w word))) ih
+      ∙ and-four (only m w) (eqb (bitAnd w (2 ^ 64 - 1 - w / 2) % 2) 0) (only m (union ws)) (eqb (strays ws % 2) 0)
+      ∙ ap₂ (λ (b c : Bool). b && c) (sym (only-or m w (union ws))) (sym (even-or (bitAnd w (2 ^ 64 - 1 - w / 2)) (strays ws)))
+
+  pub pages-count : (ws : List ℕ) → countAll y ws ≡ 0
+  unfolding countAll linkCount refersb
+  pages-count [] = refl
+  pages-count (w ∷ ws) = rw (ne-eqb y 0 (λ e. omega arith), at) (zero-add (countAll y ws) ∙ pages-count ws)
+
+  pub pages-run : (ws : List ℕ) → Words ws → runOf set y ws ≡ cond (only (allowedAt set 3) (union ws) && eqb (strays ws % 2) 0) (Passed 0) Failed
+  unfolding runOf
+  pages-run ws words = ap₂ (λ (b : Bool) (n : ℕ). cond b (Passed n) Failed) (pages-pass ws words) (pages-count ws)
+
+only-cond : (m w : ℕ) (b : Bool) → only m (cond b 0 w) ≡ cond b true (only m w)
+only-cond m w true = only-zero m
+only-cond m w false = refl
+
+-- a used table of the levels 0 to 2: table words are counted, the others have only allowed bits
+module _ (set y level : ℕ) (plain : PlainSet set) (some : 0 < y) (at : levelOf y ≡ level) (high : level < 3) where
+  passes-leaf : (w : ℕ) → w < 2 ^ 64 → passesb set y w ≡ only (allowedAt set level) (cond (eqb (w % 4) 3) 0 w)
+  unfolding passesb refersb
+  passes-leaf w h =
+      rw (ne-eqb y 0 (λ e. omega arith), at, lt-ltb level 3 high)
+        (ap (λ (b : Bool). cond (eqb (w % 4) 3) true b) (sym (leaf-word set w plain h level high))
+        ∙ sym (only-cond (allowedAt set level) w (eqb (w % 4) 3)))
+
+  pub links-pass : (ws : List ℕ) → Words ws → passAll set y ws ≡ only (allowedAt set level) (leaves ws)
+  unfolding leaves passAll
+  links-pass [] words = sym (only-zero (allowedAt set level))
+  links-pass (w ∷ ws) words =
+      ap₂ (λ (b c : Bool). b && c) (passes-leaf w (words 0 (omega arith))) (links-pass ws (λ i l. words (suc i) (omega arith)))
+      ∙ sym (only-or (allowedAt set level) (cond (eqb (w % 4) 3) 0 w) (leaves ws))
+
+  pub links-count : (ws : List ℕ) → countAll y ws ≡ links ws
+  unfolding countAll linkCount refersb links
+  links-count [] = refl
+  links-count (w ∷ ws) =
+      rw (ne-eqb y 0 (λ e. omega arith), at, lt-ltb level 3 high) (ap (λ (n : ℕ). cond (eqb (w % 4) 3) 1 0 + n) (links-count ws))
+
+  pub links-run : (ws : List ℕ) → Words ws → runOf set y ws ≡ cond (only (allowedAt set level) (leaves ws)) (Passed (links ws)) Failed
+  unfolding runOf
+  links-run ws words = ap₂ (λ (b : Bool) (n : ℕ). cond b (Passed n) Failed) (links-pass ws words) (links-count ws)
+
+-- ---- a run read word by word, for loops: what stands after i words, and one word more
+
+-- over any sum `op` with an empty sum, of what `f` makes of each word
+module _ (op : ℕ → ℕ → ℕ) (none : ℕ) (f : ℕ → ℕ) (total : List ℕ → ℕ)
+    (assoc : (a b c : ℕ) → op (op a b) c ≡ op a (op b c)) (left : (a : ℕ) → op none a ≡ a) (right : (a : ℕ) → op a none ≡ a)
+    (empty : total [] ≡ none) (more : (w : ℕ) (ws : List ℕ) → total (w ∷ ws) ≡ op (f w) (total ws)) where
+  total-more : (ws : List ℕ) (i : ℕ) → i < length ws → total (take (suc i) ws) ≡ op (total (take i ws)) (f (getD ws i 0))
+  total-more [] i h = absurd (omega arith)
+  total-more (w ∷ ws) zero h = more w [] ∙ ap (op (f w)) empty ∙ right (f w) ∙ sym (ap (λ (x : ℕ). op x (f w)) empty ∙ left (f w))
+  total-more (w ∷ ws) (suc i) h =
+      more w (take (suc i) ws)
+      ∙ ap (op (f w)) (total-more ws i (omega arith))
+      ∙ sym (assoc (f w) (total (take i ws)) (f (getD ws i 0)))
+      ∙ ap (λ (x : ℕ). op x (f (getD ws i 0))) (sym (more w (take i ws)))
+
+module _ (ws : List ℕ) where
+  pub union-none : union (take 0 ws) ≡ 0
+  unfolding union
+  union-none = refl
+
+  pub strays-none : strays (take 0 ws) ≡ 0
+  unfolding strays
+  strays-none = refl
+
+  pub leaves-none : leaves (take 0 ws) ≡ 0
+  unfolding leaves
+  leaves-none = refl
+
+  pub links-none : links (take 0 ws) ≡ 0
+  unfolding links
+  links-none = refl
+
+module _ (ws : List ℕ) (i : ℕ) (h : i < length ws) where
+  pub union-more : union (take (i + 1) ws) ≡ bitOr (union (take i ws)) (getD ws i 0)
+  unfolding union
+  union-more = rw add-one (total-more bitOr 0 (λ w. w) union or-assoc (λ a. refl) or-zero-r refl (λ w ws. refl) ws i h)
+
+  pub strays-more : strays (take (i + 1) ws) ≡ bitOr (strays (take i ws)) (bitAnd (getD ws i 0) (2 ^ 64 - 1 - getD ws i 0 / 2))
+  unfolding strays
+  strays-more = rw add-one (total-more bitOr 0 (λ w. bitAnd w (2 ^ 64 - 1 - w / 2)) strays or-assoc (λ a. refl) or-zero-r refl (λ w ws. refl) ws i h)
+
+  pub leaves-more : leaves (take (i + 1) ws) ≡ bitOr (leaves (take i ws)) (cond (eqb (getD ws i 0 % 4) 3) 0 (getD ws i 0))
+  unfolding leaves
+  leaves-more = rw add-one (total-more bitOr 0 (λ w. cond (eqb (w % 4) 3) 0 w) leaves or-assoc (λ a. refl) or-zero-r refl (λ w ws. refl) ws i h)
+
+  pub links-more : links (take (i + 1) ws) ≡ links (take i ws) + cond (eqb (getD ws i 0 % 4) 3) 1 0
+  unfolding links
+  links-more = rw add-one (total-more _+_ 0 (λ w. cond (eqb (w % 4) 3) 1 0) links add-assoc zero-add add-zero refl (λ w ws. refl) ws i h)

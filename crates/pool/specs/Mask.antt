@@ -9,18 +9,18 @@ use native.Mathlib.Nat.{zero-add, add-zero, add-assoc}
 use native.Mathlib.Numerals.{add-one}
 use native.Mathlib.Omega.{arith}
 use lib.Bits.{bitAnd, bitOr, and-high, and-mask, and-le-l, or-lt, or-zero-r}
-use lib.Dec.{T, eqb, eqb→eq, ltb, ltb→lt, lit<}
+use lib.Dec.{T, eqb, eqb→eq, ltb, ltb→lt, lt→ltb, lit<}
 use lib.Pow.{shr-mod, shr-shr, shl-shr, field}
-use lib.ListN.{length, getD, take}
-use borrow.Author.Tests.{eq-eqb, ne-eqb, lt-ltb, le-ltb}
-use Rattle.laws.specs.Bit.{Sub, sub-or, sub-parts, and-assoc, and-swap, and-add, and-odd, or-none, or-assoc, or-aligned}
-use Rattle.laws.specs.Size.{sizeAt, down, down-rest, down-le}
+use lib.ListN.{length, getD, take, length-take}
+use lib.Seq.{getD-take}
+use borrow.Author.Tests.{eq-eqb, ne-eqb, lt-ltb}
+use Rattle.laws.specs.Bit.{sub-or, sub-parts, and-assoc, and-swap, and-add, and-odd, or-none, or-assoc, or-aligned}
+use Rattle.laws.specs.Size.{sizeAt, down, down-rest, down-le, size-low}
 use Rattle.laws.specs.Test.{eqb-cases, same-test, and-l, and-r, and-i, eq→eqb}
 use Rattle.entry.specs.Word.{addressOf, only, el1Flags}
 use Rattle.pool.specs.Number.{levelOf}
 use Rattle.pool.specs.Sound.{plainFlags, fits, leafb, refersb}
 use Rattle.pool.specs.Stream.{passesb, passAll, linkCount, countAll, runOf, allowedAt, union, strays, leaves, links}
-use Rattle.pool.specs.declared.Run.{Run}
 use Rattle.pool.specs.declared.Run.the-variants.{Passed, Failed}
 
 -- ---- flag sets
@@ -58,11 +58,11 @@ mask-sizes w level =
     ap (λ (x : ℕ). bitAnd w (2 ^ x - k)) all
     ∙ and-high w j (12 + c)
     ∙ ap (λ (x : ℕ). x * k)
-        (ap (λ (x : ℕ). x % 2 ^ j) (sym (shr-shr w 12 c))
-        ∙ sym (field (w / 2 ^ 12) j c)
-        ∙ ap (λ (x : ℕ). w / 2 ^ 12 % 2 ^ x / 2 ^ c) (sym pages)
-        ∙ ap (λ (x : ℕ). x / 2 ^ c) (sym (shl-shr (w / 2 ^ 12 % 2 ^ 36) 12))
-        ∙ shr-shr (w / 2 ^ 12 % 2 ^ 36 * 2 ^ 12) 12 c)
+    (ap (λ (x : ℕ). x % 2 ^ j) (sym (shr-shr w 12 c))
+    ∙ sym (field (w / 2 ^ 12) j c)
+    ∙ ap (λ (x : ℕ). w / 2 ^ 12 % 2 ^ x / 2 ^ c) (sym pages)
+    ∙ ap (λ (x : ℕ). x / 2 ^ c) (sym (shl-shr (w / 2 ^ 12 % 2 ^ 36) 12))
+    ∙ shr-shr (w / 2 ^ 12 % 2 ^ 36 * 2 ^ 12) 12 c)
 
 -- a word is its flags without bit 1, bit 1, and its address
 word-parts : (w : ℕ) → w ≡ plainFlags w + w / 2 % 2 * 2 + addressOf w
@@ -79,17 +79,24 @@ set-plain set plain = let parts = word-parts set in omega arith
 
 -- ---- one word
 
-lt→ltb : (a b : ℕ) → a < b → T (ltb a b)
-lt→ltb a b h = rw (lt-ltb a b h) tt
+-- an equation that says as much as one, two or three others, as tests
+eqb-one : (a b c d : ℕ) → (a ≡ b → c ≡ d) → (c ≡ d → a ≡ b) → eqb a b ≡ eqb c d
+eqb-one a b c d there back = same-test (eqb a b) (eqb c d) (λ t. eq→eqb c d (there (eqb→eq a b t))) (λ t. eq→eqb a b (back (eqb→eq c d t)))
 
--- an equation that says three things, as tests
-same-three : (a b s p z : ℕ) (low : Bool) → (a ≡ b → (s ≡ p) × (T low) × (z ≡ 0)) → (s ≡ p → T low → z ≡ 0 → a ≡ b)
-    → eqb a b ≡ eqb s p && (low && eqb z 0)
-same-three a b s p z low there back =
-    same-test (eqb a b) (eqb s p && (low && eqb z 0))
-      (λ t. let h = there (eqb→eq a b t) in and-i (eqb s p) (low && eqb z 0) (eq→eqb s p (h .0)) (and-i low (eqb z 0) (h .1) (eq→eqb z 0 (h .2))))
-      (λ t. let u = and-r (eqb s p) (low && eqb z 0) t in
-        eq→eqb a b (back (eqb→eq s p (and-l (eqb s p) (low && eqb z 0) t)) (and-l low (eqb z 0) u) (eqb→eq z 0 (and-r low (eqb z 0) u))))
+eqb-two : (a b c d e f : ℕ) → (a ≡ b → (c ≡ d) × (e ≡ f)) → (c ≡ d → e ≡ f → a ≡ b) → eqb a b ≡ eqb c d && eqb e f
+eqb-two a b c d e f there back =
+    same-test (eqb a b) (eqb c d && eqb e f)
+    (λ t. let h = there (eqb→eq a b t) in and-i (eqb c d) (eqb e f) (eq→eqb c d (h .0)) (eq→eqb e f (h .1)))
+    (λ t. eq→eqb a b (back (eqb→eq c d (and-l (eqb c d) (eqb e f) t)) (eqb→eq e f (and-r (eqb c d) (eqb e f) t))))
+
+eqb-three : (a b c d e f : ℕ) (low : Bool) → (a ≡ b → (c ≡ d) × (T low) × (e ≡ f)) → (c ≡ d → T low → e ≡ f → a ≡ b)
+    → eqb a b ≡ eqb c d && (low && eqb e f)
+eqb-three a b c d e f low there back =
+    let rest = low && eqb e f in
+    same-test (eqb a b) (eqb c d && rest)
+    (λ t. let h = there (eqb→eq a b t) in and-i (eqb c d) rest (eq→eqb c d (h .0)) (and-i low (eqb e f) (h .1) (eq→eqb e f (h .2))))
+    (λ t. let u = and-r (eqb c d) rest t in
+    eq→eqb a b (back (eqb→eq c d (and-l (eqb c d) rest t)) (and-l low (eqb e f) u) (eqb→eq e f (and-r low (eqb e f) u))))
 
 module _ (set w : ℕ) (plain : PlainSet set) (word : w < 2 ^ 64) where
   -- the flags of the set are among the flags without bit 1
@@ -134,9 +141,9 @@ module _ (set w : ℕ) (plain : PlainSet set) (word : w < 2 ^ 64) where
       let parts = word-parts w in
       let flags = and-le-l (plainFlags w) set in
       let rest = down-rest (addressOf w) (sizeAt level) in
-      same-three (bitAnd w (set + (2 ^ 48 - sizeAt level))) w (bitAnd (plainFlags w) set) (plainFlags w) (addressOf w % sizeAt level) (ltb (w % 4) 2)
-        (λ e. (omega arith, lt→ltb (w % 4) 2 (omega arith), omega arith))
-        (λ e t z. let l = ltb→lt (w % 4) 2 t in omega arith)
+      eqb-three (bitAnd w (set + (2 ^ 48 - sizeAt level))) w (bitAnd (plainFlags w) set) (plainFlags w) (addressOf w % sizeAt level) 0 (ltb (w % 4) 2)
+      (λ e. (omega arith, lt→ltb (w % 4) 2 (omega arith), omega arith))
+      (λ e t z. let l = ltb→lt (w % 4) 2 t in omega arith)
 
   zero-word : only (allowedAt set 0) w ≡ only set (plainFlags w) && (eqb (w % 4) 0 && eqb (addressOf w) 0)
   unfolding only
@@ -145,9 +152,9 @@ module _ (set w : ℕ) (plain : PlainSet set) (word : w < 2 ^ 64) where
       let parts = word-parts w in
       let flags = and-le-l (plainFlags w) set in
       let halves = shr-shr w 1 1 in
-      same-three (bitAnd w (allowedAt set 0)) w (bitAnd (plainFlags w) set) (plainFlags w) (addressOf w) (eqb (w % 4) 0)
-        (λ e. (omega arith, eq→eqb (w % 4) 0 (omega arith), omega arith))
-        (λ e t z. let l = eqb→eq (w % 4) 0 t in omega arith)
+      eqb-three (bitAnd w (allowedAt set 0)) w (bitAnd (plainFlags w) set) (plainFlags w) (addressOf w) 0 (eqb (w % 4) 0)
+      (λ e. (omega arith, eq→eqb (w % 4) 0 (omega arith), omega arith))
+      (λ e t z. let l = eqb→eq (w % 4) 0 t in omega arith)
 
   -- levels 0, 1 and 2
   pub leaf-word : (level : ℕ) → level < 3 → only (allowedAt set level) w ≡ leafb set level w
@@ -162,9 +169,7 @@ module _ (set w : ℕ) (plain : PlainSet set) (word : w < 2 ^ 64) where
   only-page =
       let sum = and-allowed-3 in
       let parts = word-parts w in
-      same-test (eqb (bitAnd w (allowedAt set 3)) w) (eqb (bitAnd (plainFlags w) set) (plainFlags w))
-        (λ t. eq→eqb (bitAnd (plainFlags w) set) (plainFlags w) (let e = eqb→eq (bitAnd w (allowedAt set 3)) w t in omega arith))
-        (λ t. eq→eqb (bitAnd w (allowedAt set 3)) w (let e = eqb→eq (bitAnd (plainFlags w) set) (plainFlags w) t in omega arith))
+      eqb-one (bitAnd w (allowedAt set 3)) w (bitAnd (plainFlags w) set) (plainFlags w) (λ e. omega arith) (λ e. omega arith)
 
   -- level 3
   pub page-word : only (allowedAt set 3) w && not (eqb (w % 4) 1) ≡ leafb set 3 w
@@ -176,13 +181,7 @@ module _ (set w : ℕ) (plain : PlainSet set) (word : w < 2 ^ 64) where
 -- a union has only allowed bits where both words have
 pub only-or : (m a b : ℕ) → only m (bitOr a b) ≡ only m a && only m b
 unfolding only
-only-or m a b =
-    same-test (eqb (bitAnd (bitOr a b) m) (bitOr a b)) (eqb (bitAnd a m) a && eqb (bitAnd b m) b)
-      (λ t. let p = sub-parts a b m (eqb→eq (bitAnd (bitOr a b) m) (bitOr a b) t) in
-        and-i (eqb (bitAnd a m) a) (eqb (bitAnd b m) b) (eq→eqb (bitAnd a m) a (p .0)) (eq→eqb (bitAnd b m) b (p .1)))
-      (λ t. eq→eqb (bitAnd (bitOr a b) m) (bitOr a b) (sub-or a b m
-        (eqb→eq (bitAnd a m) a (and-l (eqb (bitAnd a m) a) (eqb (bitAnd b m) b) t))
-        (eqb→eq (bitAnd b m) b (and-r (eqb (bitAnd a m) a) (eqb (bitAnd b m) b) t))))
+only-or m a b = eqb-two (bitAnd (bitOr a b) m) (bitOr a b) (bitAnd a m) a (bitAnd b m) b (sub-parts a b m) (sub-or a b m)
 
 only-zero : (m : ℕ) → only m 0 ≡ true
 unfolding only
@@ -190,10 +189,7 @@ only-zero m = refl
 
 -- a union is 0 where both words are
 zero-or : (a b : ℕ) → eqb (bitOr a b) 0 ≡ eqb a 0 && eqb b 0
-zero-or a b =
-    same-test (eqb (bitOr a b) 0) (eqb a 0 && eqb b 0)
-      (λ t. let p = or-none a b (eqb→eq (bitOr a b) 0 t) in and-i (eqb a 0) (eqb b 0) (eq→eqb a 0 (p .0)) (eq→eqb b 0 (p .1)))
-      (λ t. eq→eqb (bitOr a b) 0 (ap₂ bitOr (eqb→eq a 0 (and-l (eqb a 0) (eqb b 0) t)) (eqb→eq b 0 (and-r (eqb a 0) (eqb b 0) t))))
+zero-or a b = eqb-two (bitOr a b) 0 a 0 b 0 (or-none a b) (λ p q. ap₂ bitOr p q)
 
 even-or : (a b : ℕ) → eqb (bitOr a b % 2) 0 ≡ eqb (a % 2) 0 && eqb (b % 2) 0
 even-or a b = ap (λ (x : ℕ). eqb x 0) (sym (and-mask (bitOr a b) 1)) ∙ or-aligned 1 a b
@@ -275,8 +271,8 @@ module _ (set y level : ℕ) (plain : PlainSet set) (some : 0 < y) (at : levelOf
   unfolding passesb refersb
   passes-leaf w h =
       rw (ne-eqb y 0 (λ e. omega arith), at, lt-ltb level 3 high)
-        (ap (λ (b : Bool). cond (eqb (w % 4) 3) true b) (sym (leaf-word set w plain h level high))
-        ∙ sym (only-cond (allowedAt set level) w (eqb (w % 4) 3)))
+      (ap (λ (b : Bool). cond (eqb (w % 4) 3) true b) (sym (leaf-word set w plain h level high))
+      ∙ sym (only-cond (allowedAt set level) w (eqb (w % 4) 3)))
 
   pub links-pass : (ws : List ℕ) → Words ws → passAll set y ws ≡ only (allowedAt set level) (leaves ws)
   unfolding leaves passAll
@@ -343,3 +339,62 @@ module _ (ws : List ℕ) (i : ℕ) (h : i < length ws) where
   pub links-more : links (take (i + 1) ws) ≡ links (take i ws) + cond (eqb (getD ws i 0 % 4) 3) 1 0
   unfolding links
   links-more = rw add-one (total-more _+_ 0 (λ w. cond (eqb (w % 4) 3) 1 0) links add-assoc zero-add add-zero refl (λ w ws. refl) ws i h)
+
+  -- a table word is counted, any other is joined
+  pub leaves-table : getD ws i 0 % 4 ≡ 3 → leaves (take (i + 1) ws) ≡ leaves (take i ws)
+  leaves-table e = leaves-more ∙ rw e (or-zero-r (leaves (take i ws)))
+
+  pub leaves-leaf : getD ws i 0 % 4 ≢ 3 → leaves (take (i + 1) ws) ≡ bitOr (leaves (take i ws)) (getD ws i 0)
+  leaves-leaf n = leaves-more ∙ rw (ne-eqb (getD ws i 0 % 4) 3 n)
+
+  pub links-table : getD ws i 0 % 4 ≡ 3 → links (take (i + 1) ws) ≡ links (take i ws) + 1
+  links-table e = links-more ∙ rw e
+
+  pub links-leaf : getD ws i 0 % 4 ≢ 3 → links (take (i + 1) ws) ≡ links (take i ws)
+  links-leaf n = links-more ∙ rw (ne-eqb (getD ws i 0 % 4) 3 n) (add-zero (links (take i ws)))
+
+-- ---- bounds
+
+pub words-take : (ws : List ℕ) (n : ℕ) → Words ws → Words (take n ws)
+words-take ws n words i h =
+    let l = length-take n ws in
+    rw (getD-take n ws i 0 (omega arith)) (words i (omega arith))
+
+pub union-below : (ws : List ℕ) → Words ws → union ws < 2 ^ 64
+unfolding union
+union-below [] words = lit< tt
+union-below (w ∷ ws) words = or-lt 64 w (union ws) (words 0 (omega arith)) (union-below ws (λ i l. words (suc i) (omega arith)))
+
+pub strays-below : (ws : List ℕ) → Words ws → strays ws < 2 ^ 64
+unfolding strays
+strays-below [] words = lit< tt
+strays-below (w ∷ ws) words =
+    let word : w < 2 ^ 64 = words 0 (omega arith) in
+    let part = and-le-l w (2 ^ 64 - 1 - w / 2) in
+    or-lt 64 (bitAnd w (2 ^ 64 - 1 - w / 2)) (strays ws) (omega arith) (strays-below ws (λ i l. words (suc i) (omega arith)))
+
+pub leaves-below : (ws : List ℕ) → Words ws → leaves ws < 2 ^ 64
+unfolding leaves
+leaves-below [] words = lit< tt
+leaves-below (w ∷ ws) words =
+    or-lt 64 (cond (eqb (w % 4) 3) 0 w) (leaves ws) (part (eqb (w % 4) 3)) (leaves-below ws (λ i l. words (suc i) (omega arith)))
+  where
+    part : (b : Bool) → cond b 0 w < 2 ^ 64
+    part true = lit< tt
+    part false = words 0 (omega arith)
+
+pub links-below : (ws : List ℕ) → links ws ≤ length ws
+unfolding links
+links-below [] = omega arith
+links-below (w ∷ ws) = let r = links-below ws in one (eqb (w % 4) 3) r
+  where
+    one : (b : Bool) → links ws ≤ length ws → cond b 1 0 + links ws ≤ suc (length ws)
+    one true r = omega arith
+    one false r = omega arith
+
+pub allowed-below : (set level : ℕ) → PlainSet set → allowedAt set level < 2 ^ 64
+unfolding allowedAt
+allowed-below set zero plain = let part = and-le-l set (2 ^ 64 - 2) in omega arith
+allowed-below set (suc zero) plain = let pages = shr-shr set 12 36 in let low = size-low 1 in omega arith
+allowed-below set (suc (suc zero)) plain = let pages = shr-shr set 12 36 in let low = size-low 2 in omega arith
+allowed-below set (suc (suc (suc l))) plain = let pages = shr-shr set 12 36 in omega arith

@@ -5,3 +5,4 @@ pub mod Table
 pub mod Refuse
 pub mod Sound
 pub mod Stream
+pub mod Counted

@@ -7,6 +7,7 @@ use mathlib.Core.List.{List, [], _∷_}
 use mathlib.Core.Logic.{_⊎_, inl, inr, _≢_}
 use Prim.Native.Nat.{ℕ, zero, suc, _+_, _*_, _-_, _/_, _%_, _^_, _≤_, _<_}
 use native.Mathlib.Nat.{zero-add, add-assoc}
+use borrow.Author.Tests.{eq-eqb, ne-eqb, lt-ltb}
 use native.Mathlib.Omega.{arith}
 use lib.Dec.{T, eqb, eqb→eq, leb, leb→le, le→leb, ltb, ltb→lt, lt→ltb}
 use lib.ListN.{length, getD, drop, List·getD-eq-default}
@@ -16,10 +17,11 @@ use Rattle.laws.specs.Sum.{sum, sum-ext, sum-none, sum-one, sum-add, sum-swap, 
 use Rattle.laws.specs.Test.{byBool, eq-or, le-or, and-l, and-r, and-i, or-e, cond-true, cond-false, cond-of, eq→eqb, same-test, is-true, allBelow, all-to, all-of, allFrom, from-to, from-of}
 use Rattle.entry.specs.Word.{addressOf, linkOf, link-once, link-address, link-low}
 use Rattle.pool.specs.State.{St, tables, wordAt, numberAt}
-use Rattle.pool.specs.Number.{rootNumber, levelOf, parentOf, slotOf, used}
+use Rattle.pool.specs.Number.{Names, rootNumber, levelOf, parentOf, slotOf, used}
 use Rattle.pool.specs.Refuse.{maxTables, shaped}
 use Rattle.pool.specs.Sound.{flagSet, leafb, namesb, hangsb, tableb, linkb, refersb, slotb, soundb}
 use Rattle.pool.specs.Stream.{passesb, passAll, linkCount, countAll, runWords, runPasses, runLinks, tablePasses, tableLinks, streamb}
+use Rattle.pool.specs.Row.{wordIn, numberIn, linkIn, passIn, used-sum, all-links, runs-to, runs-of}
 use Rattle.pool.specs.declared.Handle.{Handle}
 
 -- ---- the parts of a pool's shape
@@ -58,78 +60,105 @@ module _ (h : Handle) (s : St) (t : shaped h s ≡ true) where
   pub shaped-level : h .level ≤ 3
   shaped-level = leb→le (h .level) 3 (parts .5)
 
--- ---- a run of words, index by index
+-- ---- a slot's test, and the test of a run's word
 
-pub pass-all-to : (set y : ℕ) (ws : List ℕ) → T (passAll set y ws) → (i : ℕ) → i < length ws → T (passesb set y (getD ws i 0))
-unfolding passAll
-pass-all-to set y [] t i h = absurd (omega arith)
-pass-all-to set y (w ∷ ws) t zero h = and-l (passesb set y w) (passAll set y ws) t
-pass-all-to set y (w ∷ ws) t (suc i) h = pass-all-to set y ws (and-r (passesb set y w) (passAll set y ws) t) i (omega arith)
+module _ (h : Handle) (s : St) (k i w : ℕ) where
+  pub slot-passes : T (slotb h s k i w) → T (passesb (flagSet h) (numberAt s k) w)
+  unfolding slotb passesb
+  slot-passes t = go (eqb (numberAt s k) 0) (refersb (numberAt s k) w) t
+    where
+      go : (a b : Bool) → T (cond a (eqb w 0) (cond b (linkb (h .base .0) s k i w) (leafb (flagSet h) (levelOf (numberAt s k)) w)))
+          → T (cond a (eqb w 0) (cond b true (leafb (flagSet h) (levelOf (numberAt s k)) w)))
+      go true b t = t
+      go false true t = tt
+      go false false t = t
 
-pub pass-all-of : (set y : ℕ) (ws : List ℕ) → ((i : ℕ) → i < length ws → T (passesb set y (getD ws i 0))) → T (passAll set y ws)
-unfolding passAll
-pass-all-of set y [] h = tt
-pass-all-of set y (w ∷ ws) h = and-i (passesb set y w) (passAll set y ws) (h 0 (omega arith)) (pass-all-of set y ws (λ i l. h (suc i) (omega arith)))
+  pub slot-links : T (slotb h s k i w) → 0 < linkCount (numberAt s k) w → T (linkb (h .base .0) s k i w)
+  unfolding slotb linkCount
+  slot-links t l = go (eqb (numberAt s k) 0) (refersb (numberAt s k) w) t l
+    where
+      go : (a b : Bool) → T (cond a (eqb w 0) (cond b (linkb (h .base .0) s k i w) (leafb (flagSet h) (levelOf (numberAt s k)) w)))
+          → 0 < cond a 0 (cond b 1 0) → T (linkb (h .base .0) s k i w)
+      go true b t l = absurd (omega arith)
+      go false true t l = t
+      go false false t l = absurd (omega arith)
 
-pub count-all : (y : ℕ) (ws : List ℕ) → countAll y ws ≡ sum (length ws) (λ i. linkCount y (getD ws i 0))
-unfolding countAll sum
-count-all y [] = refl
-count-all y (w ∷ ws) = let r = count-all y ws in let t = sum-shift (length ws) (λ i. linkCount y (getD (w ∷ ws) i 0)) in omega arith
+  pub slot-of : T (passesb (flagSet h) (numberAt s k) w) → (0 < linkCount (numberAt s k) w → T (linkb (h .base .0) s k i w)) → T (slotb h s k i w)
+  unfolding slotb passesb linkCount
+  slot-of t f = go (eqb (numberAt s k) 0) (refersb (numberAt s k) w) t f
+    where
+      go : (a b : Bool) → T (cond a (eqb w 0) (cond b true (leafb (flagSet h) (levelOf (numberAt s k)) w)))
+          → (0 < cond a 0 (cond b 1 0) → T (linkb (h .base .0) s k i w))
+          → T (cond a (eqb w 0) (cond b (linkb (h .base .0) s k i w) (leafb (flagSet h) (levelOf (numberAt s k)) w)))
+      go true b t f = t
+      go false true t f = f (omega arith)
+      go false false t f = t
 
--- the used tables of a ledger, counted
-pub used-sum : (l : List ℕ) → used l ≡ sum (length l) (λ k. tally (ltb 0 (getD l k 0)))
-unfolding used sum
-used-sum [] = refl
-used-sum (zero ∷ l) =
-    let r = used-sum l in
-    let t = sum-shift (length l) (λ k. tally (ltb 0 (getD (zero ∷ l) k 0))) in
-    let e : tally (ltb 0 zero) ≡ 0 = tally-no (ltb 0 zero) (λ z. z) in
-    omega arith
-used-sum (suc x ∷ l) =
-    let r = used-sum l in
-    let t = sum-shift (length l) (λ k. tally (ltb 0 (getD (suc x ∷ l) k 0))) in
-    let e : tally (ltb 0 (suc x)) ≡ 1 = tally-yes (ltb 0 (suc x)) (lt→ltb 0 (suc x) (omega arith)) in
-    omega arith
+link-most : (y w : ℕ) → linkCount y w ≤ 1
+unfolding linkCount
+link-most y w = go (eqb y 0) (refersb y w)
+  where
+    go : (a b : Bool) → cond a 0 (cond b 1 0) ≤ 1
+    go true b = omega arith
+    go false true = omega arith
+    go false false = omega arith
 
--- ---- the pool's words in one row: the word at x stands in slot x % 512 of table x / 512
+link-one : (y w : ℕ) → 0 < y → levelOf y < 3 → w % 4 ≡ 3 → linkCount y w ≡ 1
+unfolding linkCount refersb
+link-one y w u l e = rw (ne-eqb y 0 (λ z. omega arith), lt-ltb (levelOf y) 3 l, eq-eqb (w % 4) 3 e)
 
-abbrev pub wordIn : St → ℕ → ℕ
-wordIn s x = getD (s .words) x 0
+-- ---- hanging tables: the place that a table's number names holds the link to it
 
--- the number of its table
-abbrev pub numberIn : St → ℕ → ℕ
-numberIn s x = numberAt s (x / 512)
+-- the place of slot `slotOf z` of table `parentOf z` in the row of words
+abbrev placeOf : ℕ → ℕ
+placeOf z = 512 * parentOf z + slotOf z
 
--- 1 for a table word of a used table
-unfoldable pub linkIn : St → ℕ → ℕ
-linkIn s x = linkCount (numberIn s x) (wordIn s x)
+names-to : (z : ℕ) → T (namesb z) → Names z
+unfolding namesb
+names-to z t = record { kind = leb→le 4 (z % 8) (and-l (leb 4 (z % 8)) (leb 1 (z / 8)) t); some = leb→le 1 (z / 8) (and-r (leb 4 (z % 8)) (leb 1 (z / 8)) t) }
 
-part-at : (a k : ℕ) (l : List ℕ) (i : ℕ) → i < k → getD (partOf a k l) i 0 ≡ getD l (a + i) 0
-part-at a k l i h = getD-take k (drop a l) i 0 h ∙ getD-drop a l i 0
+record Hangs (base : ℕ) (s : St) (k : ℕ) : Type 0 where
+  named : T (namesb (numberAt s k))
+  under : levelOf (numberAt s k) ≡ suc (levelOf (numberAt s (parentOf (numberAt s k))))
+  parent : 0 < numberAt s (parentOf (numberAt s k))
+  says : wordIn s (placeOf (numberAt s k)) ≡ linkOf base k
 
-module _ (s : St) (sized : length (s .words) ≡ 512 * tables s) where
-  run-length : (k r : ℕ) → k < tables s → r < 4 → length (runWords s k r) ≡ 128
-  run-length k r h l = length-part (512 * k + 128 * r) 128 (s .words) (omega arith)
+hangs-to : (base : ℕ) (s : St) (k : ℕ) → T (hangsb base s k) → Hangs base s k
+unfolding hangsb
+hangs-to base s k t = record {
+  named = and-l a (b && (c && d)) t;
+  under = eqb→eq (levelOf x) (suc (levelOf y)) (and-l b (c && d) t₂);
+  parent = ltb→lt 0 y (and-l c d t₃);
+  says = eqb→eq (wordAt s (parentOf x) (slotOf x)) (linkOf base k) (and-r c d t₃);
+}
+  where
+    x : ℕ
+    x = numberAt s k
 
-  run-word : (k r i : ℕ) → i < 128 → getD (runWords s k r) i 0 ≡ wordIn s (512 * k + 128 * r + i)
-  run-word k r i h = part-at (512 * k + 128 * r) 128 (s .words) i h
+    y : ℕ
+    y = numberAt s (parentOf x)
 
-  run-number : (k r i : ℕ) → r < 4 → i < 128 → numberIn s (512 * k + 128 * r + i) ≡ numberAt s k
-  run-number k r i l h = ap (numberAt s) (let e : (512 * k + 128 * r + i) / 512 ≡ k = omega arith in e)
+    a : Bool
+    a = namesb x
 
-  run-links : (k r : ℕ) → k < tables s → r < 4 → runLinks s k r ≡ sum 128 (λ i. linkIn s (512 * k + 128 * r + i))
-  unfolding runLinks linkIn
-  run-links k r h l =
-      count-all (numberAt s k) (runWords s k r) ∙ ap (λ (m : ℕ). sum m (λ i. linkCount (numberAt s k) (getD (runWords s k r) i 0))) (run-length k r h l)
-      ∙ sum-ext 128 (λ i. linkCount (numberAt s k) (getD (runWords s k r) i 0)) (λ i. linkIn s (512 * k + 128 * r + i))
-      (λ i m. rw (run-word k r i m, run-number k r i l m))
+    b : Bool
+    b = eqb (levelOf x) (suc (levelOf y))
 
-  table-links : (k : ℕ) → k < tables s → tableLinks s k ≡ sum 512 (λ i. linkIn s (512 * k + i))
-  unfolding tableLinks
-  table-links k h =
-      sum-ext 4 (runLinks s k) (λ r. sum 128 (λ i. linkIn s (512 * k + 128 * r + i))) (λ r l. run-links k r h l)
-      ∙ sum-ext 4 (λ r. sum 128 (λ i. linkIn s (512 * k + 128 * r + i))) (λ r. sum 128 (λ i. linkIn s (512 * k + (128 * r + i)))) (λ r l. simp (add-assoc))
-      ∙ sym (sum-pieces 4 128 (λ i. linkIn s (512 * k + i)))
+    c : Bool
+    c = ltb 0 y
 
-  pub all-links : sum (tables s) (tableLinks s) ≡ sum (512 * tables s) (linkIn s)
-  all-links = sum-ext (tables s) (tableLinks s) (λ k. sum 512 (λ i. linkIn s (512 * k + i))) table-links ∙ sym (sum-pieces (tables s) 512 (linkIn s))
+    d : Bool
+    d = eqb (wordAt s (parentOf x) (slotOf x)) (linkOf base k)
+
+    t₂ : T (b && (c && d))
+    t₂ = and-r a (b && (c && d)) t
+
+    t₃ : T (c && d)
+    t₃ = and-r b (c && d) t₂
+
+used-in : (s : St) (k : ℕ) → 0 < numberAt s k → k < tables s
+used-in s k u = go (le-or (tables s) k)
+  where
+    go : (tables s ≤ k) ⊎ (k < tables s) → k < tables s
+    go (inl l) = absurd (omega (arith, u, List·getD-eq-default (s .ledger) 0 l))
+    go (inr l) = l

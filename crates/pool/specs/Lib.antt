@@ -5,4 +5,5 @@ pub mod Table
 pub mod Refuse
 pub mod Sound
 pub mod Stream
+pub mod Row
 pub mod Counted

@@ -6,4 +6,5 @@ pub mod Refuse
 pub mod Sound
 pub mod Stream
 pub mod Row
+pub mod Named
 pub mod Counted

@@ -108,7 +108,7 @@ unfolding sum
 sum-mono zero f g h = omega arith
 sum-mono (suc n) f g h = let r = sum-mono n f g (λ i l. h i (omega arith)) in let t = h n (omega arith) in omega arith
 
--- no summand is less, and the sums are equal: then so is each summand
+-- no summand of f is more than that of g, and the sum of f is no less: then each summand is the same
 pub sum-tight : (n : ℕ) (f g : ℕ → ℕ) → ((i : ℕ) → i < n → f i ≤ g i) → sum n g ≤ sum n f → (i : ℕ) → i < n → f i ≡ g i
 unfolding sum
 sum-tight zero f g h e i l = absurd (omega arith)

@@ -1,8 +1,11 @@
 -- Sums over the numbers below n: of slots, of tables. Assumes nothing.
 use mathlib.Core.Path.{_≡_, refl, sym, _∙_}
+use mathlib.Core.Bool.{Bool, true, false}
 use mathlib.Core.Logic.{_⊎_, inl, inr, _≢_}
-use Prim.Native.Nat.{ℕ, zero, suc, _+_, _≤_, _<_}
+use Prim.Native.Nat.{ℕ, zero, suc, _+_, _*_, _≤_, _<_}
+use native.Mathlib.Nat.{add-zero, add-suc, mul-zero, mul-suc}
 use native.Mathlib.Omega.{arith}
+use lib.Dec.{T}
 use Rattle.laws.specs.Test.{eq-or}
 
 unfoldable pub sum : ℕ → (ℕ → ℕ) → ℕ
@@ -61,3 +64,71 @@ pub sum-shift : (n : ℕ) (f : ℕ → ℕ) → sum (suc n) f ≡ f 0 + sum n (�
 unfolding sum
 sum-shift zero f = omega arith
 sum-shift (suc n) f = let r = sum-shift n f in omega arith
+
+-- ---- counting: 1 where a test holds, 0 where it doesn't
+
+unfoldable pub tally : Bool → ℕ
+tally true = 1
+tally false = 0
+
+pub tally-yes : (b : Bool) → T b → tally b ≡ 1
+unfolding tally
+tally-yes true t = refl
+tally-yes false t = absurd t
+
+pub tally-no : (b : Bool) → ¬ (T b) → tally b ≡ 0
+unfolding tally
+tally-no true n = absurd (n tt)
+tally-no false n = refl
+
+pub tally-says : (b : Bool) → 0 < tally b → T b
+unfolding tally
+tally-says true h = tt
+tally-says false h = absurd (omega arith)
+
+-- ---- a sum is 0, or a summand is not; a summand is no more than the sum
+
+pub sum-some : (n : ℕ) (f : ℕ → ℕ) → (sum n f ≡ 0) ⊎ ((j : ℕ) × (j < n) × (0 < f j))
+unfolding sum
+sum-some zero f = inl refl
+sum-some (suc n) f = go (sum-some n f) (eq-or (f n) 0)
+  where
+    go : (sum n f ≡ 0) ⊎ ((j : ℕ) × (j < n) × (0 < f j)) → (f n ≡ 0) ⊎ (f n ≢ 0) → (sum n f + f n ≡ 0) ⊎ ((j : ℕ) × (j < suc n) × (0 < f j))
+    go (inl e) (inl z) = inl (omega arith)
+    go (inl e) (inr z) = inr (n, omega arith, omega arith)
+    go (inr p) t = inr (p .0, omega (arith, p .1), p .2)
+
+pub sum-at : (n : ℕ) (f : ℕ → ℕ) (j : ℕ) → j < n → f j ≤ sum n f
+sum-at n f j h = let r = sum-le j n f h in omega arith
+
+-- ---- summand by summand
+
+pub sum-mono : (n : ℕ) (f g : ℕ → ℕ) → ((i : ℕ) → i < n → f i ≤ g i) → sum n f ≤ sum n g
+unfolding sum
+sum-mono zero f g h = omega arith
+sum-mono (suc n) f g h = let r = sum-mono n f g (λ i l. h i (omega arith)) in let t = h n (omega arith) in omega arith
+
+-- no summand of f is more than that of g, and the sum of f is no less: then each summand is the same
+pub sum-tight : (n : ℕ) (f g : ℕ → ℕ) → ((i : ℕ) → i < n → f i ≤ g i) → sum n g ≤ sum n f → (i : ℕ) → i < n → f i ≡ g i
+unfolding sum
+sum-tight zero f g h e i l = absurd (omega arith)
+sum-tight (suc n) f g h e i l =
+    let r = sum-mono n f g (λ j m. h j (omega arith)) in
+    let t = h n (omega arith) in
+    go (λ m. sum-tight n f g (λ j q. h j (omega arith)) (omega arith) i m) (omega arith) (eq-or i n)
+  where
+    go : (i < n → f i ≡ g i) → f n ≡ g n → (i ≡ n) ⊎ (i ≢ n) → f i ≡ g i
+    go ih last (inl q) = rw q last
+    go ih last (inr q) = ih (omega arith)
+
+-- ---- a sum taken apart: two pieces; n pieces of m summands
+
+pub sum-append : (a b : ℕ) (f : ℕ → ℕ) → sum (a + b) f ≡ sum a f + sum b (λ i. f (a + i))
+unfolding sum
+sum-append a zero f = rw (add-zero a) (omega arith)
+sum-append a (suc b) f = let r = sum-append a b f in rw (add-suc a b) (omega arith)
+
+pub sum-pieces : (n m : ℕ) (f : ℕ → ℕ) → sum (m * n) f ≡ sum n (λ k. sum m (λ i. f (m * k + i)))
+unfolding sum
+sum-pieces zero m f = rw (mul-zero m)
+sum-pieces (suc n) m f = let r = sum-pieces n m f in let t = sum-append (m * n) m f in rw (mul-suc m n) (omega arith)

@@ -1,3 +1,16 @@
+use mathlib.Core.Bool.{true}
+use mathlib.Core.List.{List}
+use mathlib.Core.Path.{_≡_, sym, ap₂, _∙_}
+use Prim.Native.Nat.{ℕ, _+_}
+use native.Mathlib.Omega.{arith}
+use lib.Dec.{T}
+use lib.ListN.{set}
+use borrow.Author.Tests.{not-true, not-false}
+use Rattle.pool.specs.State.{st}
+use Rattle.pool.specs.Number.{rootNumber}
+use Rattle.pool.specs.Refuse.{Shaped, shaped-says, out}
+use Rattle.pool.specs.Calls.{fresh, make-refused, make-accepted}
+use Rattle.pool.specs.declared.Outcome.the-variants.{Accepted}
 use borrow.Author.Needs.{needs}
 use Rattle.pool.proofs.make.make.Statement.{statement}
 use Rattle.pool.proofs.make.make.Tie as tie
@@ -6,6 +19,10 @@ use Rattle.pool.proofs.make.make.Lts as lts
 use Rattle.pool.proofs.make.is_shaped.Reads as is-shaped-reads
 use Rattle.pool.proofs.table.zero_numbers.Reads as zero-numbers-reads
 use Rattle.pool.proofs.table.zero_words.Reads as zero-words-reads
+
+-- past the test the shape is known
+shape : (c : tie.Else1) → let a = c .before .before .before .before .before .before .args in Shaped (a .handle) (st (a .words .now) (a .ledger .now))
+shape c = let a = c .before .before .before .before .before .before .args in shaped-says (a .handle) (st (a .words .now) (a .ledger .now)) (rw (sym (c .before .is-shaped .ensures) ∙ not-false _ (c .if1 .left)) tt)
 
 -- src/make.rt:44:9
 is-shaped-requires : tie.Need-is-shaped-requires
@@ -21,7 +38,7 @@ same-length-2 c = search needs
 
 -- src/make.rt:45:9
 returns : tie.Need-returns
-returns c = ?
+returns c = let a = c .before .before .before .before .before .before .args in make-refused (a .handle) (st (a .words .now) (a .ledger .now)) (sym (c .before .is-shaped .ensures) ∙ not-true _ (c .if1 .taken))
 
 -- src/make.rt:47:5
 zero-words-requires : tie.Need-zero-words-requires
@@ -33,15 +50,15 @@ zero-numbers-requires c κs = search needs
 
 -- src/make.rt:49:18
 add-ledger : tie.Need-add-ledger
-add-ledger c = ?
+add-ledger c = let p = shape (c .before .before .before .before .before .before .before .before .before) in omega (arith, p .level)
 
 -- src/make.rt:49:17
 cast-ledger : tie.Need-cast-ledger
-cast-ledger c = ?
+cast-ledger c = let p = shape (c .before .before .before .before .before .before .before .before .before) in omega (arith, p .level)
 
 -- src/make.rt:49:5
 slice-write-ledger : tie.Need-slice-write-ledger
-slice-write-ledger c = ?
+slice-write-ledger c = let p = shape (c .before .before .before .before .before .before .before .before .before) in omega (arith, p .some)
 
 -- src/make.rt:41:1
 same-length-3 : tie.Need-same-length-3
@@ -53,7 +70,12 @@ same-length-4 c = search needs
 
 -- src/make.rt:41:1
 returns-2 : tie.Need-returns-2
-returns-2 c = ?
+unfolding fresh rootNumber
+returns-2 c =
+    let a = c .before .before .before .before .before .before .before .before .before .before .before .before .before .before .before .args in
+    let p = c .before .before .before .before .before .before .before .before .before  in
+    ap₂ (λ (w l : List ℕ). out Accepted (st w (set l 0 (4 + a .handle .level)))) (c .before .before .before .before .before .before .before .zero-words .ensures) (c .before .before .before .zero-numbers .ensures)
+    ∙ make-accepted (a .handle) (st (a .words .now) (a .ledger .now)) (sym (p .before .is-shaped .ensures) ∙ not-false _ (p .if1 .left))
 
 pub make-spec : {M : Type 1} → statement M
 make-spec =

@@ -9,5 +9,6 @@ pub mod Mask
 pub mod Row
 pub mod Named
 pub mod Counted
+pub mod Scan
 pub mod Image
 pub mod Calls

@@ -39,7 +39,13 @@ fn write_to(table: &[u64], page: &mut [u8])
 }
 
 // Writes one table's 512 words into 4096 bytes.
-pub fn page_image(words: &[u64], ledger: &[u32], handle: Handle, k: usize, page: &mut [u8]) -> Outcome
+pub fn page_image(
+    words: &[u64],
+    ledger: &[u32],
+    handle: Handle,
+    k: usize,
+    page: &mut [u8],
+) -> Outcome
     ensures { λ r. ⌜ imaged r (now (page .exit)) ≡ imageCall handle (st (now (words .entry)) (now (ledger .entry))) k (now (page .entry)) ⌝ }
 {
     if !make::is_shaped(words, ledger, handle) {

@@ -1,4 +1,5 @@
 // The pool: 512 words for each table, and a ledger number for each table (document 01, "Pool and ledger").
+pub mod check;
 pub mod image;
 pub mod ledger;
 pub mod make;

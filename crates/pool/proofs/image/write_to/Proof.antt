@@ -66,7 +66,7 @@ loop-less c = omega arith
 -- src/image.rt:33:5
 loop-again : tie.Need-loop-again Inv-loop μ-loop
 loop-again c =
-    let at = c .before .before .before .before .before .before  in
+    let at = c .before .before .before .before .before .before in
     let a = c .before .before .before .before .before .before .before .before .before .args in
     let i = at .loop .i in
     let bytes = bytesOf 8 (getD (a .table .now) i 0) in

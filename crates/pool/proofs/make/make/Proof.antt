@@ -73,7 +73,7 @@ returns-2 : tie.Need-returns-2
 unfolding fresh rootNumber
 returns-2 c =
     let a = c .before .before .before .before .before .before .before .before .before .before .before .before .before .before .before .args in
-    let p = c .before .before .before .before .before .before .before .before .before  in
+    let p = c .before .before .before .before .before .before .before .before .before in
     ap₂ (λ (w l : List ℕ). out Accepted (st w (set l 0 (4 + a .handle .level)))) (c .before .before .before .before .before .before .before .zero-words .ensures) (c .before .before .before .zero-numbers .ensures)
     ∙ make-accepted (a .handle) (st (a .words .now) (a .ledger .now)) (sym (p .before .is-shaped .ensures) ∙ not-false _ (p .if1 .left))
 

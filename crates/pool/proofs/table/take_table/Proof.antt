@@ -145,7 +145,7 @@ unfolding takeAt numberOf
 returns-2 c =
     let a = c .before .before .before .before .before .before .before .before .before .before .before .before .args in
     let shape = c .before .before .before .before .before .before .before .before .before .before .before .before .pre .0 in
-    let told = c .before .before .before .before .before  in
+    let told = c .before .before .before .before .before in
     let j = told .before .free .given .0 .0 in
     let inside = lowest told .inside in
     let part = c .before .before .before .fill in

@@ -2,7 +2,7 @@
 use crate::Handle;
 use crate::Outcome;
 use crate::Refusal;
-use crate::make;
+use crate::shape;
 ghost use mathlib.Core.Path.{_≡_};
 ghost use Prim.Native.Nat.{_*_};
 ghost use lib.ListN.{length};
@@ -48,7 +48,7 @@ pub fn page_image(
 ) -> Outcome
     ensures { λ r. ⌜ imaged r (now (page .exit)) ≡ imageCall handle (st (now (words .entry)) (now (ledger .entry))) k (now (page .entry)) ⌝ }
 {
-    if !make::is_shaped(words, ledger, handle) {
+    if !shape::is_shaped(words, ledger, handle) {
         return Outcome::Refused(Refusal::Shape);
     }
     if ledger.len() <= k {

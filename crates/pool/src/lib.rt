@@ -1,8 +1,8 @@
 // The pool: 512 words for each table, and a ledger number for each table (document 01, "Pool and ledger").
-pub mod check;
 pub mod image;
 pub mod ledger;
 pub mod make;
+pub mod shape;
 pub mod table;
 
 use address::PhysicalAddress;
@@ -47,10 +47,4 @@ pub enum Outcome {
 pub enum Found {
     At(usize),
     Nothing,
-}
-
-// A run of words that passed, with how many of them refer to tables; or one that holds a wrong word.
-pub enum Run {
-    Passed(usize),
-    Failed,
 }

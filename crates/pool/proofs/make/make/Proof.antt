@@ -16,7 +16,7 @@ use Rattle.pool.proofs.make.make.Statement.{statement}
 use Rattle.pool.proofs.make.make.Tie as tie
 use Rattle.pool.proofs.make.make.Reads as reads
 use Rattle.pool.proofs.make.make.Lts as lts
-use Rattle.pool.proofs.make.is_shaped.Reads as is-shaped-reads
+use Rattle.pool.proofs.shape.is_shaped.Reads as is-shaped-reads
 use Rattle.pool.proofs.table.zero_numbers.Reads as zero-numbers-reads
 use Rattle.pool.proofs.table.zero_words.Reads as zero-words-reads
 

@@ -2,8 +2,8 @@
 use pool::Handle;
 use pool::Outcome;
 use pool::Refusal;
-use pool::shape;
 use pool::ledger;
+use pool::shape;
 ghost use mathlib.Core.Path.{_≡_};
 ghost use Prim.Native.Nat.{_≤_, _<_};
 ghost use lib.ListN.{length};

@@ -1,8 +1,8 @@
+use native.Mathlib.Omega.{arith}
 use mathlib.Core.Path.{_≡_, refl, sym, ap}
 use Prim.Native.Nat.{ℕ, zero, suc, _+_, _-_, _^_}
 use Rattle.laws.specs.Size.{sizeAt}
 use Rattle.checker.specs.Stream.{allowedAt}
-use borrow.Author.Needs.{needs}
 use Rattle.checker.proofs.allowed_at.Statement.{statement}
 use Rattle.checker.proofs.allowed_at.Tie as tie
 use Rattle.checker.proofs.allowed_at.Reads as reads
@@ -18,19 +18,19 @@ high set (suc (suc (suc l))) a b c = refl
 
 -- src/check.rt:32:14
 add-result : tie.Need-add-result
-add-result c = search needs
+add-result c = omega arith
 
 -- src/check.rt:33:14
 add-result-2 : tie.Need-add-result-2
-add-result-2 c = search needs
+add-result-2 c = omega arith
 
 -- src/check.rt:34:14
 add-result-3 : tie.Need-add-result-3
-add-result-3 c = search needs
+add-result-3 c = omega arith
 
 -- src/check.rt:34:14
 add-result-4 : tie.Need-add-result-4
-add-result-4 c = search needs
+add-result-4 c = omega arith
 
 -- src/check.rt:26:1
 returns : tie.Need-returns

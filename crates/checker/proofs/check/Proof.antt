@@ -1,10 +1,10 @@
+use native.Mathlib.Omega.{arith}
 use mathlib.Core.Bool.{true}
 use mathlib.Core.Path.{_≡_, sym, _∙_}
 use borrow.Author.Tests.{not-true, not-false}
 use Rattle.pool.specs.State.{st}
 use Rattle.pool.specs.Refuse.{shaped, Shaped, shaped-says}
 use Rattle.checker.specs.Check.{check-misshaped, check-sound, check-unsound}
-use borrow.Author.Needs.{needs}
 use Rattle.checker.proofs.check.Statement.{statement}
 use Rattle.checker.proofs.check.Tie as tie
 use Rattle.checker.proofs.check.Reads as reads
@@ -21,7 +21,7 @@ shape c = let a = c .before .before .before .before .args in shaped-says (a .han
 
 -- src/check.rt:206:9
 is-shaped-requires : tie.Need-is-shaped-requires
-is-shaped-requires c κs = search needs
+is-shaped-requires c κs = omega arith
 
 -- src/check.rt:207:9
 returns : tie.Need-returns

@@ -11,7 +11,6 @@ use Rattle.pool.specs.State.{St, st, numberAt, wordAt}
 use Rattle.pool.specs.Number.{parentOf, slotOf}
 use Rattle.pool.specs.Sound.{hangsb}
 use Rattle.checker.specs.Named.{Hangs, hangs-to, hangs-of, names-to, names-of, used-in}
-use borrow.Author.Needs.{needs}
 use Rattle.checker.proofs.hangs.Statement.{statement}
 use Rattle.checker.proofs.hangs.Tie as tie
 use Rattle.checker.proofs.hangs.Reads as reads
@@ -41,11 +40,11 @@ pos n = omega arith
 
 -- src/check.rt:122:18
 mul-number : tie.Need-mul-number
-mul-number c = search needs
+mul-number c = omega arith
 
 -- src/check.rt:122:18
 shared-slice-read-number : tie.Need-shared-slice-read-number
-shared-slice-read-number c = search needs
+shared-slice-read-number c = omega arith
 
 -- src/check.rt:122:18
 cast-number : tie.Need-cast-number
@@ -65,7 +64,7 @@ returns-2 c =
 
 -- src/check.rt:129:14
 sub-at : tie.Need-sub-at
-sub-at c = search needs
+sub-at c = omega arith
 
 -- src/check.rt:132:9
 returns-3 : tie.Need-returns-3
@@ -75,11 +74,11 @@ returns-3 c =
 
 -- src/check.rt:134:17
 mul-above : tie.Need-mul-above
-mul-above c = search needs
+mul-above c = omega arith
 
 -- src/check.rt:134:17
 shared-slice-read-above : tie.Need-shared-slice-read-above
-shared-slice-read-above c = search needs
+shared-slice-read-above c = omega arith
 
 -- src/check.rt:134:17
 cast-above : tie.Need-cast-above
@@ -93,7 +92,7 @@ returns-4 c =
 
 -- src/check.rt:138:22
 add-if5 : tie.Need-add-if5
-add-if5 c = search needs
+add-if5 c = omega arith
 
 -- src/check.rt:139:9
 returns-5 : tie.Need-returns-5
@@ -103,15 +102,15 @@ returns-5 c =
 
 -- src/check.rt:141:5
 mul-result : tie.Need-mul-result
-mul-result c = search needs
+mul-result c = omega arith
 
 -- src/check.rt:141:5
 shared-slice-read-result : tie.Need-shared-slice-read-result
-shared-slice-read-result c = search needs
+shared-slice-read-result c = omega arith
 
 -- src/check.rt:141:18
 link-requires : tie.Need-link-requires
-link-requires c κs = search needs
+link-requires c κs = omega arith
 
 -- src/check.rt:118:1
 returns-6 : tie.Need-returns-6

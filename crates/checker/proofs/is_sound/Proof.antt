@@ -5,7 +5,6 @@ use lib.Dec.{eqb}
 use Rattle.pool.specs.State.{st}
 use Rattle.pool.specs.Refuse.{maxTables}
 use Rattle.checker.specs.Scan.{scan-unsound, scan-few, scan-counted}
-use borrow.Author.Needs.{needs}
 use Rattle.checker.proofs.is_sound.Statement.{statement}
 use Rattle.checker.proofs.is_sound.Tie as tie
 use Rattle.checker.proofs.is_sound.Reads as reads
@@ -15,15 +14,15 @@ use Rattle.pool.proofs.ledger.count_used.Reads as count-used-reads
 
 -- src/check.rt:195:9
 scan-tables-requires : tie.Need-scan-tables-requires
-scan-tables-requires c κs = search needs
+scan-tables-requires c κs = omega arith
 
 -- src/check.rt:196:21
 enum-known-found : tie.Need-enum-known-found
-enum-known-found c = search needs
+enum-known-found c = omega arith
 
 -- src/check.rt:197:9
 enum-told : tie.Need-enum-told
-enum-told c = search needs
+enum-told c = omega arith
 
 -- src/check.rt:197:9
 returns : tie.Need-returns
@@ -39,7 +38,7 @@ add-result c =
 
 -- src/check.rt:199:18
 count-used-requires : tie.Need-count-used-requires
-count-used-requires c κs = search needs
+count-used-requires c κs = omega arith
 
 -- src/check.rt:191:1
 returns-2 : tie.Need-returns-2

@@ -4,7 +4,6 @@ use native.Mathlib.Omega.{arith}
 use Rattle.pool.specs.Number.{levelOf}
 use Rattle.checker.specs.Stream.{runOf, freeRun, pagesRun, linksRun, allowedAt}
 use Rattle.checker.specs.Mask.{free-run, pages-run, links-run}
-use borrow.Author.Needs.{needs}
 use Rattle.checker.proofs.scan.Statement.{statement}
 use Rattle.checker.proofs.scan.Tie as tie
 use Rattle.checker.proofs.scan.Reads as reads
@@ -16,7 +15,7 @@ use Rattle.checker.proofs.scan_pages.Reads as scan-pages-reads
 
 -- src/check.rt:107:9
 scan-free-requires : tie.Need-scan-free-requires
-scan-free-requires c κs = search needs
+scan-free-requires c κs = omega arith
 
 -- src/check.rt:107:9
 returns : tie.Need-returns
@@ -27,15 +26,15 @@ returns c =
 
 -- src/check.rt:109:17
 cast-level : tie.Need-cast-level
-cast-level c = search needs
+cast-level c = omega arith
 
 -- src/check.rt:110:9
 allowed-at-requires : tie.Need-allowed-at-requires
-allowed-at-requires c κs = search needs
+allowed-at-requires c κs = omega arith
 
 -- src/check.rt:112:9
 scan-pages-requires : tie.Need-scan-pages-requires
-scan-pages-requires c κs = search needs
+scan-pages-requires c κs = omega arith
 
 -- src/check.rt:112:9
 returns-2 : tie.Need-returns-2
@@ -49,7 +48,7 @@ returns-2 c =
 
 -- src/check.rt:114:5
 scan-links-requires : tie.Need-scan-links-requires
-scan-links-requires c κs = search needs
+scan-links-requires c κs = omega arith
 
 -- src/check.rt:102:1
 returns-3 : tie.Need-returns-3

@@ -1,4 +1,3 @@
-use borrow.Author.Needs.{needs}
 use borrow.Author.Tests.{not-true, not-false}
 use mathlib.Core.Path.{_≡_, sym, ap, ap₂, _∙_, subst⁻¹}
 use Prim.Native.Nat.{ℕ, _+_, _*_, _-_, _≤_}
@@ -56,7 +55,7 @@ passed c =
 
 -- src/check.rt:164:9
 flag-set-requires : tie.Need-flag-set-requires Inv-loop μ-loop Inv-tables μ-tables
-flag-set-requires c κs = search needs
+flag-set-requires c κs = omega arith
 
 -- src/check.rt:167:5
 tables-holds : tie.Need-tables-holds Inv-loop μ-loop Inv-tables μ-tables
@@ -127,11 +126,11 @@ scan-requires c κs = subst⁻¹ PlainSet (c .before .before .before .before .be
 
 -- src/check.rt:180:29
 enum-known-run : tie.Need-enum-known-run Inv-loop μ-loop Inv-tables μ-tables
-enum-known-run c = search needs
+enum-known-run c = omega arith
 
 -- src/check.rt:181:31
 enum-told : tie.Need-enum-told Inv-loop μ-loop Inv-tables μ-tables
-enum-told c = search needs
+enum-told c = omega arith
 
 -- src/check.rt:183:13
 add-links : tie.Need-add-links Inv-loop μ-loop Inv-tables μ-tables

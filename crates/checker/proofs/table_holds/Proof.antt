@@ -7,7 +7,6 @@ use Rattle.pool.specs.State.{St, st, numberAt}
 use Rattle.pool.specs.Number.{rootNumber}
 use Rattle.pool.specs.Sound.{hangsb, tableb}
 use Rattle.pool.specs.declared.Handle.{Handle}
-use borrow.Author.Needs.{needs}
 use Rattle.checker.proofs.table_holds.Statement.{statement}
 use Rattle.checker.proofs.table_holds.Tie as tie
 use Rattle.checker.proofs.table_holds.Reads as reads
@@ -27,7 +26,7 @@ used-holds h s (suc k) n e = rw (ne-eqb (numberAt s (suc k)) 0 e)
 
 -- src/check.rt:150:16
 shared-slice-read-result : tie.Need-shared-slice-read-result
-shared-slice-read-result c = search needs
+shared-slice-read-result c = omega arith
 
 -- src/check.rt:150:16
 cast-result : tie.Need-cast-result
@@ -35,7 +34,7 @@ cast-result c = omega (arith, c .shared-slice-known3 .given 0)
 
 -- src/check.rt:150:38
 add-result : tie.Need-add-result
-add-result c = search needs
+add-result c = omega arith
 
 -- src/check.rt:150:9
 returns : tie.Need-returns
@@ -44,11 +43,11 @@ returns c = let a = c .before .before .before .before .before .args in sym (ap (
 
 -- src/check.rt:152:8
 mul-if2 : tie.Need-mul-if2
-mul-if2 c = search needs
+mul-if2 c = omega arith
 
 -- src/check.rt:152:8
 shared-slice-read-if2 : tie.Need-shared-slice-read-if2
-shared-slice-read-if2 c = search needs
+shared-slice-read-if2 c = omega arith
 
 -- src/check.rt:153:9
 returns-2 : tie.Need-returns-2
@@ -56,7 +55,7 @@ returns-2 c = let a = c .before .before .before .before .before .args in free-ho
 
 -- src/check.rt:155:5
 hangs-requires : tie.Need-hangs-requires
-hangs-requires c κs = search needs
+hangs-requires c κs = omega arith
 
 -- src/check.rt:145:1
 returns-3 : tie.Need-returns-3

@@ -26,15 +26,15 @@ shape c = let a = c .before .before .before .before .before .before .args in sha
 
 -- src/make.rt:44:9
 is-shaped-requires : tie.Need-is-shaped-requires
-is-shaped-requires c κs = search needs
+is-shaped-requires c κs = omega arith
 
 -- src/make.rt:45:9
 same-length : tie.Need-same-length
-same-length c = search needs
+same-length c = omega arith
 
 -- src/make.rt:45:9
 same-length-2 : tie.Need-same-length-2
-same-length-2 c = search needs
+same-length-2 c = omega arith
 
 -- src/make.rt:45:9
 returns : tie.Need-returns
@@ -42,11 +42,11 @@ returns c = let a = c .before .before .before .before .before .before .args in m
 
 -- src/make.rt:47:5
 zero-words-requires : tie.Need-zero-words-requires
-zero-words-requires c κs = search needs
+zero-words-requires c κs = omega arith
 
 -- src/make.rt:48:5
 zero-numbers-requires : tie.Need-zero-numbers-requires
-zero-numbers-requires c κs = search needs
+zero-numbers-requires c κs = omega arith
 
 -- src/make.rt:49:18
 add-ledger : tie.Need-add-ledger
@@ -62,7 +62,7 @@ slice-write-ledger c = let p = shape (c .before .before .before .before .before 
 
 -- src/make.rt:41:1
 same-length-3 : tie.Need-same-length-3
-same-length-3 c = search needs
+same-length-3 c = omega arith
 
 -- src/make.rt:41:1
 same-length-4 : tie.Need-same-length-4

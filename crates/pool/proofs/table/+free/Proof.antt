@@ -1,6 +1,5 @@
 use mathlib.Core.Logic.{⊎-elim}
 use Rattle.entry.proofs.Tags.{no-table}
-use borrow.Author.Needs.{needs}
 use mathlib.Core.Path.{_≡_, refl, sym, ap, _∙_}
 use Prim.Native.Nat.{_+_, _-_, _≤_}
 use native.Mathlib.Omega.{arith}
@@ -51,11 +50,11 @@ free-clear-table-requires t c κs = omega arith
 
 -- src/table.rt:94:9
 free-same-length : (t : ℕ) → free-lts.Need-same-length (calls t) (free-at t) free.Post free-Inv-loop free-μ-loop
-free-same-length t c = search needs
+free-same-length t c = omega arith
 
 -- src/table.rt:94:9
 free-same-length-2 : (t : ℕ) → free-lts.Need-same-length-2 (calls t) (free-at t) free.Post free-Inv-loop free-μ-loop
-free-same-length-2 t c = search needs
+free-same-length-2 t c = omega arith
 
 -- src/table.rt:94:9
 free-returns : (t : ℕ) → free-lts.Need-returns (calls t) (free-at t) free.Post free-Inv-loop free-μ-loop
@@ -89,7 +88,7 @@ free-add-i t c = omega arith
 
 -- src/table.rt:100:13
 free-subtable-requires : (t : ℕ) → free-lts.Need-subtable-requires (calls t) (free-at t) free.Post free-Inv-loop free-μ-loop
-free-subtable-requires t c κs = search needs
+free-subtable-requires t c κs = omega arith
 
 -- src/table.rt:101:24
 free-enum-known-kind : (t : ℕ) → free-lts.Need-enum-known-kind (calls t) (free-at t) free.Post free-Inv-loop free-μ-loop
@@ -149,11 +148,11 @@ free-clear-table-requires-2 t c κs = omega arith
 
 -- src/table.rt:88:1
 free-same-length-3 : (t : ℕ) → free-lts.Need-same-length-3 (calls t) (free-at t) free.Post free-Inv-loop free-μ-loop
-free-same-length-3 t c = search needs
+free-same-length-3 t c = omega arith
 
 -- src/table.rt:88:1
 free-same-length-4 : (t : ℕ) → free-lts.Need-same-length-4 (calls t) (free-at t) free.Post free-Inv-loop free-μ-loop
-free-same-length-4 t c = search needs
+free-same-length-4 t c = omega arith
 
 -- src/table.rt:88:1
 free-returns-2 : (t : ℕ) → free-lts.Need-returns-2 (calls t) (free-at t) free.Post free-Inv-loop free-μ-loop

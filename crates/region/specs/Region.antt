@@ -2,7 +2,6 @@
 use mathlib.Core.Path.{_≡_, refl, sym, ap, _∙_}
 use mathlib.Core.Bool.{cond}
 use Prim.Native.Nat.{ℕ, _+_, _-_, _≤_, _<_, min}
-use native.Mathlib.Omega.{arith}
 use lib.Dec.{ltb}
 use borrow.Author.Tests.{lt-ltb, le-ltb}
 use Rattle.laws.specs.Size.{sizeAt, down}
@@ -49,13 +48,3 @@ pub next-cut : (c : ChunkedIterator) (m : ℕ) → c .range .start .0 < c .range
     → cutAt (c .level) (c .range .start .0) m (c .range .end .0) ≡ nextChunk c
 unfolding nextChunk
 next-cut c m h e = rw (lt-ltb (c .range .start .0) (c .range .end .0) h) (ap (λ (x : ℕ). cutAt (c .level) (c .range .start .0) x (c .range .end .0)) e)
-
--- the region ends in the entry of its start
-pub chunk-ends-region : (level s e : ℕ) → s < e → e - 1 ≤ entryLast level s → e ≡ chunkEnd level s e
-unfolding chunkEnd
-chunk-ends-region level s e h l = omega arith
-
--- the entry of its start ends before
-pub chunk-ends-entry : (level s e : ℕ) → entryLast level s < e - 1 → entryLast level s + 1 ≡ chunkEnd level s e
-unfolding chunkEnd
-chunk-ends-entry level s e l = omega arith

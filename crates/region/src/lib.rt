@@ -5,7 +5,7 @@ ghost use mathlib.Core.Bool.{_&&_};
 ghost use Prim.Native.Nat.{_-_, _%_};
 ghost use lib.Dec.{eqb};
 ghost use Rattle.laws.specs.Size.{sizeAt};
-ghost use Rattle.region.specs.Region.{rounded, entryLast, cutAt, nextChunk};
+ghost use Rattle.region.specs.Region.{rounded, entryLast, chunkEnd, nextChunk};
 
 // The addresses from start up to end, which is not among them.
 pub struct MemoryRegion {
@@ -30,6 +30,17 @@ pub fn entry_last(va: u64, level: usize) -> u64
     ensures { λ r. ⌜ r ≡ entryLast level va ⌝ }
 {
     va | (address::granularity_at_level(level) - 1)
+}
+
+// Where the chunk that begins at start ends: with its entry, or with the region.
+pub fn chunk_end(start: u64, end: u64, level: usize) -> u64
+    ensures { λ r. ⌜ r ≡ chunkEnd level start end ⌝ }
+{
+    if end == 0 {
+        return 0;
+    }
+    let last = entry_last(start, level);
+    if end - 1 <= last { end } else { last + 1 }
 }
 
 impl MemoryRegion {
@@ -85,29 +96,19 @@ impl ChunkedIterator {
         if end <= start {
             return NextChunk::Done;
         }
-        let last = entry_last(start, level);
-        if end - 1 <= last {
-            return cut(start, end, end, level);
-        }
-        cut(start, last + 1, end, level)
-    }
-}
-
-// The chunk from start to stop, and what remains up to end.
-fn cut(start: u64, stop: u64, end: u64, level: usize) -> NextChunk
-    ensures { λ r. ⌜ r ≡ cutAt level start stop end ⌝ }
-{
-    NextChunk::Chunk(
-        MemoryRegion {
-            start: VirtualAddress(start),
-            end: VirtualAddress(stop),
-        },
-        ChunkedIterator {
-            range: MemoryRegion {
-                start: VirtualAddress(stop),
-                end: VirtualAddress(end),
+        let stop = chunk_end(start, end, level);
+        NextChunk::Chunk(
+            MemoryRegion {
+                start: VirtualAddress(start),
+                end: VirtualAddress(stop),
             },
-            level,
-        },
-    )
+            ChunkedIterator {
+                range: MemoryRegion {
+                    start: VirtualAddress(stop),
+                    end: VirtualAddress(end),
+                },
+                level,
+            },
+        )
+    }
 }

@@ -1,0 +1,39 @@
+use native.Mathlib.Omega.{arith}
+use Rattle.region.specs.Region.{chunkEnd}
+use borrow.Author.Needs.{needs}
+use Rattle.region.proofs.chunk_end.Statement.{statement}
+use Rattle.region.proofs.chunk_end.Tie as tie
+use Rattle.region.proofs.chunk_end.Reads as reads
+use Rattle.region.proofs.chunk_end.Lts as lts
+use Rattle.region.proofs.entry_last.Reads as entry-last-reads
+
+-- src/lib.rt:40:9
+returns : tie.Need-returns
+unfolding chunkEnd
+returns c = omega arith
+
+-- src/lib.rt:42:9
+entry-last-requires : tie.Need-entry-last-requires
+entry-last-requires c κs = search needs
+
+-- src/lib.rt:43:8
+sub-if2 : tie.Need-sub-if2
+sub-if2 c = search needs
+
+-- src/lib.rt:43:39
+add-result : tie.Need-add-result
+add-result c = search needs
+
+-- src/lib.rt:36:1
+returns-2 : tie.Need-returns-2
+unfolding chunkEnd
+returns-2 c = omega (arith, c .before .entry-last .ensures)
+
+-- src/lib.rt:36:1
+returns-3 : tie.Need-returns-3
+unfolding chunkEnd
+returns-3 c = omega (arith, c .before .entry-last .ensures)
+
+pub chunk-end-spec : {M : Type 1} → statement M
+chunk-end-spec =
+    tie.close (tie.spec returns entry-last-requires sub-if2 add-result returns-2 returns-3)

@@ -79,6 +79,11 @@ pub root-self : (h : Handle) → h .level ≤ 3 → (k x : ℕ) → x ≡ rootNu
 unfolding rootNumber
 root-self h low k x e = over-self k x (omega arith)
 
+-- and so names no slot
+pub root-unnamed : (h : Handle) → h .level ≤ 3 → (x : ℕ) → x ≡ rootNumber (h .level) → ¬ (Names x)
+unfolding rootNumber
+root-unnamed h low x e names = omega arith
+
 pub root-pos : (h : Handle) (x : ℕ) → x ≡ rootNumber (h .level) → 0 < x
 unfolding rootNumber
 root-pos h x e = omega arith

@@ -1,2 +1,4 @@
 -- The pool of document 01 is a forest: its soundness clause by clause, the test that decides it, and the four steps on lists.
 pub mod Codec
+pub mod Clauses
+pub mod Generic

@@ -2,3 +2,4 @@
 pub mod Codec
 pub mod Clauses
 pub mod Generic
+pub mod Decide

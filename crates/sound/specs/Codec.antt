@@ -16,6 +16,7 @@ use Rattle.pool.specs.Number.{rootNumber, numberOf, levelOf, parentOf, slotOf, 
 use Rattle.pool.specs.Refuse.{Shaped}
 use Rattle.pool.specs.Sound.{flagSet, plainFlags, fits, leafb}
 use Rattle.pool.specs.declared.Handle.{Handle}
+use Rattle.forest.specs.Tree.{Tree, treeAt}
 use Rattle.forest.specs.Sound.{State, Codec}
 
 -- what refusal 1 asks of the handle alone
@@ -149,3 +150,12 @@ table-in s k i both = go (le-or 512 i)
     go : (512 ≤ i) ⊎ (i < 512) → i < 512
     go (inl past) = absurd (omega (arith, both, word-out s k i past))
     go (inr inside) = inside
+
+-- ---- the trees that the words show
+
+-- the tree of table k, where it has `left` levels below its own, and the root's
+abbrev pub treeFrom : Handle → St → ℕ → ℕ → Tree
+treeFrom h s left k = treeAt (childOf (h .base .0)) left (slotWord s) k
+
+abbrev pub rootTree : Handle → St → Tree
+rootTree h s = treeFrom h s (3 - h .level) 0

@@ -3,3 +3,5 @@ pub mod Codec
 pub mod Clauses
 pub mod Generic
 pub mod Decide
+pub mod Alloc
+pub mod Hanging

@@ -18,7 +18,7 @@ use Rattle.forest.specs.Under.{Under, hangs-refers, refers-table}
 use Rattle.forest.specs.Hang.{here as at-last, down as by, Points, Reaches, grounded, reached, path, once, root-free}
 use Rattle.forest.specs.Nodes.{nodes, inUse, used-nodes}
 use Rattle.sound.specs.Alloc.{used-sum}
-use Rattle.sound.specs.Codec.{shaped-placed, childOf, child-link, root-unnamed, codecOf, slotWord, view, word-in, used-in, table-in, rootTree}
+use Rattle.sound.specs.Codec.{Placed, shaped-placed, childOf, child-link, codecOf, slotWord, view, word-in, used-in, table-in, rootTree}
 use Rattle.sound.specs.Clauses.{InUse, levelAt, SoundPool}
 use Rattle.sound.specs.Generic.{pool-sound}
 
@@ -40,6 +40,17 @@ module _ (h : Handle) (s : St) where
     pub slot : ℕ
     pub leads : Leads table slot c
     pub only : (k i : ℕ) → Leads k i c → (k ≡ table) × (i ≡ slot)
+
+-- ---- every used table hangs from the root, by the ledger
+
+pub root-left : {h : Handle} {s : St} → Placed h → SoundPool h s → levelAt s 0 + (3 - h .level) ≡ 3
+unfolding rootNumber
+root-left placed P = omega (arith, placed .level, P .root)
+
+pub root-under : {h : Handle} {s : St} (placed : Placed h) → SoundPool h s → {j : ℕ} → InUse s j → (d : ℕ) × Under (codecOf h placed) (view s) 0 d j
+root-under {h} {s} placed P {j} used =
+    let g = grounded (pool-sound placed P) used in
+    (g .deep, subst (λ (k : ℕ). Under (codecOf h placed) (view s) k (g .deep) j) (g .isRoot .0) (g .under))
 
 module _ {h : Handle} {s : St} (shape : Shaped h s) (P : SoundPool h s) where
   -- ---- what the code sees is what the forest sees
@@ -68,17 +79,11 @@ module _ {h : Handle} {s : St} (shape : Shaped h s) (P : SoundPool h s) where
         names = ap (childOf (h .base .0)) (word ∙ to .1 .says) ∙ child-link (h .base .0) (to .0) ∙ is;
       }
 
-  -- ---- every used table hangs from the root
+  -- ---- every used table is reached from the root by following slots
 
-  pub root-under : {j : ℕ} → InUse s j → (d : ℕ) × Under (codecOf h (shaped-placed shape)) (view s) 0 d j
-  root-under {j} used =
-      let g = grounded (pool-sound (shaped-placed shape) P) used in
-      (g .deep, subst (λ (k : ℕ). Under (codecOf h (shaped-placed shape)) (view s) k (g .deep) j) (g .isRoot .0) (g .under))
-
-  -- and is reached from there by following slots
   pub reach : {j : ℕ} → InUse s j → (slots : List ℕ) × Follows h s 0 slots j
   reach {j} used =
-      let under = root-under used in
+      let under = root-under (shaped-placed shape) P used in
       (path (codecOf h (shaped-placed shape)) (view s) (under .0) j [], follow (reached (pool-sound (shaped-placed shape) P) (under .1)))
     where
       follow : {k j : ℕ} {slots : List ℕ} → Reaches (codecOf h (shaped-placed shape)) (view s) k slots j → Follows h s k slots j
@@ -114,12 +119,8 @@ module _ {h : Handle} {s : St} (shape : Shaped h s) (P : SoundPool h s) where
 
   -- ---- the tables in use are the nodes of the tree
 
-  pub root-left : levelAt s 0 + (3 - h .level) ≡ 3
-  unfolding rootNumber
-  root-left = omega (arith, shape .level, P .root)
-
   pub used-tree : used (s .ledger) ≡ nodes (rootTree h s)
   unfolding inUse
   used-tree =
       used-sum (s .ledger)
-      ∙ used-nodes (pool-sound (shaped-placed shape) P) (tables s) (used-in s) (3 - h .level) 0 (refl, P .root) (λ k root. root .0) root-left
+      ∙ used-nodes (pool-sound (shaped-placed shape) P) (tables s) (used-in s) (3 - h .level) 0 (refl, P .root) (λ k root. root .0) (root-left (shaped-placed shape) P)

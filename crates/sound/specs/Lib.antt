@@ -5,3 +5,5 @@ pub mod Generic
 pub mod Decide
 pub mod Alloc
 pub mod Hanging
+pub mod Lists
+pub mod Step

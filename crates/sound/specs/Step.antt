@@ -1,0 +1,74 @@
+-- One step on a sound pool's lists: a move of the forest that keeps the lists' lengths. The pool is sound again, the root's tree has the new tree
+-- put in at the slot, and all else stays. Assumes nothing.
+use mathlib.Core.Path.{_≡_, ap, _∙_}
+use mathlib.Core.List.{[], _∷_}
+use Prim.Native.Nat.{ℕ, _+_, _*_, _-_, _≤_, _<_}
+use native.Mathlib.Omega.{arith}
+use lib.Dec.{T}
+use lib.ListN.{length}
+use Rattle.pool.specs.State.{St, tables, wordAt, numberAt}
+use Rattle.pool.specs.Number.{levelOf}
+use Rattle.pool.specs.Refuse.{Shaped}
+use Rattle.pool.specs.Sound.{flagSet, leafb}
+use Rattle.pool.specs.declared.Handle.{Handle}
+use Rattle.forest.specs.Tree.{Tree, put}
+use Rattle.forest.specs.Sound.{TableWord}
+use Rattle.forest.specs.Under.{Under}
+use Rattle.forest.specs.Hang.{path}
+use Rattle.forest.specs.Frame.{change-over}
+use Rattle.forest.specs.Keep.{Fits}
+use Rattle.forest.specs.Move.{Move}
+use Rattle.sound.specs.Codec.{Placed, shaped-placed, zero-leaf, codecOf, view, used-in, rootTree}
+use Rattle.sound.specs.Clauses.{InUse, levelAt, LeafWord, SoundPool}
+use Rattle.sound.specs.Generic.{leaf-says, says-leaf, pool-sound, sound-pool}
+use Rattle.sound.specs.Hanging.{root-left}
+use Rattle.sound.specs.Lists.{Inside}
+
+-- the word v may stand as a leaf in a table of this level
+pub record Stands (h : Handle) (level v : ℕ) : Type 0 where
+  pub plain : ¬ (TableWord level v)
+  pub leaf : LeafWord (flagSet h) level v
+
+module _ (h : Handle) where
+  pub stands-fits : (placed : Placed h) (x : ℕ) {v : ℕ} → Stands h (levelOf x) v → Fits (codecOf h placed) x v
+  stands-fits placed x {v} stands = record { plain = stands .plain; good = says-leaf (flagSet h) (levelOf x) v (omega arith) (stands .leaf) }
+
+  pub zero-stands : (level : ℕ) → level ≤ 3 → Stands h level 0
+  zero-stands level low = record { plain = λ table. omega (arith, table .1); leaf = leaf-says (flagSet h) level 0 low (zero-leaf (flagSet h) level) }
+
+-- a word of a sound pool that is no table word may stand where it stands
+pub old-stands : {h : Handle} {s : St} → SoundPool h s → (k i : ℕ) → i < 512 → InUse s k → ¬ (TableWord (levelAt s k) (wordAt s k i))
+    → Stands h (levelAt s k) (wordAt s k i)
+old-stands P k i inside used old = record { plain = old; leaf = P .leaves k i inside used old }
+
+-- a used table of a sound pool stands in the words
+pub used-inside : {h : Handle} {s : St} → SoundPool h s → (k : ℕ) → InUse s k → Inside s k
+used-inside {s = s} P k used = omega (arith, P .sized, used-in s k used)
+
+-- s′ is s after a step at slot i of table p, which has `left` levels below its own; the slot now shows the tree t
+pub record Step (h : Handle) (placed : Placed h) (s s′ : St) (left p i : ℕ) (t : Tree) : Type 0 where
+  pub move : Move (codecOf h placed) (view s) (view s′) left p i t
+  pub same-tables : tables s′ ≡ tables s
+  pub same-words : length (s′ .words) ≡ length (s .words)
+
+module _ {h : Handle} {placed : Placed h} {s s′ : St} {left p i : ℕ} {t : Tree} (P : SoundPool h s) (step : Step h placed s s′ left p i t) where
+  -- SOUND AGAIN
+  pub step-pool : SoundPool h s′
+  step-pool = sound-pool placed (omega (arith, P .sized, step .same-tables, step .same-words)) (step .move .at .sound)
+
+  pub step-shaped : Shaped h s → Shaped h s′
+  step-shaped shape = record {
+    some = omega (arith, shape .some, step .same-tables);
+    limit = omega (arith, shape .limit, step .same-tables);
+    sized = step-pool .sized;
+    paged = shape .paged;
+    ended = omega (arith, shape .ended, step .same-tables);
+    level = shape .level;
+  }
+
+  -- EFFECT: the root's tree has t put in at the slot, and is otherwise as before
+  pub step-effect : {d : ℕ} → Under (codecOf h placed) (view s) 0 d p → levelAt s p + left ≡ 3
+      → rootTree h s′ ≡ put (path (codecOf h placed) (view s) d p (i ∷ [])) t (rootTree h s)
+  step-effect {d} under low =
+      change-over (pool-sound placed P) (view s′) left (3 - h .level) (step .move .at .words) under low (root-left placed P)
+      ∙ ap (λ (u : Tree). put (path (codecOf h placed) (view s) d p (i ∷ [])) u (rootTree h s)) (step .move .tree)

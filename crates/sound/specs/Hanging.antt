@@ -55,7 +55,7 @@ root-under {h} {s} placed P {j} used =
 module _ {h : Handle} {s : St} (shape : Shaped h s) (P : SoundPool h s) where
   -- ---- what the code sees is what the forest sees
 
-  refers-leads : {k i c : ℕ} → InUse s k → Refers (codecOf h (shaped-placed shape)) (view s) k i c → Leads h s k i c
+  pub refers-leads : {k i c : ℕ} → InUse s k → Refers (codecOf h (shaped-placed shape)) (view s) k i c → Leads h s k i c
   refers-leads {k} {i} {c} used r =
       let table = refers-table r in
       let inside = table-in s k i (table .1) in
@@ -78,6 +78,9 @@ module _ {h : Handle} {s : St} (shape : Shaped h s) (P : SoundPool h s) where
         table = (found .high, ap (λ (w : ℕ). w % 4) word ∙ found .low);
         names = ap (childOf (h .base .0)) (word ∙ to .1 .says) ∙ child-link (h .base .0) (to .0) ∙ is;
       }
+
+  pub leads-refers : {k i c : ℕ} → Leads h s k i c → Refers (codecOf h (shaped-placed shape)) (view s) k i c
+  leads-refers leads = once (pool-sound (shaped-placed shape) P) (leads-points leads)
 
   -- ---- every used table is reached from the root by following slots
 
@@ -103,7 +106,7 @@ module _ {h : Handle} {s : St} (shape : Shaped h s) (P : SoundPool h s) where
             table = parent (codecOf h (shaped-placed shape)) (view s) c;
             slot = slotIn (codecOf h (shaped-placed shape)) (view s) c;
             leads = refers-leads (hung .used) r;
-            only = λ k i leads. let r′ = once (pool-sound (shaped-placed shape) P) (leads-points leads) in (sym (r′ .from), sym (r′ .at));
+            only = λ k i leads. let r′ = leads-refers leads in (sym (r′ .from), sym (r′ .at));
           }
 
   -- nothing refers to the root
@@ -112,7 +115,7 @@ module _ {h : Handle} {s : St} (shape : Shaped h s) (P : SoundPool h s) where
 
   -- what is referred to is in use: a free table is referred to by nobody
   pub referred-used : {k i c : ℕ} → Leads h s k i c → InUse s c
-  referred-used leads = once (pool-sound (shaped-placed shape) P) (leads-points leads) .used
+  referred-used leads = leads-refers leads .used
 
   pub free-unreferred : {k i c : ℕ} → numberAt s c ≡ 0 → ¬ (Leads h s k i c)
   free-unreferred free leads = omega (arith, free, referred-used leads)

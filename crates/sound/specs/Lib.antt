@@ -7,3 +7,4 @@ pub mod Alloc
 pub mod Hanging
 pub mod Lists
 pub mod Step
+pub mod Store

@@ -1,8 +1,8 @@
 -- One step on a sound pool's lists: a move of the forest that keeps the lists' lengths. The pool is sound again, the root's tree has the new tree
 -- put in at the slot, and all else stays. Assumes nothing.
-use mathlib.Core.Path.{_≡_, ap, _∙_}
+use mathlib.Core.Path.{_≡_, sym, ap, _∙_}
 use mathlib.Core.List.{[], _∷_}
-use Prim.Native.Nat.{ℕ, _+_, _*_, _-_, _≤_, _<_}
+use Prim.Native.Nat.{ℕ, _+_, _*_, _-_, _%_, _≤_, _<_}
 use native.Mathlib.Omega.{arith}
 use lib.Dec.{T}
 use lib.ListN.{length}
@@ -12,13 +12,13 @@ use Rattle.pool.specs.Refuse.{Shaped}
 use Rattle.pool.specs.Sound.{flagSet, leafb}
 use Rattle.pool.specs.declared.Handle.{Handle}
 use Rattle.forest.specs.Tree.{Tree, put}
-use Rattle.forest.specs.Sound.{TableWord}
+use Rattle.forest.specs.Sound.{TableWord, IsTable}
 use Rattle.forest.specs.Under.{Under}
 use Rattle.forest.specs.Hang.{path}
 use Rattle.forest.specs.Frame.{change-over}
 use Rattle.forest.specs.Keep.{Fits}
 use Rattle.forest.specs.Move.{Move}
-use Rattle.sound.specs.Codec.{Placed, shaped-placed, zero-leaf, codecOf, view, used-in, rootTree}
+use Rattle.sound.specs.Codec.{Placed, shaped-placed, zero-leaf, codecOf, view, word-in, used-in, rootTree}
 use Rattle.sound.specs.Clauses.{InUse, levelAt, LeafWord, SoundPool}
 use Rattle.sound.specs.Generic.{leaf-says, says-leaf, pool-sound, sound-pool}
 use Rattle.sound.specs.Hanging.{root-left}
@@ -40,6 +40,11 @@ module _ (h : Handle) where
 pub old-stands : {h : Handle} {s : St} → SoundPool h s → (k i : ℕ) → i < 512 → InUse s k → ¬ (TableWord (levelAt s k) (wordAt s k i))
     → Stands h (levelAt s k) (wordAt s k i)
 old-stands P k i inside used old = record { plain = old; leaf = P .leaves k i inside used old }
+
+-- a word that is no table word is none for the forest
+pub not-table : {h : Handle} (placed : Placed h) (s : St) (k i : ℕ) → i < 512 → ¬ (TableWord (levelAt s k) (wordAt s k i))
+    → ¬ (IsTable (codecOf h placed) (view s) k i)
+not-table placed s k i inside old table = old (table .0, ap (λ (w : ℕ). w % 4) (sym (word-in s k i inside)) ∙ table .1)
 
 -- a used table of a sound pool stands in the words
 pub used-inside : {h : Handle} {s : St} → SoundPool h s → (k : ℕ) → InUse s k → Inside s k

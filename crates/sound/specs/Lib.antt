@@ -8,3 +8,4 @@ pub mod Hanging
 pub mod Lists
 pub mod Step
 pub mod Store
+pub mod Take

@@ -9,3 +9,5 @@ pub mod Lists
 pub mod Step
 pub mod Store
 pub mod Take
+pub mod FreeRun
+pub mod Free

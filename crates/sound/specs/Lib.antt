@@ -11,3 +11,4 @@ pub mod Store
 pub mod Take
 pub mod FreeRun
 pub mod Free
+pub mod Example

@@ -12,7 +12,7 @@ use Rattle.laws.specs.Size.{sizeAt}
 use Rattle.laws.specs.Test.{le-or, and-l, and-r, and-i, eq→eqb}
 use Rattle.entry.specs.Word.{addressOf, linkOf, only}
 use Rattle.pool.specs.State.{St, tables, wordAt, numberAt}
-use Rattle.pool.specs.Number.{rootNumber, numberOf, levelOf, parentOf, slotOf, Names, parent-back, slot-back, number-names, number-whole}
+use Rattle.pool.specs.Number.{rootNumber, numberOf, levelOf, parentOf, slotOf, Names, number-whole}
 use Rattle.pool.specs.Sound.{flagSet, plainFlags, fits, leafb}
 use Rattle.pool.specs.declared.Handle.{Handle}
 use Rattle.forest.specs.Sound.{Codec, Used, TableWord, parent, slotIn, IsTable, Hangs, Refers, Sound}
@@ -66,13 +66,18 @@ says-leaf set level w low leaf = and-i (only set (plainFlags w)) (fits level w) 
 
 module _ {x p i : ℕ} (names : NamesSlot x p i) where
   pub slot-names : Names x
-  slot-names = subst⁻¹ Names (names .number) (number-names (levelOf x) p i (omega arith) (names .slot))
+  unfolding numberOf
+  slot-names = omega arith
+
+  slot-place : x / 8 ≡ 512 * p + i + 1
+  unfolding numberOf
+  slot-place = omega arith
 
   pub slot-parent : parentOf x ≡ p
-  slot-parent = ap parentOf (names .number) ∙ parent-back (levelOf x) p i (omega arith) (names .slot)
+  slot-parent = omega (arith, slot-place)
 
   pub slot-slot : slotOf x ≡ i
-  slot-slot = ap slotOf (names .number) ∙ slot-back (levelOf x) p i (omega arith) (names .slot)
+  slot-slot = omega (arith, slot-place)
 
 -- a number that names a slot names its own
 pub names-slot : (x : ℕ) → Names x → NamesSlot x (parentOf x) (slotOf x)
@@ -112,7 +117,7 @@ module _ {h : Handle} (placed : Placed h) {s : St} where
 
       name : (k i : ℕ) → InUse s k → i < 512 → IsTable (codecOf h placed) (view s) k i → (c : ℕ) × Refers (codecOf h placed) (view s) k i c
       name k i used inside table =
-          let to = P .links k i inside used (table .0, ap (λ (w : ℕ). w % 4) (sym (word-in s k i inside)) ∙ table .1) in
+          let to = P .links k i inside used (omega (arith, table .0), ap (λ (w : ℕ). w % 4) (sym (word-in s k i inside)) ∙ table .1) in
           (to .0, refer (to .0) (to .1))
         where
           hung : (c : ℕ) → Names (numberAt s c) → ((c ≡ 0) × (numberAt s c ≡ rootNumber (h .level))) ⊎ Hangs (codecOf h placed) (view s) c → Hangs (codecOf h placed) (view s) c
@@ -156,7 +161,7 @@ module _ {h : Handle} (placed : Placed h) {s : St} where
     root = S .rooted 0 (rootNumber (h .level)) (refl, refl);
     hangs = λ k other used. (parentOf (numberAt s k), slotOf (numberAt s k), hangs-of (hung k other (S .hangs k used)));
     links = λ k i inside used table.
-        let to = S .names k i used (table .0, ap (λ (w : ℕ). w % 4) (word-in s k i inside) ∙ table .1) in (to .0, link k i inside (to .0) (to .1));
+        let to = S .names k i used (omega (arith, table .0), ap (λ (w : ℕ). w % 4) (word-in s k i inside) ∙ table .1) in (to .0, link k i inside (to .0) (to .1));
     leaves = λ k i inside used other.
         leaf-says (flagSet h) (levelAt s k) (wordAt s k i) (omega arith)
         (subst (λ (w : ℕ). T (leafb (flagSet h) (levelAt s k) w)) (word-in s k i inside)

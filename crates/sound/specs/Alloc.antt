@@ -1,16 +1,15 @@
 -- Counts off the ledger when a table is taken or freed, the count as a sum, and when a free table is found. Assumes nothing.
-use mathlib.Core.Path.{_≡_, refl, sym, ap, _∙_}
+use mathlib.Core.Path.{_≡_, refl, ap}
 use mathlib.Core.Bool.{cond}
 use mathlib.Core.List.{List, [], _∷_}
 use mathlib.Core.Logic.{_↔_}
-use Prim.Native.Nat.{ℕ, zero, suc, _+_, _<_}
+use Prim.Native.Nat.{ℕ, zero, suc, _<_}
 use native.Mathlib.Omega.{arith}
 use lib.Dec.{eqb, eqb·suc-zero}
 use lib.ListN.{length, getD, set, length-set}
 use Rattle.laws.specs.Sum.{sum, sum-shift}
 use Rattle.pool.specs.Number.{firstFrom, lowestFree, lowest-found, used, free, used-free}
-use Rattle.pool.specs.declared.Found.{Found}
-use Rattle.pool.specs.declared.Found.the-variants.{At, Nothing}
+use Rattle.pool.specs.declared.Found.the-variants.{At}
 
 -- ---- a free table is entered
 

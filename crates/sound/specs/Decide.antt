@@ -1,9 +1,8 @@
 -- The test `soundb` decides soundness: for a pool that refusal 1 lets pass it holds exactly when document 01's clauses do. Assumes nothing.
 use mathlib.Core.Path.{_≡_, refl, sym, ap, _∙_, subst, subst⁻¹}
-use mathlib.Core.Bool.{Bool, cond, _&&_, _||_}
+use mathlib.Core.Bool.{Bool, cond, _&&_}
 use mathlib.Core.Logic.{_⊎_, inl, inr, _≢_, _↔_}
-use Prim.Native.Nat.{ℕ, zero, suc, _+_, _*_, _-_, _/_, _%_, _^_, _≤_, _<_}
-use native.Mathlib.Nat.{zero-add}
+use Prim.Native.Nat.{ℕ, zero, suc, _+_, _*_, _-_, _/_, _%_, _<_}
 use native.Mathlib.Omega.{arith}
 use lib.Dec.{T, eqb, eqb→eq, leb, leb→le, le→leb, ltb, ltb→lt, lt→ltb}
 use lib.ListN.{length, getD}
@@ -16,7 +15,7 @@ use Rattle.pool.specs.Sound.{flagSet, leafb, namesb, hangsb, tableb, linkb, ref
 use Rattle.pool.specs.declared.Handle.{Handle}
 use Rattle.forest.specs.Sound.{TableWord}
 use Rattle.sound.specs.Codec.{used-in}
-use Rattle.sound.specs.Clauses.{InUse, levelAt, NamesSlot, HangsIn, LinksTo, LeafWord, SoundPool}
+use Rattle.sound.specs.Clauses.{InUse, levelAt, HangsIn, LinksTo, LeafWord, SoundPool}
 use Rattle.sound.specs.Generic.{leaf-says, says-leaf, slot-names, slot-parent, slot-slot, names-slot}
 
 -- ---- the tests, one by one, both ways
@@ -83,12 +82,14 @@ module _ (h : Handle) (s : St) where
       let t₂ = and-r (namesb z) (over && at) t₁ in
       let names = names-says z (and-l (namesb z) (over && at) t₁) in
       let from = eqb→eq (parentOf z) k (and-l over at t₂) in
-      let slot = eqb→eq (slotOf z) i (and-r over at t₂) in
-      (c, record {
-        inside = used-in s c (omega (arith, names));
-        says = sym is ∙ eqb→eq w (linkOf base c) (and-l word (namesb z && (over && at)) t);
-        names = rw (← from, ← slot) (names-slot z names);
-      })
+      let slot = eqb→eq (slotOf z) i (and-r over at t₂) in (
+        c,
+        record {
+          inside = used-in s c (omega (arith, names));
+          says = sym is ∙ eqb→eq w (linkOf base c) (and-l word (namesb z && (over && at)) t);
+          names = rw (← from, ← slot) (names-slot z names);
+        },
+      )
 
   says-link : Shaped h s → (k i c w : ℕ) → w ≡ wordAt s k i → LinksTo h s k i c → T (linkb (h .base .0) s k i w)
   unfolding linkb linkOf

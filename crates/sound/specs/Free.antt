@@ -1,15 +1,14 @@
 -- The third step on lists: a word is written in a slot and the whole subtree that the slot referred to is freed. Assumes nothing.
-use mathlib.Core.Path.{_≡_, refl, sym, ap, _∙_}
-use mathlib.Core.Bool.{true, false, cond}
-use mathlib.Core.Logic.{_⊎_, inl, inr, _≢_}
+use mathlib.Core.Path.{_≡_, refl, ap, _∙_}
+use mathlib.Core.Bool.{cond}
+use mathlib.Core.Logic.{_⊎_, inl, inr}
 use Prim.Native.Nat.{ℕ, suc, _+_, _*_, _<_}
 use native.Mathlib.Omega.{arith}
 use lib.Dec.{eqb}
-use lib.ListN.{length, length-set}
+use lib.ListN.{length-set}
 use borrow.Author.Tests.{ne-eqb}
 use Rattle.laws.specs.Sum.{sum, sum-ext, sum-add}
-use Rattle.laws.specs.Test.{eqb-cases}
-use Rattle.pool.specs.State.{St, tables, wordAt, numberAt}
+use Rattle.pool.specs.State.{St, tables, numberAt}
 use Rattle.pool.specs.Number.{used, free, used-free}
 use Rattle.pool.specs.Refuse.{Shaped}
 use Rattle.pool.specs.Table.{freeTree}
@@ -21,7 +20,7 @@ use Rattle.forest.specs.Free.{Frees}
 use Rattle.forest.specs.Nodes.{nodes, lies, lies-yes, lies-no, under-nodes}
 use Rattle.forest.specs.Move.{move-free}
 use Rattle.sound.specs.Alloc.{used-sum}
-use Rattle.sound.specs.Codec.{shaped-placed, codecOf, slotWord, view, used-in, treeFrom}
+use Rattle.sound.specs.Codec.{shaped-placed, codecOf, view, used-in, treeFrom}
 use Rattle.sound.specs.Clauses.{InUse, levelAt, SoundPool}
 use Rattle.sound.specs.Generic.{pool-sound}
 use Rattle.sound.specs.Lists.{storeAt, store-here, store-other}
@@ -65,10 +64,10 @@ module _ {h : Handle} {s : St} (shape : Shaped h s) (P : SoundPool h s) (left p 
       let under = under-nodes (pool-sound (shaped-placed shape) P) n (used-in s) left e (r .used) (omega (arith, low, refers-level r)) in
       let a = used-sum (s .ledger) in
       let b : used (after .ledger) ≡ sum n (λ k. cond (eqb (numberAt after k) 0) 0 1) =
-          used-sum (after .ledger) ∙ ap (λ (m : ℕ). sum m (λ k. cond (eqb (numberAt after k) 0) 0 1)) (run .size .same-tables) in
+      used-sum (after .ledger) ∙ ap (λ (m : ℕ). sum m (λ k. cond (eqb (numberAt after k) 0) 0 1)) (run .size .same-tables) in
       let c = sum-add n (λ k. cond (eqb (numberAt after k) 0) 0 1) (lies (codecOf h (shaped-placed shape)) (view s) e) in
       let d = sum-ext n (λ k. cond (eqb (numberAt after k) 0) 0 1 + lies (codecOf h (shaped-placed shape)) (view s) e k) (λ k. cond (eqb (numberAt s k) 0) 0 1)
-          (λ k small. at k (under-or e k)) in
+      (λ k small. at k (under-or e k)) in
       omega arith
     where
       mark : (x : ℕ) → 0 < x → cond {A = ℕ} (eqb x 0) 0 1 ≡ 1

@@ -2,18 +2,17 @@
 -- Assumes nothing.
 use mathlib.Core.Path.{_≡_, refl, sym, ap, _∙_, subst}
 use mathlib.Core.Logic.{_⊎_, inl, inr, _≢_}
-use Prim.Native.Nat.{ℕ, zero, suc, _+_, _*_, _-_, _%_, _^_, _≤_, _<_}
+use Prim.Native.Nat.{ℕ, zero, suc, _-_, _%_, _≤_, _<_}
 use native.Mathlib.Omega.{arith}
 use lib.ListN.{length}
 use Rattle.laws.specs.Slot.{iter}
 use Rattle.laws.specs.Test.{eq-or}
-use Rattle.entry.specs.Word.{linkOf}
-use Rattle.entry.specs.Sub.{subOf, sub-leaf, sub-link}
+use Rattle.entry.specs.Sub.{sub-leaf, sub-link}
 use Rattle.pool.specs.State.{St, tables, wordAt, numberAt}
 use Rattle.pool.specs.Refuse.{Shaped}
 use Rattle.pool.specs.Table.{clear, freeSlot, freeTree, slot-table, slot-leaf}
 use Rattle.pool.specs.declared.Handle.{Handle}
-use Rattle.forest.specs.Sound.{Codec, Used, levelIn, IsTable, Refers, Sound}
+use Rattle.forest.specs.Sound.{Codec, Refers, Sound}
 use Rattle.forest.specs.Under.{Under, NotUnder, LevelsLeft, under-self, under-zero, under-via, refers-level, refers-table, refers-child, refers-under, refers-over, refers-one}
 use Rattle.sound.specs.Codec.{shaped-placed, codecOf, slotWord, view, word-in, used-in}
 use Rattle.sound.specs.Clauses.{InUse, levelAt}
@@ -119,7 +118,7 @@ module _ {h : Handle} {s : St} (shape : Shaped h s) (S : Sound (codecOf h (shape
     slot-plain : slotWord s d n % 4 ≢ 3 → Done d (suc n) q step
     slot-plain other =
         let stays : q₁ ≡ step = slot-leaf (λ j t. freeTree left h j t) h (3 - suc left) d n q₁ refl
-            (sym (sub-leaf (h .base .0) (tables q₁) (3 - suc left) (wordAt q₁ d n) (λ table. other (ap (λ (w : ℕ). w % 4) (sym reads) ∙ table .1)))) in
+        (sym (sub-leaf (h .base .0) (tables q₁) (3 - suc left) (wordAt q₁ d n) (λ table. other (ap (λ (w : ℕ). w % 4) (sym reads) ∙ table .1)))) in
         subst (Done d (suc n) q) stays (record {
           gone = λ j i e m r l under. done .gone j i e m r (before i e r l) under;
           rest = λ j off. done .rest j (λ i e m r l under. off i e m r (omega arith) under);

@@ -1,7 +1,6 @@
 -- Document 01's clauses say the same as the forest's `Sound` for the codec of the handle, so all that is proved of forests holds of sound pools.
 -- And a leaf's clauses say what the test `leafb` computes. Assumes nothing.
 use mathlib.Core.Path.{_≡_, refl, sym, ap, _∙_, subst, subst⁻¹}
-use mathlib.Core.Bool.{not, _&&_}
 use mathlib.Core.Logic.{_⊎_, inl, inr, _≢_}
 use Prim.Native.Nat.{ℕ, zero, suc, _+_, _*_, _/_, _%_, _≤_, _<_}
 use native.Mathlib.Omega.{arith}
@@ -10,12 +9,12 @@ use lib.ListN.{length, List·getD-eq-default}
 use Rattle.laws.specs.Bit.{Sub}
 use Rattle.laws.specs.Size.{sizeAt}
 use Rattle.laws.specs.Test.{le-or, and-l, and-r, and-i, eq→eqb}
-use Rattle.entry.specs.Word.{addressOf, linkOf, only}
+use Rattle.entry.specs.Word.{addressOf, only}
 use Rattle.pool.specs.State.{St, tables, wordAt, numberAt}
 use Rattle.pool.specs.Number.{rootNumber, numberOf, levelOf, parentOf, slotOf, Names, number-whole}
 use Rattle.pool.specs.Sound.{flagSet, plainFlags, fits, leafb}
 use Rattle.pool.specs.declared.Handle.{Handle}
-use Rattle.forest.specs.Sound.{Codec, Used, TableWord, parent, slotIn, IsTable, Hangs, Refers, Sound}
+use Rattle.forest.specs.Sound.{IsTable, Hangs, Refers, Sound}
 use Rattle.sound.specs.Codec.{Placed, overOf, over-names, root-unnamed, codecOf, slotWord, view, word-in, word-out, used-in, table-in}
 use Rattle.sound.specs.Clauses.{InUse, levelAt, NamesSlot, HangsIn, LinksTo, LeafWord, SoundPool}
 

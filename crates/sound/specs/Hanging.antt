@@ -3,31 +3,35 @@
 use mathlib.Core.Path.{_≡_, refl, sym, ap, _∙_, subst}
 use mathlib.Core.List.{List, [], _∷_}
 use mathlib.Core.Logic.{_⊎_, inl, inr, _≢_}
-use Prim.Native.Nat.{ℕ, suc, _+_, _*_, _-_, _/_, _%_, _^_, _≤_, _<_}
+use Prim.Native.Nat.{ℕ, _+_, _-_, _%_, _<_}
 use native.Mathlib.Omega.{arith}
 use Rattle.entry.specs.Word.{addressOf, linkOf, link-address}
-use Rattle.entry.specs.Sub.{subOf, sub-found, sub-link}
+use Rattle.entry.specs.Sub.{subOf, sub-leaf, sub-found, sub-link}
 use Rattle.entry.specs.declared.Sub.{Sub}
-use Rattle.entry.specs.declared.Sub.the-variants.{Table}
+use Rattle.entry.specs.declared.Sub.the-variants.{Table, Outside, Leaf}
 use Rattle.pool.specs.State.{St, tables, wordAt, numberAt}
-use Rattle.pool.specs.Number.{rootNumber, levelOf, used}
+use Rattle.pool.specs.Number.{rootNumber, used}
 use Rattle.pool.specs.Refuse.{Shaped}
 use Rattle.pool.specs.declared.Handle.{Handle}
-use Rattle.forest.specs.Sound.{parent, slotIn, Refers, Hangs}
+use Rattle.forest.specs.Sound.{TableWord, parent, slotIn, Refers, Hangs}
 use Rattle.forest.specs.Under.{Under, hangs-refers, refers-table}
 use Rattle.forest.specs.Hang.{here as at-last, down as by, Points, Reaches, grounded, reached, path, once, root-free}
-use Rattle.forest.specs.Nodes.{nodes, inUse, used-nodes}
+use Rattle.forest.specs.Nodes.{nodes, inUse as countInUse, used-nodes}
 use Rattle.sound.specs.Alloc.{used-sum}
-use Rattle.sound.specs.Codec.{Placed, shaped-placed, childOf, child-link, codecOf, slotWord, view, word-in, used-in, table-in, rootTree}
+use Rattle.sound.specs.Codec.{Placed, shaped-placed, childOf, child-link, codecOf, view, word-in, used-in, table-in, rootTree}
 use Rattle.sound.specs.Clauses.{InUse, levelAt, SoundPool}
 use Rattle.sound.specs.Generic.{pool-sound}
+
+-- where slot i of table k leads, as the code finds it
+abbrev pub subAt : Handle → St → ℕ → ℕ → Sub
+subAt h s k i = subOf (h .base .0) (tables s) (levelAt s k) (wordAt s k i)
 
 module _ (h : Handle) (s : St) where
   -- slot i of the used table k refers to table c
   pub record Leads (k i c : ℕ) : Type 0 where
     pub used : InUse s k
     pub slot : i < 512
-    pub leads : subOf (h .base .0) (tables s) (levelAt s k) (wordAt s k i) ≡ Table c
+    pub leads : subAt h s k i ≡ Table c
 
   -- down from table k by the slots of a path, each of which refers to the next table, to table j
   pub data Follows : ℕ → List ℕ → ℕ → Type 0 where
@@ -48,19 +52,19 @@ unfolding rootNumber
 root-left placed P = omega (arith, placed .level, P .root)
 
 pub root-under : {h : Handle} {s : St} (placed : Placed h) → SoundPool h s → {j : ℕ} → InUse s j → (d : ℕ) × Under (codecOf h placed) (view s) 0 d j
-root-under {h} {s} placed P {j} used =
-    let g = grounded (pool-sound placed P) used in
+root-under {h} {s} placed P {j} inUse =
+    let g = grounded (pool-sound placed P) inUse in
     (g .deep, subst (λ (k : ℕ). Under (codecOf h placed) (view s) k (g .deep) j) (g .isRoot .0) (g .under))
 
 module _ {h : Handle} {s : St} (shape : Shaped h s) (P : SoundPool h s) where
   -- ---- what the code sees is what the forest sees
 
   pub refers-leads : {k i c : ℕ} → InUse s k → Refers (codecOf h (shaped-placed shape)) (view s) k i c → Leads h s k i c
-  refers-leads {k} {i} {c} used r =
+  refers-leads {k} {i} {c} inUse r =
       let table = refers-table r in
       let inside = table-in s k i (table .1) in
       record {
-        used = used;
+        used = inUse;
         slot = inside;
         leads = rw (sym (word-in s k i inside) ∙ r .says) (sub-link (h .base .0) (tables s) (levelAt s k) c (table .0) (shape .paged) (shape .ended) (used-in s c (r .used)));
       }
@@ -82,11 +86,36 @@ module _ {h : Handle} {s : St} (shape : Shaped h s) (P : SoundPool h s) where
   pub leads-refers : {k i c : ℕ} → Leads h s k i c → Refers (codecOf h (shaped-placed shape)) (view s) k i c
   leads-refers leads = once (pool-sound (shaped-placed shape) P) (leads-points leads)
 
+  -- a table word of a used table refers to a table of the pool; a slot that refers to none holds no table word
+  pub table-leads : (k i : ℕ) → InUse s k → i < 512 → TableWord (levelAt s k) (wordAt s k i) → (c : ℕ) × Leads h s k i c
+  table-leads k i inUse inside table =
+      let to = pool-sound (shaped-placed shape) P .names k i inUse (table .0, ap (λ (w : ℕ). w % 4) (word-in s k i inside) ∙ table .1) in
+      (to .0, refers-leads inUse (to .1))
+
+  pub leaf-plain : (k i : ℕ) → InUse s k → i < 512 → subAt h s k i ≡ Leaf → ¬ (TableWord (levelAt s k) (wordAt s k i))
+  leaf-plain k i inUse inside leaf table =
+      let to = table-leads k i inUse inside table in
+      let z : _≡_ {A = ℕ} 0 1 = cc (leaf, to .1 .leads) in
+      omega arith
+
+  -- no word of a used table points outside the pool
+  pub never-outside : (k i : ℕ) → InUse s k → i < 512 → ¬ (subAt h s k i ≡ Outside)
+  never-outside k i inUse inside out = other (λ table.
+      let to = table-leads k i inUse inside table in
+      let z : _≡_ {A = ℕ} 0 1 = cc (out, to .1 .leads) in
+      omega arith)
+    where
+      other : ¬ (¬ (TableWord (levelAt s k) (wordAt s k i)))
+      other none =
+          let leaf = sub-leaf (h .base .0) (tables s) (levelAt s k) (wordAt s k i) none in
+          let z : _≡_ {A = ℕ} 0 1 = cc (out, leaf) in
+          omega arith
+
   -- ---- every used table is reached from the root by following slots
 
   pub reach : {j : ℕ} → InUse s j → (slots : List ℕ) × Follows h s 0 slots j
-  reach {j} used =
-      let under = root-under (shaped-placed shape) P used in
+  reach {j} inUse =
+      let under = root-under (shaped-placed shape) P inUse in
       (path (codecOf h (shaped-placed shape)) (view s) (under .0) j [], follow (reached (pool-sound (shaped-placed shape) P) (under .1)))
     where
       follow : {k j : ℕ} {slots : List ℕ} → Reaches (codecOf h (shaped-placed shape)) (view s) k slots j → Follows h s k slots j
@@ -96,12 +125,12 @@ module _ {h : Handle} {s : St} (shape : Shaped h s) (P : SoundPool h s) where
   -- ---- exactly one slot of a used table refers to a used table other than the root
 
   pub refer-once : {c : ℕ} → c ≢ 0 → InUse s c → OneSlot h s c
-  refer-once {c} other used = go (pool-sound (shaped-placed shape) P .hangs c used)
+  refer-once {c} other inUse = go (pool-sound (shaped-placed shape) P .hangs c inUse)
     where
       go : ((c ≡ 0) × (numberAt s c ≡ rootNumber (h .level))) ⊎ Hangs (codecOf h (shaped-placed shape)) (view s) c → OneSlot h s c
       go (inl root) = absurd (other (root .0))
       go (inr hung) =
-          let r = hangs-refers used hung in
+          let r = hangs-refers inUse hung in
           record {
             table = parent (codecOf h (shaped-placed shape)) (view s) c;
             slot = slotIn (codecOf h (shaped-placed shape)) (view s) c;
@@ -123,7 +152,7 @@ module _ {h : Handle} {s : St} (shape : Shaped h s) (P : SoundPool h s) where
   -- ---- the tables in use are the nodes of the tree
 
   pub used-tree : used (s .ledger) ≡ nodes (rootTree h s)
-  unfolding inUse
+  unfolding countInUse
   used-tree =
       used-sum (s .ledger)
       ∙ used-nodes (pool-sound (shaped-placed shape) P) (tables s) (used-in s) (3 - h .level) 0 (refl, P .root) (λ k root. root .0) (root-left (shaped-placed shape) P)

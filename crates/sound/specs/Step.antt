@@ -2,23 +2,24 @@
 -- put in at the slot, and all else stays. Assumes nothing.
 use mathlib.Core.Path.{_≡_, sym, ap, _∙_}
 use mathlib.Core.List.{[], _∷_}
-use Prim.Native.Nat.{ℕ, _+_, _*_, _-_, _%_, _≤_, _<_}
+use mathlib.Core.Logic.{_≢_}
+use Prim.Native.Nat.{ℕ, _+_, _-_, _%_, _≤_, _<_}
 use native.Mathlib.Omega.{arith}
-use lib.Dec.{T}
 use lib.ListN.{length}
 use Rattle.pool.specs.State.{St, tables, wordAt, numberAt}
 use Rattle.pool.specs.Number.{levelOf}
 use Rattle.pool.specs.Refuse.{Shaped}
-use Rattle.pool.specs.Sound.{flagSet, leafb}
+use Rattle.pool.specs.Sound.{flagSet}
 use Rattle.pool.specs.declared.Handle.{Handle}
 use Rattle.forest.specs.Tree.{Tree, put}
 use Rattle.forest.specs.Sound.{TableWord, IsTable}
 use Rattle.forest.specs.Under.{Under}
 use Rattle.forest.specs.Hang.{path}
-use Rattle.forest.specs.Frame.{change-over}
+use Rattle.forest.specs.Frame.{NotUnderSlot, change-over}
 use Rattle.forest.specs.Keep.{Fits}
+use Rattle.forest.specs.Place.{slot-self}
 use Rattle.forest.specs.Move.{Move}
-use Rattle.sound.specs.Codec.{Placed, shaped-placed, zero-leaf, codecOf, view, word-in, used-in, rootTree}
+use Rattle.sound.specs.Codec.{Placed, zero-leaf, codecOf, view, word-in, used-in, rootTree}
 use Rattle.sound.specs.Clauses.{InUse, levelAt, LeafWord, SoundPool}
 use Rattle.sound.specs.Generic.{leaf-says, says-leaf, pool-sound, sound-pool}
 use Rattle.sound.specs.Hanging.{root-left}
@@ -77,3 +78,16 @@ module _ {h : Handle} {placed : Placed h} {s s′ : St} {left p i : ℕ} {t : Tr
   step-effect {d} under low =
       change-over (pool-sound placed P) (view s′) left (3 - h .level) (step .move .at .words) under low (root-left placed P)
       ∙ ap (λ (u : Tree). put (path (codecOf h placed) (view s) d p (i ∷ [])) u (rootTree h s)) (step .move .tree)
+
+  -- WHAT STAYS: the other slots of table p, and every used table that does not lie under the slot, with its number
+  pub step-slots : (j : ℕ) → j < 512 → j ≢ i → wordAt s′ p j ≡ wordAt s p j
+  step-slots j inside other = sym (word-in s′ p j inside) ∙ step .move .at .words .slots j other ∙ word-in s p j inside
+
+  pub step-others : (k : ℕ) → InUse s k → k ≢ p → NotUnderSlot (codecOf h placed) (view s) p i k → (j : ℕ) → j < 512 → wordAt s′ k j ≡ wordAt s k j
+  step-others k used other off j inside = sym (word-in s′ k j inside) ∙ step .move .at .words .others k used other off j ∙ word-in s k j inside
+
+  pub step-numbers : (k : ℕ) → InUse s k → NotUnderSlot (codecOf h placed) (view s) p i k → numberAt s′ k ≡ numberAt s k
+  step-numbers k used off = step .move .at .ledger k used off
+
+  pub step-own : InUse s p → numberAt s′ p ≡ numberAt s p
+  step-own used = step-numbers p used slot-self

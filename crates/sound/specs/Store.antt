@@ -1,6 +1,6 @@
 -- The first step on lists: a leaf word stored over a leaf word. The fourth: a table whose words are all 0 is unlinked and cleared.
 -- Assumes nothing.
-use mathlib.Core.Path.{_≡_, refl, sym, ap, _∙_}
+use mathlib.Core.Path.{_≡_, refl, ap, _∙_}
 use mathlib.Core.Logic.{_⊎_, inl, inr, _≢_}
 use Prim.Native.Nat.{ℕ, suc, _+_, _*_, _≤_, _<_}
 use native.Mathlib.Omega.{arith}
@@ -63,7 +63,7 @@ module _ {h : Handle} (placed : Placed h) {s : St} (P : SoundPool h s) (p i v : 
         → Step h placed s (clear e (storeAt p i v s)) left p i (leaf v)
     clear-step left low stands zeros = record {
       move = move-free (pool-sound placed P) left inUse inside low (stands-fits h placed (numberAt s p) stands)
-          (free-empty-frees (pool-sound placed P) (r .used) (λ j. zero j (le-or 512 j)) cleared) r;
+          (free-empty-frees (pool-sound placed P) (r .used) (λ j. empty j (le-or 512 j)) cleared) r;
       same-tables = clear-tables e (storeAt p i v s);
       same-words = clear-words e (storeAt p i v s) at ∙ length-set (s .words) (512 * p + i) v;
     }
@@ -71,15 +71,16 @@ module _ {h : Handle} (placed : Placed h) {s : St} (P : SoundPool h s) (p i v : 
         at : Inside (storeAt p i v s) e
         at = omega (arith, used-inside P e (r .used), length-set (s .words) (512 * p + i) v)
 
-        zero : (j : ℕ) → (512 ≤ j) ⊎ (j < 512) → slotWord s e j ≡ 0
-        zero j (inl past) = word-out s e j past
-        zero j (inr below) = word-in s e j below ∙ zeros j below
+        empty : (j : ℕ) → (512 ≤ j) ⊎ (j < 512) → slotWord s e j ≡ 0
+        empty j (inl past) = word-out s e j past
+        empty j (inr below) = word-in s e j below ∙ zeros j below
 
-    -- one table less is in use
-    pub clear-used : suc (used (clear e (storeAt p i v s) .ledger)) ≡ used (s .ledger)
-    unfolding clear
-    clear-used = used-clear (s .ledger) e (r .used)
+-- one table less is in use, one more is free
+module _ (e : ℕ) (s : St) (inUse : InUse s e) where
+  pub clear-used : suc (used (clear e s .ledger)) ≡ used (s .ledger)
+  unfolding clear
+  clear-used = used-clear (s .ledger) e inUse
 
-    pub clear-free : free (clear e (storeAt p i v s) .ledger) ≡ suc (free (s .ledger))
-    unfolding clear
-    clear-free = free-clear (s .ledger) e (r .used)
+  pub clear-free : free (clear e s .ledger) ≡ suc (free (s .ledger))
+  unfolding clear
+  clear-free = free-clear (s .ledger) e inUse

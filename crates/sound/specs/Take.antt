@@ -2,7 +2,7 @@
 -- Assumes nothing.
 use mathlib.Core.Path.{_≡_, refl, sym, ap, _∙_}
 use mathlib.Core.List.{List}
-use mathlib.Core.Logic.{_⊎_, inl, inr, _≢_}
+use mathlib.Core.Logic.{_≢_}
 use Prim.Native.Nat.{ℕ, suc, _+_, _*_, _≤_, _<_}
 use native.Mathlib.Omega.{arith}
 use lib.ListN.{length, getD, set, length-set, List·getD-eq-default}
@@ -10,35 +10,49 @@ use lib.Seq.{getD-set-same, getD-set-other}
 use Rattle.entry.specs.Word.{linkOf}
 use Rattle.pool.specs.State.{St, st, tables, wordAt, numberAt}
 use Rattle.pool.specs.Number.{levelOf, numberOf, Names, parent-back, slot-back, number-names, lowestFree, Lowest, lowest-found, used, free}
-use Rattle.pool.specs.Refuse.{Shaped}
 use Rattle.pool.specs.Table.{putTable, length-table, takeAt, taken, takeTable, take-some}
 use Rattle.pool.specs.declared.Handle.{Handle}
-use Rattle.pool.specs.declared.Found.{Found}
-use Rattle.pool.specs.declared.Found.the-variants.{At, Nothing}
+use Rattle.pool.specs.declared.Found.the-variants.{At}
 use Rattle.forest.specs.Tree.{leaf, node}
 use Rattle.forest.specs.Sound.{TableWord}
-use Rattle.forest.specs.Keep.{Fits}
 use Rattle.forest.specs.Split.{Splits, Fit, new-tree}
 use Rattle.forest.specs.Move.{work-skip, split-at, move-split}
 use Rattle.sound.specs.Alloc.{used-take, free-take}
-use Rattle.sound.specs.Codec.{Placed, over-names, number-pos, level-of, codecOf, slotWord, view}
+use Rattle.sound.specs.Codec.{Placed, over-names, number-pos, level-of, codecOf, view}
 use Rattle.sound.specs.Clauses.{InUse, levelAt, SoundPool}
-use Rattle.sound.specs.Generic.{pool-sound, slot-names, slot-parent, slot-slot}
-use Rattle.sound.specs.Lists.{Inside, storeAt, store-here, store-other, put-here, put-other}
+use Rattle.sound.specs.Generic.{pool-sound}
+use Rattle.sound.specs.Lists.{Inside, store-here, store-other, put-here, put-other}
 use Rattle.sound.specs.Step.{Stands, stands-fits, not-table, used-inside, Step}
+
+-- ---- what is taken, and the counts; nothing is asked of the pool
+
+module _ (h : Handle) (level p i : ℕ) (t : List ℕ) (s : St) (f : ℕ) (found : lowestFree (s .ledger) ≡ At f) where
+  pub take-is : takeTable h level p i t s ≡ taken (At f) (takeAt h level p i t f s)
+  take-is = sym (take-some h level p i t s f refl found)
+
+  -- the lowest free table
+  pub take-lowest : Lowest (s .ledger) f
+  take-lowest = lowest-found (s .ledger) f found
+
+  -- one table more is in use, one less is free
+  pub take-used : used (takeAt h level p i t f s .ledger) ≡ suc (used (s .ledger))
+  unfolding takeAt
+  take-used = used-take (s .ledger) f (numberOf level p i) (take-lowest .inside) (take-lowest .free) (number-pos level p i)
+
+  pub take-free : suc (free (takeAt h level p i t f s .ledger)) ≡ free (s .ledger)
+  unfolding takeAt
+  take-free = free-take (s .ledger) f (numberOf level p i) (take-lowest .inside) (take-lowest .free) (number-pos level p i)
+
+-- ---- the step
 
 module _ {h : Handle} (placed : Placed h) {s : St} (P : SoundPool h s) (level p i : ℕ) (t : List ℕ) (f : ℕ)
     (inUse : InUse s p) (inside : i < 512) (below : level ≡ levelAt s p + 1) (high : level ≤ 3) (full : length t ≡ 512)
     (found : lowestFree (s .ledger) ≡ At f) where
-  -- what is taken is the lowest free table
   lowest : Lowest (s .ledger) f
   lowest = lowest-found (s .ledger) f found
 
   abbrev after : St
   after = takeAt h level p i t f s
-
-  pub take-is : takeTable h level p i t s ≡ taken (At f) after
-  take-is = sym (take-some h level p i t s f refl found)
 
   apart : p ≢ f
   apart same = omega (arith, inUse, lowest .free, ap (numberAt s) same)
@@ -99,13 +113,3 @@ module _ {h : Handle} (placed : Placed h) {s : St} (P : SoundPool h s) (level p 
           same-tables = take-tables;
           same-words = take-words;
         }
-
-  -- ---- one table more is in use, one less is free
-
-  pub take-used : used (after .ledger) ≡ suc (used (s .ledger))
-  unfolding takeAt
-  take-used = used-take (s .ledger) f (numberOf level p i) (lowest .inside) (lowest .free) (number-pos level p i)
-
-  pub take-free : suc (free (after .ledger)) ≡ free (s .ledger)
-  unfolding takeAt
-  take-free = free-take (s .ledger) f (numberOf level p i) (lowest .inside) (lowest .free) (number-pos level p i)

@@ -76,11 +76,11 @@ zero-leaf set (suc (suc (suc l))) = tt
 
 -- ---- the codec
 
+-- the root's number is in use, and names no slot
 pub root-self : (h : Handle) → h .level ≤ 3 → (k x : ℕ) → x ≡ rootNumber (h .level) → overOf k x ≡ k
 unfolding rootNumber
 root-self h low k x e = over-self k x (omega arith)
 
--- and so names no slot
 pub root-unnamed : (h : Handle) → h .level ≤ 3 → (x : ℕ) → x ≡ rootNumber (h .level) → ¬ (Names x)
 unfolding rootNumber
 root-unnamed h low x e names = omega arith
@@ -89,7 +89,7 @@ pub root-pos : (h : Handle) (x : ℕ) → x ≡ rootNumber (h .level) → 0 < x
 unfolding rootNumber
 root-pos h x e = omega arith
 
--- Tables are numbered below 32,768 at the most, wherever the limit on n stands.
+-- The codec knows 32,768 tables: more than the limit on n, so that it does not change when that limit is raised.
 abbrev pub codecOf : (h : Handle) → Placed h → Codec
 codecOf h placed = record {
   level = levelOf;

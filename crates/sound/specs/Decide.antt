@@ -1,0 +1,213 @@
+-- The test `soundb` decides soundness: for a pool that refusal 1 lets pass it holds exactly when document 01's clauses do. Assumes nothing.
+use mathlib.Core.Path.{_≡_, refl, sym, ap, _∙_, subst, subst⁻¹}
+use mathlib.Core.Bool.{Bool, cond, _&&_}
+use mathlib.Core.Logic.{_⊎_, inl, inr, _≢_, _↔_}
+use Prim.Native.Nat.{ℕ, zero, suc, _+_, _*_, _-_, _/_, _%_, _<_}
+use native.Mathlib.Omega.{arith}
+use lib.Dec.{T, eqb, eqb→eq, leb, leb→le, le→leb, ltb, ltb→lt, lt→ltb}
+use lib.ListN.{length, getD}
+use Rattle.laws.specs.Test.{eq-or, and-l, and-r, and-i, or-e, or-l, or-r, cond-true, cond-false, cond-of, eq→eqb, allBelow, all-to, all-of, allFrom, from-to, from-of}
+use Rattle.entry.specs.Word.{addressOf, linkOf, link-address}
+use Rattle.pool.specs.State.{St, tables, wordAt, numberAt}
+use Rattle.pool.specs.Number.{rootNumber, levelOf, parentOf, slotOf, Names}
+use Rattle.pool.specs.Refuse.{Shaped}
+use Rattle.pool.specs.Sound.{flagSet, leafb, namesb, hangsb, tableb, linkb, refersb, slotb, soundb}
+use Rattle.pool.specs.declared.Handle.{Handle}
+use Rattle.forest.specs.Sound.{TableWord}
+use Rattle.sound.specs.Codec.{used-in}
+use Rattle.sound.specs.Clauses.{InUse, levelAt, HangsIn, LinksTo, LeafWord, SoundPool}
+use Rattle.sound.specs.Generic.{leaf-says, says-leaf, slot-names, slot-parent, slot-slot, names-slot}
+
+-- ---- the tests, one by one, both ways
+
+names-says : (x : ℕ) → T (namesb x) → Names x
+unfolding namesb
+names-says x t = record { kind = leb→le 4 (x % 8) (and-l (leb 4 (x % 8)) (leb 1 (x / 8)) t); some = leb→le 1 (x / 8) (and-r (leb 4 (x % 8)) (leb 1 (x / 8)) t) }
+
+says-names : (x : ℕ) → Names x → T (namesb x)
+unfolding namesb
+says-names x names = and-i (leb 4 (x % 8)) (leb 1 (x / 8)) (le→leb 4 (x % 8) (names .kind)) (le→leb 1 (x / 8) (names .some))
+
+refers-says : (y w : ℕ) → T (refersb y w) → TableWord (levelOf y) w
+unfolding refersb
+refers-says y w t = (ltb→lt (levelOf y) 3 (and-l (ltb (levelOf y) 3) (eqb (w % 4) 3) t), eqb→eq (w % 4) 3 (and-r (ltb (levelOf y) 3) (eqb (w % 4) 3) t))
+
+says-refers : (y w : ℕ) → TableWord (levelOf y) w → T (refersb y w)
+unfolding refersb
+says-refers y w table = and-i (ltb (levelOf y) 3) (eqb (w % 4) 3) (lt→ltb (levelOf y) 3 (table .0)) (eq→eqb (w % 4) 3 (table .1))
+
+module _ (h : Handle) (s : St) where
+  hangs-says : (k : ℕ) → T (hangsb (h .base .0) s k) → HangsIn h s k (parentOf (numberAt s k)) (slotOf (numberAt s k))
+  unfolding hangsb
+  hangs-says k t =
+      let x = numberAt s k in
+      let y = numberAt s (parentOf x) in
+      let level = eqb (levelOf x) (suc (levelOf y)) in
+      let used = ltb 0 y in
+      let word = eqb (wordAt s (parentOf x) (slotOf x)) (linkOf (h .base .0) k) in
+      let t₁ = and-r (namesb x) (level && (used && word)) t in
+      let t₂ = and-r level (used && word) t₁ in
+      let below = eqb→eq (levelOf x) (suc (levelOf y)) (and-l level (used && word) t₁) in
+      record {
+        names = names-slot x (names-says x (and-l (namesb x) (level && (used && word)) t));
+        used = ltb→lt 0 y (and-l used word t₂);
+        higher = omega (arith, below);
+        refers = eqb→eq (wordAt s (parentOf x) (slotOf x)) (linkOf (h .base .0) k) (and-r used word t₂);
+      }
+
+  says-hangs : (k p i : ℕ) → HangsIn h s k p i → T (hangsb (h .base .0) s k)
+  unfolding hangsb
+  says-hangs k p i hangs =
+      let x = numberAt s k in
+      let y = numberAt s (parentOf x) in
+      let from : parentOf x ≡ p = slot-parent (hangs .names) in
+      let at : slotOf x ≡ i = slot-slot (hangs .names) in
+      let below : levelOf x ≡ suc (levelOf y) = subst⁻¹ (λ (q : ℕ). levelOf x ≡ suc (levelAt s q)) from (omega (arith, hangs .higher)) in
+      let refers : wordAt s (parentOf x) (slotOf x) ≡ linkOf (h .base .0) k = rw (from, at) (hangs .refers) in
+      and-i (namesb x) _ (says-names x (slot-names (hangs .names)))
+      (and-i (eqb (levelOf x) (suc (levelOf y))) _ (eq→eqb (levelOf x) (suc (levelOf y)) below)
+      (and-i (ltb 0 y) _ (lt→ltb 0 y (subst⁻¹ (λ (q : ℕ). InUse s q) from (hangs .used)))
+      (eq→eqb (wordAt s (parentOf x) (slotOf x)) (linkOf (h .base .0) k) refers)))
+
+  link-says : (k i w : ℕ) → w ≡ wordAt s k i → T (linkb (h .base .0) s k i w) → (c : ℕ) × LinksTo h s k i c
+  unfolding linkb
+  link-says k i w is t =
+      let base = h .base .0 in
+      let c = (addressOf w - base) / 4096 in
+      let z = numberAt s c in
+      let word = eqb w (linkOf base c) in
+      let over = eqb (parentOf z) k in
+      let at = eqb (slotOf z) i in
+      let t₁ = and-r word (namesb z && (over && at)) t in
+      let t₂ = and-r (namesb z) (over && at) t₁ in
+      let names = names-says z (and-l (namesb z) (over && at) t₁) in
+      let from = eqb→eq (parentOf z) k (and-l over at t₂) in
+      let slot = eqb→eq (slotOf z) i (and-r over at t₂) in (
+        c,
+        record {
+          inside = used-in s c (omega (arith, names));
+          says = sym is ∙ eqb→eq w (linkOf base c) (and-l word (namesb z && (over && at)) t);
+          names = rw (← from, ← slot) (names-slot z names);
+        },
+      )
+
+  says-link : Shaped h s → (k i c w : ℕ) → w ≡ wordAt s k i → LinksTo h s k i c → T (linkb (h .base .0) s k i w)
+  unfolding linkb linkOf
+  says-link shape k i c w is links =
+      let base = h .base .0 in
+      let z = numberAt s c in
+      let address = link-address base c (shape .paged) (omega (arith, links .inside, shape .ended)) in
+      let here : (addressOf w - base) / 4096 ≡ c = rw (is ∙ links .says) (omega (arith, address)) in
+      rw here
+      (and-i (eqb w (linkOf base c)) _ (eq→eqb w (linkOf base c) (is ∙ links .says))
+      (and-i (namesb z) _ (says-names z (slot-names (links .names)))
+      (and-i (eqb (parentOf z) k) (eqb (slotOf z) i) (eq→eqb (parentOf z) k (slot-parent (links .names))) (eq→eqb (slotOf z) i (slot-slot (links .names))))))
+
+  -- ---- one slot
+
+  abbrev Slot : ℕ → ℕ → Type 0
+  Slot k i = T (slotb h s k i (wordAt s k i))
+
+  slot-zero : (k i : ℕ) → Slot k i → numberAt s k ≡ 0 → wordAt s k i ≡ 0
+  unfolding slotb
+  slot-zero k i t none = eqb→eq (wordAt s k i) 0 (cond-true (eqb (numberAt s k) 0) _ _ (eq→eqb (numberAt s k) 0 none) t)
+
+  slot-used : (k i : ℕ) → Slot k i → InUse s k
+      → T (cond (refersb (numberAt s k) (wordAt s k i)) (linkb (h .base .0) s k i (wordAt s k i)) (leafb (flagSet h) (levelAt s k) (wordAt s k i)))
+  unfolding slotb
+  slot-used k i t used = cond-false (eqb (numberAt s k) 0) _ _ (λ z. let e : numberAt s k ≡ 0 = eqb→eq (numberAt s k) 0 z in omega arith) t
+
+  slot-link : (k i : ℕ) → Slot k i → InUse s k → TableWord (levelAt s k) (wordAt s k i) → (c : ℕ) × LinksTo h s k i c
+  slot-link k i t used table =
+      link-says k i (wordAt s k i) refl (cond-true (refersb (numberAt s k) (wordAt s k i)) _ _ (says-refers (numberAt s k) (wordAt s k i) table) (slot-used k i t used))
+
+  slot-leaf : (k i : ℕ) → Slot k i → InUse s k → ¬ (TableWord (levelAt s k) (wordAt s k i)) → LeafWord (flagSet h) (levelAt s k) (wordAt s k i)
+  slot-leaf k i t used other =
+      leaf-says (flagSet h) (levelAt s k) (wordAt s k i) (omega arith)
+      (cond-false (refersb (numberAt s k) (wordAt s k i)) _ _ (λ r. other (refers-says (numberAt s k) (wordAt s k i) r)) (slot-used k i t used))
+
+  says-slot : Shaped h s → SoundPool h s → (k i : ℕ) → k < tables s → i < 512 → Slot k i
+  unfolding slotb
+  says-slot shape P k i below inside =
+      let y = numberAt s k in
+      let w = wordAt s k i in
+      cond-of (eqb y 0) (eqb w 0) _ (λ z. eq→eqb w 0 (P .free k i below inside (eqb→eq y 0 z)))
+      (λ nz.
+      let used : InUse s k = pos y nz in
+      cond-of (refersb y w) (linkb (h .base .0) s k i w) (leafb (flagSet h) (levelOf y) w)
+      (λ r. let to = P .links k i inside used (refers-says y w r) in says-link shape k i (to .0) w refl (to .1))
+      (λ nr. says-leaf (flagSet h) (levelOf y) w (omega arith) (P .leaves k i inside used (λ table. nr (says-refers y w table)))))
+    where
+      pos : (y : ℕ) → ¬ (T (eqb y 0)) → 0 < y
+      pos zero nz = absurd (nz tt)
+      pos (suc y) nz = omega arith
+
+  -- slot i of table k is word 512·k + i
+  place : (k i : ℕ) → i < 512 → slotb h s ((0 + (512 * k + i)) / 512) ((0 + (512 * k + i)) % 512) (wordAt s k i) ≡ slotb h s k i (wordAt s k i)
+  place k i inside =
+      let over : (0 + (512 * k + i)) / 512 ≡ k = omega arith in
+      let at : (0 + (512 * k + i)) % 512 ≡ i = omega arith in
+      ap (λ (q : ℕ). slotb h s q ((0 + (512 * k + i)) % 512) (wordAt s k i)) over ∙ ap (λ (q : ℕ). slotb h s k q (wordAt s k i)) at
+
+-- ---- the whole
+
+module _ {h : Handle} {s : St} (shape : Shaped h s) where
+  abbrev word : ℕ → ℕ → Bool
+  word x w = slotb h s (x / 512) (x % 512) w
+
+  pub decide-sound : T (soundb h s) → SoundPool h s
+  unfolding soundb tableb
+  decide-sound t = record {
+    sized = shape .sized;
+    root = eqb→eq (numberAt s 0) (rootNumber (h .level)) (table 0 (omega (arith, shape .some)));
+    hangs = λ k other used. (parentOf (numberAt s k), slotOf (numberAt s k), hang k other used);
+    links = λ k i inside used. slot-link h s k i (slot k i (used-in s k used) inside) used;
+    leaves = λ k i inside used. slot-leaf h s k i (slot k i (used-in s k used) inside) used;
+    free = λ k i below inside none. slot-zero h s k i (slot k i below inside) none;
+  }
+    where
+      table : (k : ℕ) → k < tables s → T (tableb h s k)
+      table = all-to (tables s) (tableb h s) (and-l (allBelow (tables s) (tableb h s)) (allFrom 0 (s .words) word) t)
+
+      hang : (k : ℕ) → k ≢ 0 → InUse s k → HangsIn h s k (parentOf (numberAt s k)) (slotOf (numberAt s k))
+      hang zero other used = absurd (other refl)
+      hang (suc k) other used = go (or-e (eqb (numberAt s (suc k)) 0) (hangsb (h .base .0) s (suc k)) (table (suc k) (used-in s (suc k) used)))
+        where
+          go : T (eqb (numberAt s (suc k)) 0) ⊎ T (hangsb (h .base .0) s (suc k)) → HangsIn h s (suc k) (parentOf (numberAt s (suc k))) (slotOf (numberAt s (suc k)))
+          go (inl z) = absurd (omega (arith, used, eqb→eq (numberAt s (suc k)) 0 z))
+          go (inr hangs) = hangs-says h s (suc k) hangs
+
+      slot : (k i : ℕ) → k < tables s → i < 512 → T (slotb h s k i (wordAt s k i))
+      slot k i below inside =
+          subst T (place h s k i inside)
+          (from-to 0 (s .words) word (and-r (allBelow (tables s) (tableb h s)) (allFrom 0 (s .words) word) t) (512 * k + i) (omega (arith, shape .sized)))
+
+  pub sound-decide : SoundPool h s → T (soundb h s)
+  unfolding soundb tableb
+  sound-decide P =
+      and-i (allBelow (tables s) (tableb h s)) (allFrom 0 (s .words) word)
+      (all-of (tables s) (tableb h s) (λ k below. table k))
+      (from-of 0 (s .words) word at)
+    where
+      table : (k : ℕ) → T (tableb h s k)
+      table zero = eq→eqb (numberAt s 0) (rootNumber (h .level)) (P .root)
+      table (suc k) = go (eq-or (numberAt s (suc k)) 0)
+        where
+          go : (numberAt s (suc k) ≡ 0) ⊎ (numberAt s (suc k) ≢ 0) → T (tableb h s (suc k))
+          go (inl free) = or-l (eqb (numberAt s (suc k)) 0) (hangsb (h .base .0) s (suc k)) (eq→eqb (numberAt s (suc k)) 0 free)
+          go (inr used) =
+              let at = P .hangs (suc k) (λ e. omega arith) (omega arith) in
+              or-r (eqb (numberAt s (suc k)) 0) (hangsb (h .base .0) s (suc k)) (says-hangs h s (suc k) (at .0) (at .1) (at .2))
+
+      at : (j : ℕ) → j < length (s .words) → T (word (0 + j) (getD (s .words) j 0))
+      at j below =
+          let k = j / 512 in
+          let i = j % 512 in
+          let inside : i < 512 = omega arith in
+          let e : 512 * k + i ≡ j = omega arith in
+          subst (λ (x : ℕ). T (word (0 + x) (getD (s .words) x 0))) e
+          (subst⁻¹ T (place h s k i inside) (says-slot h s shape P k i (omega (arith, shape .sized)) inside))
+
+  -- the pool check accepts only a sound pool, and every sound pool
+  pub sound-exactly : T (soundb h s) ↔ SoundPool h s
+  sound-exactly = (decide-sound, sound-decide)

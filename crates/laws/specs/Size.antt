@@ -115,3 +115,7 @@ size-aligned level a b = or-aligned (12 + 9 * (3 - level)) a b
 
 pub next-multiple : (i a : ℕ) → (i + 1) * a ≡ i * a + a
 next-multiple i a = add-mul i 1 a ∙ (let e : i * a + 1 * a ≡ i * a + a = omega arith in e)
+
+-- a level that is none of 0, 1 and 2
+pub high-level : (level : ℕ) → (level ≡ 0 → ⊥) → (level ≡ 1 → ⊥) → (level ≡ 2 → ⊥) → 3 ≤ level
+high-level level a b c = omega arith

@@ -1,7 +1,7 @@
 -- The lent pool as one record: 512·n words and n ledger numbers, and what stands in a slot. Assumes nothing.
 use mathlib.Core.List.{List}
 use Prim.Native.Nat.{ℕ, _+_, _*_}
-use lib.ListN.{length, getD}
+use lib.ListN.{length, getD, set}
 
 -- document 01, "Pool and ledger"
 pub record St : Type 0 where
@@ -22,3 +22,7 @@ wordAt s k i = getD (s .words) (512 * k + i) 0
 -- the ledger number of table k
 abbrev pub numberAt : St → ℕ → ℕ
 numberAt s k = getD (s .ledger) k 0
+
+-- the word v stored in slot i of table k
+abbrev pub storeAt : ℕ → ℕ → ℕ → St → St
+storeAt k i v s = st (set (s .words) (512 * k + i) v) (s .ledger)

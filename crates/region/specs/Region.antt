@@ -1,7 +1,7 @@
 -- Regions and the next chunk, and a law for each way through the code. Assumes nothing.
 use mathlib.Core.Path.{_≡_, refl, sym, ap, _∙_}
 use mathlib.Core.Bool.{cond}
-use Prim.Native.Nat.{ℕ, _+_, _-_, _≤_, _<_, min}
+use Prim.Native.Nat.{ℕ, _+_, _-_, _/_, _%_, _≤_, _<_, min}
 use lib.Dec.{ltb}
 use borrow.Author.Tests.{lt-ltb, le-ltb}
 use Rattle.laws.specs.Size.{sizeAt, down}
@@ -22,6 +22,10 @@ rounded start end = region (down start 4096) (alignUp end 4096)
 -- the last address of the entry that holds a
 unfoldable pub entryLast : ℕ → ℕ → ℕ
 entryLast level a = down a (sizeAt level) + (sizeAt level - 1)
+
+-- the slot of that entry in its table
+unfoldable pub entryIndex : ℕ → ℕ → ℕ
+entryIndex level a = a / sizeAt level % 512
 
 -- where the chunk that begins at s ends: with its entry, or with the region
 unfoldable pub chunkEnd : ℕ → ℕ → ℕ → ℕ

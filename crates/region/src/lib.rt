@@ -5,7 +5,7 @@ ghost use mathlib.Core.Bool.{_&&_};
 ghost use Prim.Native.Nat.{_-_, _%_};
 ghost use lib.Dec.{eqb};
 ghost use Rattle.laws.specs.Size.{sizeAt};
-ghost use Rattle.region.specs.Region.{rounded, entryLast, chunkEnd, nextChunk};
+ghost use Rattle.region.specs.Region.{rounded, entryLast, entryIndex, chunkEnd, nextChunk};
 
 // The addresses from start up to end, which is not among them.
 pub struct MemoryRegion {
@@ -30,6 +30,18 @@ pub fn entry_last(va: u64, level: usize) -> u64
     ensures { λ r. ⌜ r ≡ entryLast level va ⌝ }
 {
     va | (address::granularity_at_level(level) - 1)
+}
+
+// The slot of the entry at this level that holds the address.
+pub fn entry_index(va: u64, level: usize) -> usize
+    ensures { λ r. ⌜ r ≡ entryIndex level va ⌝ }
+{
+    match level {
+        0 => (va / 0x80_0000_0000 % 512) as usize,
+        1 => (va / 0x4000_0000 % 512) as usize,
+        2 => (va / 0x20_0000 % 512) as usize,
+        _ => (va / 4096 % 512) as usize,
+    }
 }
 
 // Where the chunk that begins at start ends: with its entry, or with the region.

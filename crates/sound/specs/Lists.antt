@@ -8,7 +8,7 @@ use lib.ListN.{length, getD, set, length-set, List·getD-eq-default}
 use lib.Seq.{getD-set-same, getD-set-other}
 use Rattle.laws.specs.Part.{put-before, put-inside, put-after}
 use Rattle.laws.specs.Test.{le-or}
-use Rattle.pool.specs.State.{St, st, tables, wordAt, numberAt}
+use Rattle.pool.specs.State.{storeAt, St, st, tables, wordAt, numberAt}
 use Rattle.pool.specs.Table.{putTable, zeros, clear, length-zeros, zeros-at, length-table}
 use Rattle.forest.specs.Keep.{SameSlot}
 use Rattle.sound.specs.Codec.{slotWord, word-in, word-out}
@@ -18,10 +18,6 @@ abbrev pub Inside : St → ℕ → Type 0
 Inside s k = 512 * k + 512 ≤ length (s .words)
 
 -- ---- one store
-
--- s with the word v in slot i of table p
-abbrev pub storeAt : ℕ → ℕ → ℕ → St → St
-storeAt p i v s = st (set (s .words) (512 * p + i) v) (s .ledger)
 
 module _ (s : St) (p i v : ℕ) (inside : i < 512) where
   pub store-here : Inside s p → slotWord (storeAt p i v s) p i ≡ v

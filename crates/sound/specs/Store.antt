@@ -6,7 +6,7 @@ use Prim.Native.Nat.{ℕ, suc, _+_, _*_, _≤_, _<_}
 use native.Mathlib.Omega.{arith}
 use lib.ListN.{length-set}
 use Rattle.laws.specs.Test.{le-or}
-use Rattle.pool.specs.State.{St, wordAt, numberAt}
+use Rattle.pool.specs.State.{storeAt, St, wordAt, numberAt}
 use Rattle.pool.specs.Number.{used, free}
 use Rattle.pool.specs.Table.{clear}
 use Rattle.pool.specs.declared.Handle.{Handle}
@@ -20,7 +20,7 @@ use Rattle.sound.specs.Alloc.{used-clear, free-clear}
 use Rattle.sound.specs.Codec.{Placed, codecOf, slotWord, view, word-in, word-out}
 use Rattle.sound.specs.Clauses.{InUse, levelAt, SoundPool}
 use Rattle.sound.specs.Generic.{pool-sound}
-use Rattle.sound.specs.Lists.{Inside, storeAt, store-here, store-other, clear-tables, clear-words, clear-number, clear-number-other, clear-word, clear-word-other}
+use Rattle.sound.specs.Lists.{Inside, store-here, store-other, clear-tables, clear-words, clear-number, clear-number-other, clear-word, clear-word-other}
 use Rattle.sound.specs.Step.{Stands, stands-fits, not-table, used-inside, Step}
 
 module _ {h : Handle} (placed : Placed h) {s : St} (P : SoundPool h s) (p i v : ℕ) (inUse : InUse s p) (inside : i < 512) where

@@ -1,15 +1,9 @@
-use mathlib.Core.Path.{_≡_, refl, sym, ap}
-use Prim.Native.Nat.{ℕ, suc, zero, _≤_}
-use native.Mathlib.Omega.{arith}
-use Rattle.laws.specs.Size.{sizeAt, size-page}
+use mathlib.Core.Path.{sym, ap}
+use Rattle.laws.specs.Size.{sizeAt, size-page, high-level}
 use Rattle.address.proofs.granularity_at_level.Statement.{statement}
 use Rattle.address.proofs.granularity_at_level.Tie as tie
 use Rattle.address.proofs.granularity_at_level.Reads as reads
 use Rattle.address.proofs.granularity_at_level.Lts as lts
-
--- a level that is none of 0, 1 and 2
-high : (level : ℕ) → (level ≡ 0 → ⊥) → (level ≡ 1 → ⊥) → (level ≡ 2 → ⊥) → 3 ≤ level
-high level a b c = omega arith
 
 -- src/lib.rt:22:1
 returns : tie.Need-returns
@@ -30,7 +24,7 @@ returns-3 c = sym (ap sizeAt (c .match .keys3))
 returns-4 : tie.Need-returns-4
 returns-4 c =
     let r = c .match .rest in
-    sym (size-page (c .before .args .level) (high (c .before .args .level) (r .0 .0 .1) (r .0 .1) (r .1)))
+    sym (size-page (c .before .args .level) (high-level (c .before .args .level) (r .0 .0 .1) (r .0 .1) (r .1)))
 
 pub granularity-at-level-spec : {M : Type 1} → statement M
 granularity-at-level-spec = tie.close (tie.spec returns returns-2 returns-3 returns-4)

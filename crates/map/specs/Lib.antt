@@ -1,0 +1,2 @@
+-- Map: the five rules on lists, and the call.
+pub mod Rules

@@ -1,2 +1,3 @@
 -- Map: the five rules on lists, and the call.
 pub mod Rules
+pub mod Needed

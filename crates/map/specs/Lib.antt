@@ -1,3 +1,4 @@
 -- Map: the five rules on lists, and the call.
 pub mod Rules
 pub mod Needed
+pub mod Closed

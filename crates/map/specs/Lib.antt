@@ -2,3 +2,4 @@
 pub mod Rules
 pub mod Needed
 pub mod Closed
+pub mod Missed

@@ -4,9 +4,10 @@ use mathlib.Core.Path.{_≡_, refl, sym, ap, _∙_}
 use mathlib.Core.Bool.{Bool, true, false, cond}
 use mathlib.Core.List.{List, [], _∷_}
 use mathlib.Core.Logic.{_⊎_, inl, inr}
-use Prim.Native.Nat.{ℕ, zero, suc, _+_, _*_, _-_, _≤_, _<_}
+use Prim.Native.Nat.{ℕ, zero, suc, _+_, _*_, _-_, _%_, _≤_, _<_}
 use native.Mathlib.Omega.{arith}
 use lib.ListN.{getD}
+use borrow.Author.Tests.{eq-eqb, ne-eqb, lt-leb}
 use Rattle.laws.specs.Size.{sizeAt, down}
 use Rattle.laws.specs.Test.{byBool, le-or}
 use Rattle.entry.specs.Word.{addressOf, flagsOf}
@@ -118,3 +119,42 @@ sum-is level f g I none step m i = go (met level (m .region .start .0) (m .regio
             let k = met-step level (m .region .start .0) (m .region .end .0) h in
             let r = ih (p .1) (omega arith) in
             sum-first level f m h ∙ ap (λ (x : ℕ). f (firstChunk level m) + x) r ∙ sym (p .0)
+
+-- ---- the words of a split
+
+-- of a hole: its flags alone
+pub fill-hole : (level w i : ℕ) → (w % 2 ≡ 1 → ⊥) → i < 512 → getD (fillOf level w) i 0 ≡ flagsOf w
+unfolding fillOf valid
+fill-hole level w i n h = rw (ne-eqb (w % 2) 1 n) (rising-at 512 (flagsOf w) 0 i h ∙ (let e : flagsOf w + i * 0 ≡ flagsOf w = omega arith in e))
+
+-- of a valid entry: its parts, one after the other
+pub fill-part : (level w i : ℕ) → w % 2 ≡ 1 → i < 512
+    → getD (fillOf level w) i 0 ≡ leafWord (level + 1) (down (addressOf w) (sizeAt level)) (flagsOf w) + i * sizeAt (level + 1)
+unfolding fillOf valid
+fill-part level w i e h = rw (eq-eqb (w % 2) 1 e) (rising-at 512 (leafWord (level + 1) (down (addressOf w) (sizeAt level)) (flagsOf w)) (sizeAt (level + 1)) i h)
+
+leaf-block : (level frame f : ℕ) → f % 2 ≡ 1 → level < 3 → leafWord level frame f ≡ frame + f
+unfolding leafWord valid
+leaf-block level frame f odd h = rw (eq-eqb (f % 2) 1 odd, lt-leb 3 level h)
+
+slot-below : (level a : ℕ) → entryIndex level a < 512
+unfolding entryIndex
+slot-below level a = omega arith
+
+pub child-hole : (level w a : ℕ) → (w % 2 ≡ 1 → ⊥) → childWord level w a ≡ flagsOf w
+unfolding childWord
+child-hole level w a n = fill-hole level w (entryIndex (level + 1) a) n (slot-below (level + 1) a)
+
+-- the low bits are flags
+pub flags-low : (w : ℕ) → flagsOf w % 4 ≡ w % 4
+unfolding flagsOf
+flags-low w = omega arith
+
+-- above level 3 a part is a block
+pub child-block : (level w a : ℕ) → level + 1 < 3 → w % 2 ≡ 1
+    → childWord level w a ≡ down (addressOf w) (sizeAt level) + entryIndex (level + 1) a * sizeAt (level + 1) + flagsOf w
+unfolding childWord
+child-block level w a h e =
+    let r = fill-part level w (entryIndex (level + 1) a) e (slot-below (level + 1) a) in
+    let f = leaf-block (level + 1) (down (addressOf w) (sizeAt level)) (flagsOf w) (omega (arith, flags-low w)) h in
+    omega arith

@@ -3,3 +3,4 @@ pub mod Rules
 pub mod Needed
 pub mod Closed
 pub mod Missed
+pub mod Count

@@ -75,12 +75,12 @@ blocks-or level m = byBool (m .blocks) (λ b. go b (eq-or (frameOf m % sizeAt le
     go b (inl p) (inr e) = inr (inr (inr e))
     go b (inr p) e = inr (inr (inl p))
 
-fits-block : (level : ℕ) (m : Map) (w : ℕ) → 0 < level → (w % 4 ≡ 3 → ⊥) → startOf m % sizeAt level ≡ 0 → Blocks level m → rule3 level m w ≡ true
+pub fits-block : (level : ℕ) (m : Map) (w : ℕ) → 0 < level → (w % 4 ≡ 3 → ⊥) → startOf m % sizeAt level ≡ 0 → Blocks level m → rule3 level m w ≡ true
 unfolding rule3 whole tableWord
 fits-block level m w h n s b =
     rw (eq-eqb (startOf m % sizeAt level) 0 s, eq-eqb (endOf m % sizeAt level) 0 (b .ends), ne-eqb (w % 4) 3 n, eq-eqb (frameOf m % sizeAt level) 0 (b .frame), b .allowed, lt-ltb 0 level h)
 
-barred-block : (level : ℕ) (m : Map) (w : ℕ) → Barred level m → rule3 level m w ≡ false
+pub barred-block : (level : ℕ) (m : Map) (w : ℕ) → Barred level m → rule3 level m w ≡ false
 unfolding rule3 whole tableWord
 barred-block level m w why = go why
   where
@@ -119,11 +119,11 @@ pub rule-none : (level : ℕ) (m : Map) (w n : ℕ) → level < 3 → rule2 leve
 unfolding ruleOf ifDown
 rule-none level m w n h e = rw (lt-leb 3 level h, e)
 
-rule-whole : (level : ℕ) (m : Map) (w n : ℕ) → level < 3 → rule2 level m w ≡ false → rule3 level m w ≡ true → ifDown (ruleOf level m w) n ≡ 0
+pub rule-whole : (level : ℕ) (m : Map) (w n : ℕ) → level < 3 → rule2 level m w ≡ false → rule3 level m w ≡ true → ifDown (ruleOf level m w) n ≡ 0
 unfolding ruleOf ifDown
 rule-whole level m w n h e f = rw (lt-leb 3 level h, e, f)
 
-rule-down : (level : ℕ) (m : Map) (w n : ℕ) → level < 3 → rule2 level m w ≡ false → rule3 level m w ≡ false → (w % 4 ≡ 3 → ⊥) → ifDown (ruleOf level m w) n ≡ n
+pub rule-down : (level : ℕ) (m : Map) (w n : ℕ) → level < 3 → rule2 level m w ≡ false → rule3 level m w ≡ false → (w % 4 ≡ 3 → ⊥) → ifDown (ruleOf level m w) n ≡ n
 unfolding ruleOf ifDown rule4 tableWord
 rule-down level m w n h e f p = rw (lt-leb 3 level h, e, f, ne-eqb (w % 4) 3 p) (both (whole level (m .region)))
   where
@@ -189,6 +189,22 @@ piece level w a h one z =
       address = address;
       aligned = ap (λ (x : ℕ). x % size) address ∙ whole;
     }
+
+-- the words of a split are lawful again
+pub child-lawful : (level w a : ℕ) → level + 1 < 3 → Lawful level w → Lawful (level + 1) (childWord level w a)
+child-lawful level w a h p = go (eq-or (w % 2) 1)
+  where
+    go : (w % 2 ≡ 1) ⊎ (w % 2 ≡ 1 → ⊥) → Lawful (level + 1) (childWord level w a)
+    go (inl v) =
+        let n = p .plain in
+        let q = piece level w a h (odd n) (p .aligned v) in
+        record { plain = (λ e. omega (arith, q .low)); aligned = (λ e. q .aligned) }
+      where
+        odd : (w % 4 ≡ 3 → ⊥) → w % 4 ≡ 1
+        odd n = omega arith
+    go (inr n) =
+        let e : childWord level w a % 4 ≡ w % 4 = ap (λ (x : ℕ). x % 4) (child-hole level w a n) ∙ flags-low w in
+        record { plain = (λ q. p .plain (sym e ∙ q)); aligned = (λ q. absurd (n (omega arith))) }
 
 -- ---- the chunks of which rule 2 fits no part
 

@@ -1,4 +1,5 @@
--- The closed form is the count: for an entry that is no table, for a table, for a sound pool. Leans on `Closed` and `Missed`. Assumes nothing.
+-- The closed form is the count: for an entry that is no table, and for a table whose words are lawful, with all below it. Leans on `Closed` and `Missed`.
+-- Assumes nothing.
 use mathlib.Core.Path.{_≡_, refl, sym, ap, ap₂, subst, _∙_}
 use mathlib.Core.Bool.{Bool, true, false, true≢false}
 use mathlib.Core.Logic.{_⊎_, inl, inr}
@@ -9,10 +10,15 @@ use Rattle.laws.specs.Test.{byBool, eq-or}
 use Rattle.entry.specs.Word.{addressOf, flagsOf}
 use Rattle.region.specs.Region.{entryLast, entryIndex, chunkEnd}
 use Rattle.region.specs.Chunks.{chunk-fits, chunk-stops}
+use Rattle.entry.specs.Sub.{subOf}
+use Rattle.entry.specs.declared.Sub.{Sub}
+use Rattle.entry.specs.declared.Sub.the-variants.{Table, Outside, Leaf}
+use Rattle.pool.specs.State.{St, tables, wordAt}
+use Rattle.pool.specs.declared.Handle.{Handle}
 use Rattle.map.specs.declared.Map.{Map}
 use Rattle.map.specs.Rules.{rule2, ruleOf, chunkMap}
-use Rattle.map.specs.Needed.{ifDown, childWord, neededLeaf, sumChunks, firstChunk, afterFirst, sum-first, sum-is, child-hole, flags-low}
-use Rattle.map.specs.Closed.{startOf, endOf, frameOf, restAt, rests, closedLeaf, rest-one, level-next, left-next, rests-none, rests-blocks, rests-cut}
+use Rattle.map.specs.Needed.{ifDown, childWord, neededLeaf, needBelow, needChunk, needTable, needed, sumChunks, firstChunk, afterFirst, sum-none, sum-first, sum-is}
+use Rattle.map.specs.Closed.{startOf, endOf, frameOf, restAt, rests, closedLeaf, closed, rest-one, level-next, left-next, rests-none, rests-blocks, rests-cut}
 use Rattle.map.specs.Missed.{Same, says-same, Blocks, Barred, blocks-or, fits-block, barred-block, rule-none, rule-whole, rule-down, Lawful, child-lawful, Missed, missed-plain, missed-rule2, Part, missed-block, missed-part, missed-later}
 
 -- ---- a region that begins with an entry, chunk by chunk
@@ -144,3 +150,51 @@ closed-leaf (suc left) m w l one law =
             let rest = sum-rests left f (afterFirst (3 - left) m) (omega arith) (begins (chunk-stops (3 - left) (startOf m) (endOf m))) (each misses) in
             let both = sum-first (3 - left) f m (one .some) in
             omega arith
+
+-- ---- a table, and all below it
+
+-- every word of table k that is no table is lawful at its level, and so it is in the tables below
+unfoldable pub LawfulTable : ℕ → Handle → St → ℕ → Type 0
+LawfulTable zero h s k = ℕ
+LawfulTable (suc left) h s k =
+    (i : ℕ) → i < 512
+    → (subOf (h .base .0) (tables s) (3 - suc left) (wordAt s k i) ≡ Leaf → Lawful (3 - suc left) (wordAt s k i))
+    × ((j : ℕ) → subOf (h .base .0) (tables s) (3 - suc left) (wordAt s k i) ≡ Table j → LawfulTable left h s j)
+
+-- sums are the same where each chunk's summand is
+sum-same : (level : ℕ) (f g : Map → ℕ) (m : Map) → ((c : Map) → Chunk level c → f c ≡ g c) → sumChunks level f m ≡ sumChunks level g m
+sum-same level f g m each =
+    sum-is level f (sumChunks level g) (λ c. ℕ) (λ c i h. sum-none level g c h)
+    (λ c i h. (sum-first level g c h ∙ ap (λ (x : ℕ). x + sumChunks level g (afterFirst level c)) (sym (each (firstChunk level c) (first-chunk level c h))), 0)) m 0
+
+slot-below : (level a : ℕ) → entryIndex level a < 512
+unfolding entryIndex
+slot-below level a = omega arith
+
+-- one chunk
+chunk-same : (rec rec′ : ℕ → Map → ℕ) (leaf leaf′ : Map → ℕ → ℕ) (h : Handle) (s : St) (level k : ℕ) (c : Map)
+    → ((j : ℕ) → subOf (h .base .0) (tables s) level (wordAt s k (entryIndex level (startOf c))) ≡ Table j → rec j c ≡ rec′ j c)
+    → (subOf (h .base .0) (tables s) level (wordAt s k (entryIndex level (startOf c))) ≡ Leaf
+        → leaf c (wordAt s k (entryIndex level (startOf c))) ≡ leaf′ c (wordAt s k (entryIndex level (startOf c))))
+    → needChunk rec leaf h s level k c ≡ needChunk rec′ leaf′ h s level k c
+unfolding needChunk needBelow
+chunk-same rec rec′ leaf leaf′ h s level k c table plain = ap (ifDown (ruleOf level c w)) (go (subOf (h .base .0) (tables s) level w) refl)
+  where
+    w : ℕ
+    w = wordAt s k (entryIndex level (startOf c))
+
+    go : (x : Sub) → subOf (h .base .0) (tables s) level w ≡ x → needBelow (λ j. rec j c) (λ v. leaf c v) w x ≡ needBelow (λ j. rec′ j c) (λ v. leaf′ c v) w x
+    go (Table j) e = table j e
+    go Outside e = refl
+    go Leaf e = plain e
+
+pub closed-table : (left : ℕ) (h : Handle) (s : St) (k : ℕ) (m : Map) → left ≤ 3 → LawfulTable left h s k → closed left h s k m ≡ needed left h s k m
+unfolding closed needed needTable LawfulTable
+closed-table zero h s k m l law = refl
+closed-table (suc left) h s k m l law =
+    sum-same (3 - suc left) (λ c. needChunk (λ j n. needTable closedLeaf left h s j n) (closedLeaf (suc left)) h s (3 - suc left) k c)
+        (λ c. needChunk (λ j n. needTable neededLeaf left h s j n) (neededLeaf (suc left)) h s (3 - suc left) k c) m
+    (λ c one.
+        let slot = law (entryIndex (3 - suc left) (startOf c)) (slot-below (3 - suc left) (startOf c)) in
+        chunk-same (λ j n. needTable closedLeaf left h s j n) (λ j n. needTable neededLeaf left h s j n) (closedLeaf (suc left)) (neededLeaf (suc left)) h s (3 - suc left) k c
+            (λ j e. closed-table left h s j c (omega arith) (slot .1 j e)) (λ e. closed-leaf (suc left) c _ l one (λ pos. slot .0 e)))

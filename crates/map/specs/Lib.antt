@@ -1,2 +1,4 @@
 -- Map: the five rules on lists, and the call.
 pub mod Rules
+pub mod Fit
+pub mod Laws

@@ -1,3 +1,7 @@
+use Rattle.entry.proofs.Tags.{is-outside}
+use mathlib.Core.Path.{sym, _∙_}
+use Rattle.pool.specs.State.{st}
+use Rattle.map.specs.Laws.{sub-some, below-table, below-outside, below-split}
 use borrow.Author.Needs.{needs}
 use Rattle.map.proofs.range.descend.Statement.{statement}
 use Rattle.map.proofs.range.descend.Tie as tie
@@ -28,18 +32,22 @@ subtable-requires c κs = search needs
 
 -- src/range.rt:44:20
 enum-known-kind : tie.Need-enum-known-kind
-enum-known-kind c = search needs
+enum-known-kind c = c .match .keys1
 
 enum-told : tie.Need-enum-told
 enum-told c = search needs
 
 -- src/range.rt:46:13
 returns : tie.Need-returns
-returns c = ?
+returns c = let a = c .before .before .before .before .before .before .args in below-outside (a .handle) (a .level) (a .k) (a .i) (st (a .words .now) (a .ledger .now)) (c .before .before .subtable .ensures) (is-outside _ (c .before .match .keys2) (c .match2 .keys2))
 
 -- src/range.rt:48:9
 split-entry-requires : tie.Need-split-entry-requires
-split-entry-requires c κs = ?
+split-entry-requires c κs =
+    let a = c .before .before .before .before .before .before .before .before .before .args in
+    let p = c .before .before .before .before .before .before .before .before .before .pre in
+    let sub = c .before .before .before .before .before .subtable in
+    (p .0, p .1, p .2, p .3, λ e. sub-some (a .handle .base .0) _ (a .level) _ (p .1) e (sym (sub .ensures) ∙ c .before .before .enum-told .given .1))
 
 -- src/range.rt:48:9
 same-length : tie.Need-same-length
@@ -51,11 +59,13 @@ same-length-2 c = search needs
 
 -- src/range.rt:48:9
 returns-2 : tie.Need-returns-2
-returns-2 c = ?
+returns-2 c =
+    let a = c .before .before .before .before .before .before .before .before .before .before .before .before .before .before .args in
+    c .before .before .before .before .split-entry .ensures ∙ below-split (a .handle) (a .level) (a .k) (a .i) (st (a .words .now) (a .ledger .now)) (c .before .before .before .before .before .before .before .before .before .before .subtable .ensures) (c .before .before .before .before .before .before .before .enum-told .given .1)
 
 -- src/range.rt:38:1
 returns-3 : tie.Need-returns-3
-returns-3 c = ?
+returns-3 c = let a = c .before .before .before .before .before .before .before .args in below-table (a .handle) (a .level) (a .k) (a .i) (st (a .words .now) (a .ledger .now)) (c .before .before .before .subtable .ensures) _ (c .before .kind .given .1)
 
 pub descend-spec : {M : Type 1} → statement M
 descend-spec =

@@ -4,12 +4,12 @@ use mathlib.Core.Path.{_≡_, sym, ap, _∙_}
 use mathlib.Core.Bool.{_&&_}
 use mathlib.Core.Logic.{⊎-elim}
 use Prim.Native.Nat.{ℕ, _+_, _*_, _-_, _/_, _%_, _^_, _≤_, _<_}
-use native.Mathlib.Nat.{add-mul, mul-assoc, div-add-mod', mod-lt, mod-eq-of-lt, zero-mod, mod-mod-of-dvd, dvd-mul-left, add-mul-mod-self-right, div-eq-of-lt-le, mul-div-cancel, mul-le-mul-right}
+use native.Mathlib.Nat.{add-mul, mul-assoc, mul-mod-left, mul-le-mul-right, div-add-mod', mod-lt, mod-eq-of-lt, zero-mod, mod-mod-of-dvd, dvd-mul-left, add-mul-mod-self-right, div-eq-of-lt-le, div-lt-iff-lt-mul, mul-div-cancel}
 use native.Mathlib.Omega.{arith}
-use lib.Bits.{bitAnd, bitOr}
+use lib.Bits.{bitAnd, bitOr, and-mask}
 use lib.Dec.{eqb}
 use lib.Pow.{pow-add, pow-pos, pow-mono}
-use Rattle.laws.specs.Bit.{or-ones, or-aligned}
+use Rattle.laws.specs.Bit.{or-ones, or-aligned, and-not}
 use Rattle.laws.specs.Test.{eq-or}
 
 -- the bytes that one entry of a table at this level spans (document 01, "What a word says": entry sizes)
@@ -119,6 +119,44 @@ next-multiple i a = add-mul i 1 a ∙ (let e : i * a + 1 * a ≡ i * a + a = ome
 -- a level that is none of 0, 1 and 2
 pub high-level : (level : ℕ) → (level ≡ 0 → ⊥) → (level ≡ 1 → ⊥) → (level ≡ 2 → ⊥) → 3 ≤ level
 high-level level a b c = omega arith
+
+-- what lies in the last entry below a multiple of the size leaves room for the whole entry
+pub down-room : (q v a : ℕ) → 0 < a → v < q * a → down v a + a ≤ q * a
+unfolding down
+down-room q v a h l =
+    let below : v / a < q = div-lt-iff-lt-mul h .1 l in
+    let m : (v / a + 1) * a ≤ q * a = mul-le-mul-right a (omega arith) in
+    let e = next-multiple (v / a) a in
+    omega arith
+
+pub size-mod : (level a : ℕ) → bitAnd a (sizeAt level - 1) ≡ a % sizeAt level
+unfolding sizeAt
+size-mod level a = and-mask a (12 + 9 * (3 - level))
+
+pub size-down : (level a : ℕ) → a < 2 ^ 64 → bitAnd a (2 ^ 64 - 1 - (sizeAt level - 1)) ≡ down a (sizeAt level)
+size-down level a h =
+    let high = size-high level in
+    let both = and-not 64 a (sizeAt level - 1) h (omega arith) in
+    let low = size-mod level a in
+    let rest = down-rest a (sizeAt level) in
+    omega arith
+
+-- a multiple of an entry's size is a multiple of 4096
+pub down-paged : (level a : ℕ) → down a (sizeAt level) % 4096 ≡ 0
+unfolding down
+down-paged level a =
+    ap (λ (g : ℕ). a / sizeAt level * g % 4096) (size-pages level)
+    ∙ ap (λ (x : ℕ). x % 4096) (sym (mul-assoc (a / sizeAt level) (2 ^ (9 * (3 - level))) 4096))
+    ∙ mul-mod-left (a / sizeAt level * 2 ^ (9 * (3 - level))) 4096
+
+-- an entry below 2^48 leaves room for the whole entry below 2^48
+pub size-room : (level a : ℕ) → a < 2 ^ 48 → down a (sizeAt level) + sizeAt level ≤ 2 ^ 48
+unfolding sizeAt
+size-room level a h =
+    let e : 48 ≡ (36 - 9 * (3 - level)) + (12 + 9 * (3 - level)) = omega arith in
+    let w : 2 ^ 48 ≡ 2 ^ (36 - 9 * (3 - level)) * 2 ^ (12 + 9 * (3 - level)) = ap (λ (k : ℕ). 2 ^ k) e ∙ pow-add 2 (36 - 9 * (3 - level)) (12 + 9 * (3 - level)) in
+    let r = down-room (2 ^ (36 - 9 * (3 - level))) a (2 ^ (12 + 9 * (3 - level))) (pow-pos (12 + 9 * (3 - level))) (omega arith) in
+    omega arith
 
 -- ---- multiples, and offsets in an entry
 

@@ -1,5 +1,8 @@
 -- Map: the five rules on lists, and the call.
 pub mod Rules
+pub mod Fit
+pub mod Laws
+pub mod Range
 pub mod Needed
 pub mod Closed
 pub mod Missed

@@ -4,12 +4,11 @@ use mathlib.Core.Path.{_≡_, refl, sym, ap, _∙_}
 use mathlib.Core.Bool.{Bool, true, false, not, cond, _&&_}
 use mathlib.Core.Logic.{_⊎_, inl, inr}
 use Prim.Native.Nat.{ℕ, zero, suc, _+_, _*_, _-_, _/_, _%_, _^_, _≤_, _<_}
-use native.Mathlib.Nat.{mod-eq-of-lt, mul-mod-left, mul-le-mul-right}
+use native.Mathlib.Nat.{mul-mod-left, mul-le-mul-right}
 use native.Mathlib.Omega.{arith}
 use lib.Dec.{T, eqb, leb, ltb, eqb→eq, leb→le, le→leb, ltb→lt}
-use lib.Pow.{pow-add}
 use borrow.Author.Tests.{eq-eqb, ne-eqb, le-leb, lt-leb, lt-ltb, eqb-false, not-true}
-use Rattle.laws.specs.Size.{sizeAt, size-pos, size-step, size-pages, size-next, size-parts, down, down-multiple, multiple-of, multiple-is, add-multiple, between-multiples, mod-on, next-multiple}
+use Rattle.laws.specs.Size.{sizeAt, size-pos, size-step, size-pages, size-next, size-parts, size-room, down, multiple-of, multiple-is, add-multiple, mod-on, next-multiple}
 use Rattle.laws.specs.Test.{byBool, le-or, eq-or, and-l, and-r, and-i, is-true, is-false, eq→eqb}
 use Rattle.entry.specs.Word.{addressOf, flagsOf, address-and-flags, address-below, address-back, flags-back}
 use Rattle.region.specs.Region.{entryLast, entryIndex}
@@ -17,7 +16,7 @@ use Rattle.region.specs.Chunks.{in-entry}
 use Rattle.map.specs.declared.Map.{Map}
 use Rattle.map.specs.declared.Rule.{Rule}
 use Rattle.map.specs.declared.Rule.the-variants.{Write, Keep, Drop, Down}
-use Rattle.map.specs.Rules.{valid, tableWord, leafWord, whole, rule2, rule3, rule4, ruleOf}
+use Rattle.map.specs.Rules.{valid, tableWord, leafWord, whole, rule2, blockable, rule3, rule4, ruleOf}
 use Rattle.map.specs.Needed.{ifDown, childWord, child-hole, child-block, flags-low}
 use Rattle.map.specs.Closed.{startOf, endOf, frameOf}
 
@@ -76,12 +75,12 @@ blocks-or level m = byBool (m .blocks) (λ b. go b (eq-or (frameOf m % sizeAt le
     go b (inr p) e = inr (inr (inl p))
 
 pub fits-block : (level : ℕ) (m : Map) (w : ℕ) → 0 < level → (w % 4 ≡ 3 → ⊥) → startOf m % sizeAt level ≡ 0 → Blocks level m → rule3 level m w ≡ true
-unfolding rule3 whole tableWord
+unfolding rule3 blockable whole tableWord
 fits-block level m w h n s b =
     rw (eq-eqb (startOf m % sizeAt level) 0 s, eq-eqb (endOf m % sizeAt level) 0 (b .ends), ne-eqb (w % 4) 3 n, eq-eqb (frameOf m % sizeAt level) 0 (b .frame), b .allowed, lt-ltb 0 level h)
 
 pub barred-block : (level : ℕ) (m : Map) (w : ℕ) → Barred level m → rule3 level m w ≡ false
-unfolding rule3 whole tableWord
+unfolding rule3 blockable whole tableWord
 barred-block level m w why = go why
   where
     a : Bool
@@ -145,14 +144,6 @@ record Piece (level w a : ℕ) : Type 0 where
   address : addressOf (childWord level w a) ≡ addressOf w + entryIndex (level + 1) a * sizeAt (level + 1)
   aligned : addressOf (childWord level w a) % sizeAt (level + 1) ≡ 0
 
--- a multiple below another is below it by the whole size
-multiple-below : (x y a : ℕ) → x < y → x % a ≡ 0 → y % a ≡ 0 → x + a ≤ y
-multiple-below x y a h p q = go (le-or a (y - x)) (between-multiples x y a (omega arith) p q)
-  where
-    go : (a ≤ y - x) ⊎ (y - x < a) → (y - x) % a ≡ 0 → x + a ≤ y
-    go (inl l) z = omega arith
-    go (inr l) z = let e : (y - x) % a ≡ y - x = mod-eq-of-lt l in omega arith
-
 flags-again : (w : ℕ) → flagsOf (flagsOf w) ≡ flagsOf w
 unfolding flagsOf
 flags-again w = omega arith
@@ -161,24 +152,17 @@ flags-alone : (w : ℕ) → addressOf (flagsOf w) ≡ 0
 unfolding flagsOf addressOf
 flags-alone w = omega arith
 
--- every size divides 2^48
-size-space : (level : ℕ) → 2 ^ 48 % sizeAt level ≡ 0
-unfolding sizeAt
-size-space level =
-    let e : 48 ≡ (36 - 9 * (3 - level)) + (12 + 9 * (3 - level)) = omega arith in
-    ap (λ (x : ℕ). x % 2 ^ (12 + 9 * (3 - level))) (ap (λ (k : ℕ). 2 ^ k) e ∙ pow-add 2 (36 - 9 * (3 - level)) (12 + 9 * (3 - level)))
-    ∙ mul-mod-left (2 ^ (36 - 9 * (3 - level))) (2 ^ (12 + 9 * (3 - level)))
-
 piece : (level w a : ℕ) → level + 1 < 3 → w % 4 ≡ 1 → addressOf w % sizeAt level ≡ 0 → Piece level w a
 unfolding down entryIndex
 piece level w a h one z =
     let size = sizeAt (level + 1) in
     let i = entryIndex (level + 1) a in
     let at = addressOf w + i * size in
-    let word : childWord level w a ≡ at + flagsOf w = child-block level w a h (omega arith) ∙ (let e = multiple-is (addressOf w) (sizeAt level) z in omega arith) in
+    let own = multiple-is (addressOf w) (sizeAt level) z in
+    let word : childWord level w a ≡ at + flagsOf w = child-block level w a h (omega arith) ∙ (let e : down (addressOf w) (sizeAt level) + i * size + flagsOf w ≡ at + flagsOf w = omega arith in e) in
     let whole : at % size ≡ 0 = add-multiple (addressOf w) (i * size) size (mul-mod-left i size) ∙ size-next level (addressOf w) (omega arith) z in
     let pages : at % 4096 ≡ 0 = multiple-of (2 ^ (9 * (3 - (level + 1)))) 4096 at (ap (λ (s : ℕ). at % s) (sym (size-pages (level + 1))) ∙ whole) in
-    let room = multiple-below (addressOf w) (2 ^ 48) (sizeAt level) (address-below w) z (size-space level) in
+    let room = size-room level (addressOf w) (address-below w) in
     let slot : (i + 1) * size ≤ 512 * size = mul-le-mul-right size (omega arith) in
     let below : at < 2 ^ 48 = let s = size-step level (omega arith) in let n = next-multiple i size in let p = size-pos (level + 1) in omega arith in
     let again = flags-again w in

@@ -12,7 +12,7 @@ use Rattle.region.specs.Region.{entryIndex}
 use Rattle.region.specs.Chunks.{chunks}
 use Rattle.region.specs.declared.MemoryRegion.{MemoryRegion}
 use Rattle.pool.specs.State.{St, tables, wordAt, storeAt}
-use Rattle.pool.specs.Table.{rising, takeTable, Taken, freeSub, freeTree}
+use Rattle.pool.specs.Table.{rising, takeTable, Taken, taken, freeSub, freeTree}
 use Rattle.pool.specs.declared.Handle.{Handle}
 use Rattle.pool.specs.declared.Found.{Found}
 use Rattle.pool.specs.declared.Found.the-variants.{At, Nothing}
@@ -43,8 +43,11 @@ rule2 level m w =
     not (tableWord w) && (eqb (flagsOf w) (m .flags) && (leb offset (m .frame .0) && eqb (m .frame .0 - offset) (addressOf w)))
 
 -- rule 3: whole entry, not a table, frame aligned to the entry, blocks allowed, level above 0
+unfoldable pub blockable : ℕ → Map → Bool
+blockable level m = eqb (m .frame .0 % sizeAt level) 0 && (m .blocks && ltb 0 level)
+
 unfoldable pub rule3 : ℕ → Map → ℕ → Bool
-rule3 level m w = whole level (m .region) && (not (tableWord w) && (eqb (m .frame .0 % sizeAt level) 0 && (m .blocks && ltb 0 level)))
+rule3 level m w = whole level (m .region) && (not (tableWord w) && blockable level m)
 
 -- rule 4: whole entry, a table, not VALID
 unfoldable pub rule4 : ℕ → Map → ℕ → Bool
@@ -71,26 +74,33 @@ fillOf level w =
 unfoldable pub splitEntry : Handle → ℕ → ℕ → ℕ → St → Taken
 splitEntry h level k i s = takeTable h (level + 1) k i (fillOf level (wordAt s k i)) s
 
--- on in the table that was found
-unfoldable pub into : (ℕ → St → St) → Taken → St
-into rec t = go rec (t .table) (t .state)
-  where
-    go : (ℕ → St → St) → Found → St → St
-    go rec (At j) s = rec j s
-    go rec Nothing s = s
+-- the table below slot i of table k: the one that is there, or a new one ("splitting first if there is no table")
+unfoldable pub belowOf : Handle → ℕ → ℕ → ℕ → St → Sub → Taken
+belowOf h level k i s (Table j) = taken (At j) s
+belowOf h level k i s Outside = taken Nothing s
+belowOf h level k i s Leaf = splitEntry h level k i s
 
--- "go down, splitting first if there is no table"
-unfoldable pub descend : (ℕ → St → St) → Handle → ℕ → ℕ → ℕ → Sub → St → St
-descend rec h level k i (Table j) s = rec j s
-descend rec h level k i Outside s = s
-descend rec h level k i Leaf s = into rec (splitEntry h level k i s)
+unfoldable pub below : Handle → ℕ → ℕ → ℕ → St → Taken
+below h level k i s = belowOf h level k i s (subOf (h .base .0) (tables s) level (wordAt s k i))
+
+-- on in the table that was found
+unfoldable pub inFound : (ℕ → St → St) → Found → St → St
+inFound rec (At j) s = rec j s
+inFound rec Nothing s = s
+
+unfoldable pub into : (ℕ → St → St) → Taken → St
+into rec t = inFound rec (t .table) (t .state)
+
+-- what the word w of a table at this level refers to is freed
+unfoldable pub dropEntry : Handle → ℕ → ℕ → St → St
+dropEntry h level w s = freeSub (λ j t. freeTree (3 - (level + 1)) h j t) (subOf (h .base .0) (tables s) level w) s
 
 -- a rule carried out on slot i of table k; `rec` goes on one level down
 unfoldable pub byRule : (ℕ → St → St) → Handle → ℕ → ℕ → ℕ → Rule → St → St
 byRule rec h level k i (Write x) s = storeAt k i x s
 byRule rec h level k i Keep s = s
-byRule rec h level k i (Drop x) s = freeSub (λ j t. freeTree (3 - (level + 1)) h j t) (subOf (h .base .0) (tables s) level (wordAt s k i)) (storeAt k i x s)
-byRule rec h level k i Down s = descend rec h level k i (subOf (h .base .0) (tables s) level (wordAt s k i)) s
+byRule rec h level k i (Drop x) s = dropEntry h level (wordAt s k i) (storeAt k i x s)
+byRule rec h level k i Down s = into rec (below h level k i s)
 
 -- one chunk of table k
 unfoldable pub mapChunk : (ℕ → Map → St → St) → Handle → ℕ → ℕ → Map → St → St

@@ -1,4 +1,7 @@
 // Putting down a map: map_range and split_entry of paging.rs (aarch64-paging 0.12.3), on a pool of tables.
+pub mod range;
+pub mod rules;
+
 use address::PhysicalAddress;
 use region::MemoryRegion;
 

@@ -1,0 +1,180 @@
+use mathlib.Core.Path.{_≡_, ap, ap₂, _∙_, subst⁻¹}
+use Prim.Native.Nat.{ℕ, _+_, _*_, _-_, _%_, _^_}
+use native.Mathlib.Omega.{arith}
+use lib.Bits.{bitAnd}
+use lib.ListN.{getD}
+use Rattle.laws.specs.Size.{sizeAt, size-pos, size-low, size-step, size-room, size-down, down, down-paged}
+use Rattle.entry.specs.Word.{addressOf, flagsOf, address-below, mask-address}
+use Rattle.pool.specs.State.{st, wordAt}
+use Rattle.pool.specs.Table.{rising}
+use Rattle.map.specs.Rules.{leafWord}
+use Rattle.map.specs.Fit.{Plain, flags-plain, leaf-most, steps-fit}
+use Rattle.map.specs.Laws.{fill-hole, fill-leaf, split-is}
+use borrow.Author.Needs.{needs}
+use Rattle.map.proofs.range.split_entry.Statement.{statement}
+use Rattle.map.proofs.range.split_entry.Tie as tie
+use Rattle.map.proofs.range.split_entry.Reads as reads
+use Rattle.map.proofs.range.split_entry.Lts as lts
+use Rattle.address.proofs.granularity_at_level.Reads as granularity-at-level-reads
+use Rattle.entry.proofs.flags.Reads as flags-reads
+use Rattle.map.proofs.rules.leaf_word.Reads as leaf-word-reads
+use Rattle.pool.proofs.table.take_table.Reads as take-table-reads
+
+-- the old word, valid
+abbrev word : tie.After-granularity-at-level → ℕ
+word c = let a = c .before .before .before .before .before .before .args in getD (a .words .now) (512 * a .k + a .i) 0
+
+-- its address, cleared below the entry's size by masks
+cleared : (c : tie.After-granularity-at-level) → bitAnd (bitAnd (word c) 0xFFFF_FFFF_F000) (2 ^ 64 - 1 - (c .granularity-at-level .result - 1)) ≡ down (addressOf (word c)) (sizeAt (c .before .before .before .before .before .before .args .level))
+cleared c =
+    let a = c .before .before .before .before .before .before .args in
+    let below = address-below (word c) in
+    ap₂ (λ (x g : ℕ). bitAnd x (2 ^ 64 - 1 - (g - 1))) (mask-address (word c)) (c .granularity-at-level .ensures) ∙ size-down (a .level) (addressOf (word c)) (omega arith)
+
+-- its flags
+plain : (c : tie.After-granularity-at-level) → Plain (flagsOf (word c))
+plain c = let a = c .before .before .before .before .before .before .args in flags-plain (word c) (c .before .before .before .slice-known3 .given (512 * a .k + a .i) .fits) (c .before .if1 .left) (c .before .before .before .before .before .before .pre .4)
+
+-- src/range.rt:26:22
+mul-word : tie.Need-mul-word
+mul-word c = search needs
+
+-- src/range.rt:26:22
+add-word : tie.Need-add-word
+add-word c = search needs
+
+-- src/range.rt:26:16
+mul-word-2 : tie.Need-mul-word-2
+mul-word-2 c = search needs
+
+-- src/range.rt:26:16
+slice-read-word : tie.Need-slice-read-word
+slice-read-word c = search needs
+
+-- src/range.rt:27:9
+flags-requires : tie.Need-flags-requires
+flags-requires c κs = search needs
+
+-- src/range.rt:29:57
+add-take-table : tie.Need-add-take-table
+add-take-table c = search needs
+
+-- src/range.rt:29:9
+take-table-requires : tie.Need-take-table-requires
+take-table-requires c κs = search needs
+
+-- src/range.rt:29:9
+same-length : tie.Need-same-length
+same-length c = search needs
+
+-- src/range.rt:29:9
+same-length-2 : tie.Need-same-length-2
+same-length-2 c = search needs
+
+-- src/range.rt:29:9
+returns : tie.Need-returns
+returns c =
+    let a = c .before .before .before .before .before .before .before .before .before .before .before .before .args in
+    let s = (st (a .words .now) (a .ledger .now)) in
+    let w = wordAt s (a .k) (a .i) in
+    c .before .before .before .before .take-table .ensures
+    ∙ split-is (a .handle) (a .level) (a .k) (a .i) s _ (ap (λ (f : ℕ). rising 512 f 0) (c .before .before .before .before .before .before .before .before .flags .ensures) ∙ fill-hole (a .level) w (c .before .before .before .before .before .before .before .if1 .taken))
+
+-- src/range.rt:31:52
+granularity-at-level-requires : tie.Need-granularity-at-level-requires
+granularity-at-level-requires c κs = search needs
+
+-- src/range.rt:31:52
+sub-address : tie.Need-sub-address
+sub-address c = omega (arith, c .granularity-at-level .ensures, size-pos (c .before .before .before .before .before .before .args .level))
+
+-- src/range.rt:32:34
+add-leaf-word : tie.Need-add-leaf-word
+add-leaf-word c = search needs
+
+-- src/range.rt:32:9
+leaf-word-requires : tie.Need-leaf-word-requires
+leaf-word-requires c κs =
+    let a = c .before .before .before .before .before .before .args in
+    let at = cleared c in
+    let room = size-room (a .level) (addressOf (word c)) (address-below (word c)) in
+    let low = size-low (a .level) in
+    (ap (λ (x : ℕ). x % 4096) at ∙ down-paged (a .level) (addressOf (word c)), omega arith, subst⁻¹ Plain (c .before .before .flags .ensures) (plain c))
+
+-- src/range.rt:33:46
+add-granularity-at-level : tie.Need-add-granularity-at-level
+add-granularity-at-level c = search needs
+
+-- src/range.rt:33:9
+granularity-at-level-requires-2 : tie.Need-granularity-at-level-requires-2
+granularity-at-level-requires-2 c κs = search needs
+
+-- src/range.rt:34:46
+add-take-table-2 : tie.Need-add-take-table-2
+add-take-table-2 c = search needs
+
+-- src/range.rt:34:5
+take-table-requires-2 : tie.Need-take-table-requires-2
+take-table-requires-2 c κs =
+    let a = c .before .before .before .before .before .before .before .before .before .before .args in
+    let g = c .before .before .before .before in
+    let w = word g in
+    let t = sizeAt (a .level + 1) in
+    let step = c .before .before .granularity-at-level2 .ensures in
+    let first = c .before .before .before .leaf-word .ensures in
+    let at = cleared g in
+    let room = size-room (a .level) (addressOf w) (address-below w) in
+    let part = size-step (a .level) (c .before .before .before .before .before .before .before .before .before .before .pre .1) in
+    let top = down (addressOf w) (sizeAt (a .level)) in
+    let most = leaf-most (a .level + 1) top (flagsOf w) in
+    let fits = steps-fit top (flagsOf w) t (down-paged (a .level) (addressOf w)) (omega arith) (size-low (a .level + 1)) (plain g) in
+    let value : c .before .before .before .leaf-word .result ≡ leafWord (a .level + 1) top (flagsOf w)
+    = first ∙ ap₂ (leafWord (a .level + 1)) at (c .before .before .before .before .before .before .flags .ensures) in
+    (c .before .before .before .before .before .before .before .before .before .before .pre .0, omega arith, c .before .before .before .before .before .before .before .before .before .before .pre .2, c .before .before .before .before .before .before .before .before .before .before .pre .3, omega arith)
+
+-- src/range.rt:22:1
+same-length-3 : tie.Need-same-length-3
+same-length-3 c = search needs
+
+-- src/range.rt:22:1
+same-length-4 : tie.Need-same-length-4
+same-length-4 c = search needs
+
+-- src/range.rt:22:1
+returns-2 : tie.Need-returns-2
+returns-2 c =
+    let a = c .before .before .before .before .before .before .before .before .before .before .before .before .before .before .before .args in
+    let g = c .before .before .before .before .before .before .before .before .before in
+    let s = (st (a .words .now) (a .ledger .now)) in
+    let w = word g in
+    let top = down (addressOf w) (sizeAt (a .level)) in
+    let value : c .before .before .before .before .before .before .before .before .leaf-word .result ≡ leafWord (a .level + 1) top (flagsOf w)
+    = c .before .before .before .before .before .before .before .before .leaf-word .ensures ∙ ap₂ (leafWord (a .level + 1)) (cleared g) (c .before .before .before .before .before .before .before .before .before .before .before .flags .ensures) in
+    c .before .before .before .before .take-table2 .ensures
+    ∙ split-is (a .handle) (a .level) (a .k) (a .i) s _ (ap₂ (rising 512) value (c .before .before .before .before .before .before .before .granularity-at-level2 .ensures) ∙ fill-leaf (a .level) w (c .before .before .before .before .before .before .before .before .before .before .if1 .left))
+
+pub split-entry-spec : {M : Type 1} → statement M
+split-entry-spec =
+    tie.close
+    (tie.spec
+    mul-word
+    add-word
+    mul-word-2
+    slice-read-word
+    flags-requires
+    add-take-table
+    take-table-requires
+    same-length
+    same-length-2
+    returns
+    granularity-at-level-requires
+    sub-address
+    add-leaf-word
+    leaf-word-requires
+    add-granularity-at-level
+    granularity-at-level-requires-2
+    add-take-table-2
+    take-table-requires-2
+    same-length-3
+    same-length-4
+    returns-2)

@@ -1,0 +1,16 @@
+use Rattle.verify.proofs.end_fits.Statement.{statement}
+use Rattle.verify.proofs.end_fits.Tie as tie
+use Rattle.verify.proofs.end_fits.Reads as reads
+use Rattle.verify.proofs.end_fits.Lts as lts
+use Rattle.verify.specs.Verify.{end-zero, end-some}
+
+-- src/lib.rt:16:9
+returns : tie.Need-returns
+returns c = end-zero (c .before .args .end) (c .if1 .taken)
+
+-- src/lib.rt:12:1
+returns-2 : tie.Need-returns-2
+returns-2 c = end-some (c .before .args .end) (c .if1 .left)
+
+pub end-fits-spec : {M : Type 1} → statement M
+end-fits-spec = tie.close (tie.spec returns returns-2)

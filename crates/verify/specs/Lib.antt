@@ -1,0 +1,2 @@
+-- What list, map and modify ask of a region.
+pub mod Verify

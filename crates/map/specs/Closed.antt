@@ -4,19 +4,24 @@ use mathlib.Core.Path.{_≡_, refl, sym, ap, ap₂, _∙_}
 use mathlib.Core.Bool.{Bool, true, false, not, cond, _&&_}
 use mathlib.Core.Logic.{_⊎_, inl, inr}
 use Prim.Native.Nat.{ℕ, zero, suc, _+_, _*_, _-_, _%_, _≤_, _<_}
-use native.Mathlib.Nat.{suc-mul}
+use native.Mathlib.Nat.{mul-add, suc-mul}
 use native.Mathlib.Omega.{arith}
 use lib.Dec.{eqb, ltb}
 use borrow.Author.Tests.{eq-eqb, ne-eqb, lt-ltb, le-ltb}
 use Rattle.laws.specs.Size.{sizeAt, size-next, add-multiple, between-multiples}
 use Rattle.laws.specs.Test.{le-or, eq-or}
-use Rattle.region.specs.Region.{region, entryLast, chunkEnd}
-use Rattle.region.specs.Chunks.{met, met-none, met-one, met-most, met-split, chunk-fits}
-use Rattle.pool.specs.State.{St}
+use Rattle.entry.specs.Sub.{subOf}
+use Rattle.entry.specs.declared.Sub.{Sub}
+use Rattle.entry.specs.declared.Sub.the-variants.{Table, Outside, Leaf}
+use Rattle.region.specs.Region.{region, entryLast, entryIndex, chunkEnd}
+use Rattle.region.specs.Chunks.{met, met-none, met-one, met-most, met-split, met-step, chunk-fits}
+use Rattle.pool.specs.State.{St, tables, wordAt}
 use Rattle.pool.specs.declared.Handle.{Handle}
 use Rattle.map.specs.declared.Map.{Map}
+use Rattle.map.specs.declared.Rule.{Rule}
+use Rattle.map.specs.declared.Rule.the-variants.{Write, Keep, Drop, Down}
 use Rattle.map.specs.Rules.{ruleOf, chunkMap}
-use Rattle.map.specs.Needed.{ifDown, childWord, needTable, firstChunk, afterFirst}
+use Rattle.map.specs.Needed.{ifDown, childWord, needBelow, needChunk, needTable, sumChunks, firstChunk, afterFirst, sum-none, sum-first}
 
 abbrev pub startOf : Map → ℕ
 startOf m = m .region .start .0
@@ -204,3 +209,79 @@ pub rests-most : (left : ℕ) (m : Map) → rests left m ≤ left * (endOf m - s
 unfolding rests
 rests-most zero m = omega arith
 rests-most (suc left) m = let a = rest-most (3 - suc left) m in let b = rests-most left m in let c = suc-mul left (endOf m - startOf m) in omega arith
+
+down-most : (r : Rule) (n : ℕ) → ifDown r n ≤ n
+unfolding ifDown
+down-most (Write x) n = omega arith
+down-most Keep n = omega arith
+down-most (Drop x) n = omega arith
+down-most Down n = omega arith
+
+leaf-levels : (left : ℕ) (m : Map) (w : ℕ) → startOf m < endOf m → closedLeaf left m w ≤ left * (endOf m - startOf m)
+unfolding closedLeaf
+leaf-levels zero m w h = omega arith
+leaf-levels (suc left) m w h =
+    let f = chunk-fits (3 - left) (startOf m) (endOf m) h in
+    let stop = chunkEnd (3 - left) (startOf m) (endOf m) in
+    let a = leaf-levels left (firstChunk (3 - left) m) (childWord (3 - suc left) w (startOf m)) (f .0) in
+    let b = rests-most left (afterFirst (3 - left) m) in
+    let t : left * (stop - startOf m) + left * (endOf m - stop) ≡ left * (endOf m - startOf m)
+            = sym (mul-add left (stop - startOf m) (endOf m - stop)) ∙ ap (λ (x : ℕ). left * x) (omega (arith, f .0, f .1)) in
+    let d = down-most (ruleOf (3 - suc left) m w) (1 + closedLeaf left (firstChunk (3 - left) m) (childWord (3 - suc left) w (startOf m)) + rests left (afterFirst (3 - left) m)) in
+    let c = suc-mul left (endOf m - startOf m) in
+    omega arith
+
+-- a sum over chunks, where no summand passes q times its chunk's addresses
+sum-levels : (level q : ℕ) (f : Map → ℕ) → ((c : Map) → startOf c < endOf c → f c ≤ q * (endOf c - startOf c)) → (m : Map) → sumChunks level f m ≤ q * (endOf m - startOf m)
+sum-levels level q f each m = go (met level (startOf m) (endOf m)) m refl
+  where
+    none : (m : Map) → endOf m ≤ startOf m → sumChunks level f m ≤ q * (endOf m - startOf m)
+    none m h = let z = sum-none level f m h in omega arith
+
+    go : (n : ℕ) (m : Map) → met level (startOf m) (endOf m) ≡ n → sumChunks level f m ≤ q * (endOf m - startOf m)
+    go zero m e = first (le-or (endOf m) (startOf m))
+      where
+        first : (endOf m ≤ startOf m) ⊎ (startOf m < endOf m) → sumChunks level f m ≤ q * (endOf m - startOf m)
+        first (inl h) = none m h
+        first (inr h) = absurd (let k = met-step level (startOf m) (endOf m) h in omega arith)
+    go (suc n) m e = more (le-or (endOf m) (startOf m)) (go n (afterFirst level m))
+      where
+        more : (endOf m ≤ startOf m) ⊎ (startOf m < endOf m)
+            → (met level (startOf (afterFirst level m)) (endOf m) ≡ n → sumChunks level f (afterFirst level m) ≤ q * (endOf m - startOf (afterFirst level m)))
+            → sumChunks level f m ≤ q * (endOf m - startOf m)
+        more (inl h) ih = none m h
+        more (inr h) ih =
+            let s = chunk-fits level (startOf m) (endOf m) h in
+            let stop = chunkEnd level (startOf m) (endOf m) in
+            let k = met-step level (startOf m) (endOf m) h in
+            let a = each (firstChunk level m) (s .0) in
+            let b = ih (omega arith) in
+            let t : q * (stop - startOf m) + q * (endOf m - stop) ≡ q * (endOf m - startOf m)
+                    = sym (mul-add q (stop - startOf m) (endOf m - stop)) ∙ ap (λ (x : ℕ). q * x) (omega (arith, s .0, s .1)) in
+            let e = sum-first level f m h in
+            omega arith
+
+chunk-levels : (left : ℕ) (rec : ℕ → Map → ℕ) (leaf : Map → ℕ → ℕ) (h : Handle) (s : St) (level k : ℕ) (c : Map)
+    → ((j : ℕ) → rec j c ≤ left * (endOf c - startOf c)) → ((w : ℕ) → leaf c w ≤ left * (endOf c - startOf c)) → needChunk rec leaf h s level k c ≤ left * (endOf c - startOf c)
+unfolding needChunk needBelow
+chunk-levels left rec leaf h s level k c table plain =
+    let d = down-most (ruleOf level c w) (needBelow (λ j. rec j c) (λ v. leaf c v) w (subOf (h .base .0) (tables s) level w)) in
+    let r = go (subOf (h .base .0) (tables s) level w) in
+    omega arith
+  where
+    w : ℕ
+    w = wordAt s k (entryIndex level (startOf c))
+
+    go : (x : Sub) → needBelow (λ j. rec j c) (λ v. leaf c v) w x ≤ left * (endOf c - startOf c)
+    go (Table j) = table j
+    go Outside = omega arith
+    go Leaf = plain w
+
+closed-levels : (left : ℕ) (h : Handle) (s : St) (k : ℕ) (m : Map) → closed left h s k m ≤ left * (endOf m - startOf m)
+unfolding closed needTable
+closed-levels zero h s k m = omega arith
+closed-levels (suc left) h s k m =
+    sum-levels (3 - suc left) (suc left) (λ c. needChunk (λ j n. needTable closedLeaf left h s j n) (closedLeaf (suc left)) h s (3 - suc left) k c)
+    (λ c l.
+        chunk-levels (suc left) (λ j n. needTable closedLeaf left h s j n) (closedLeaf (suc left)) h s (3 - suc left) k c
+        (λ j. let r = closed-levels left h s j c in let t = suc-mul left (endOf c - startOf c) in omega arith) (λ w. leaf-levels (suc left) c w l)) m

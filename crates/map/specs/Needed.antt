@@ -1,15 +1,13 @@
 -- Refusal 9's count (document 01, "The refusal slip"): the new tables that the rules of "Putting down a map" make, by plain recursion over them.
 -- Leans on `Rules`. Assumes nothing.
 use mathlib.Core.Path.{_≡_, refl, sym, ap, _∙_}
-use mathlib.Core.Bool.{Bool, true, false, cond}
 use mathlib.Core.List.{List, [], _∷_}
 use mathlib.Core.Logic.{_⊎_, inl, inr}
 use Prim.Native.Nat.{ℕ, zero, suc, _+_, _*_, _-_, _%_, _≤_, _<_}
 use native.Mathlib.Omega.{arith}
 use lib.ListN.{getD}
-use borrow.Author.Tests.{eq-eqb, ne-eqb, lt-leb}
 use Rattle.laws.specs.Size.{sizeAt, down}
-use Rattle.laws.specs.Test.{byBool, le-or}
+use Rattle.laws.specs.Test.{le-or}
 use Rattle.entry.specs.Word.{addressOf, flagsOf}
 use Rattle.entry.specs.Sub.{subOf}
 use Rattle.entry.specs.declared.Sub.{Sub}
@@ -18,12 +16,14 @@ use Rattle.region.specs.Region.{region, entryIndex, chunkEnd}
 use Rattle.region.specs.Chunks.{met, met-none, met-step, chunks, chunks-none, chunks-step}
 use Rattle.region.specs.declared.MemoryRegion.{MemoryRegion}
 use Rattle.pool.specs.State.{St, tables, wordAt}
-use Rattle.pool.specs.Table.{rising, rising-at}
+use Rattle.pool.specs.Table.{rising-at}
 use Rattle.pool.specs.declared.Handle.{Handle}
 use Rattle.map.specs.declared.Map.{Map}
 use Rattle.map.specs.declared.Rule.{Rule}
 use Rattle.map.specs.declared.Rule.the-variants.{Write, Keep, Drop, Down}
-use Rattle.map.specs.Rules.{valid, leafWord, ruleOf, fillOf, chunkMap}
+use Rattle.map.specs.Rules.{leafWord, ruleOf, fillOf, chunkMap}
+use Rattle.map.specs.Fit.{leaf-block}
+use Rattle.map.specs.Laws.{fill-hole, fill-leaf}
 
 -- only rule 5 makes tables
 unfoldable pub ifDown : Rule → ℕ → ℕ
@@ -122,28 +122,25 @@ sum-is level f g I none step m i = go (met level (m .region .start .0) (m .regio
 
 -- ---- the words of a split
 
--- of a hole: its flags alone
-pub fill-hole : (level w i : ℕ) → (w % 2 ≡ 1 → ⊥) → i < 512 → getD (fillOf level w) i 0 ≡ flagsOf w
-unfolding fillOf valid
-fill-hole level w i n h = rw (ne-eqb (w % 2) 1 n) (rising-at 512 (flagsOf w) 0 i h ∙ (let e : flagsOf w + i * 0 ≡ flagsOf w = omega arith in e))
-
--- of a valid entry: its parts, one after the other
-pub fill-part : (level w i : ℕ) → w % 2 ≡ 1 → i < 512
-    → getD (fillOf level w) i 0 ≡ leafWord (level + 1) (down (addressOf w) (sizeAt level)) (flagsOf w) + i * sizeAt (level + 1)
-unfolding fillOf valid
-fill-part level w i e h = rw (eq-eqb (w % 2) 1 e) (rising-at 512 (leafWord (level + 1) (down (addressOf w) (sizeAt level)) (flagsOf w)) (sizeAt (level + 1)) i h)
-
-leaf-block : (level frame f : ℕ) → f % 2 ≡ 1 → level < 3 → leafWord level frame f ≡ frame + f
-unfolding leafWord valid
-leaf-block level frame f odd h = rw (eq-eqb (f % 2) 1 odd, lt-leb 3 level h)
-
 slot-below : (level a : ℕ) → entryIndex level a < 512
 unfolding entryIndex
 slot-below level a = omega arith
 
+-- of a hole: its flags alone
 pub child-hole : (level w a : ℕ) → (w % 2 ≡ 1 → ⊥) → childWord level w a ≡ flagsOf w
 unfolding childWord
-child-hole level w a n = fill-hole level w (entryIndex (level + 1) a) n (slot-below (level + 1) a)
+child-hole level w a n =
+    let i = entryIndex (level + 1) a in
+    ap (λ (t : List ℕ). getD t i 0) (sym (fill-hole level w n)) ∙ rising-at 512 (flagsOf w) 0 i (slot-below (level + 1) a) ∙ (let e : flagsOf w + i * 0 ≡ flagsOf w = omega arith in e)
+
+-- of a valid entry: its parts, one after the other
+pub child-part : (level w a : ℕ) → w % 2 ≡ 1
+    → childWord level w a ≡ leafWord (level + 1) (down (addressOf w) (sizeAt level)) (flagsOf w) + entryIndex (level + 1) a * sizeAt (level + 1)
+unfolding childWord
+child-part level w a e =
+    let i = entryIndex (level + 1) a in
+    ap (λ (t : List ℕ). getD t i 0) (sym (fill-leaf level w e))
+    ∙ rising-at 512 (leafWord (level + 1) (down (addressOf w) (sizeAt level)) (flagsOf w)) (sizeAt (level + 1)) i (slot-below (level + 1) a)
 
 -- the low bits are flags
 pub flags-low : (w : ℕ) → flagsOf w % 4 ≡ w % 4
@@ -153,8 +150,7 @@ flags-low w = omega arith
 -- above level 3 a part is a block
 pub child-block : (level w a : ℕ) → level + 1 < 3 → w % 2 ≡ 1
     → childWord level w a ≡ down (addressOf w) (sizeAt level) + entryIndex (level + 1) a * sizeAt (level + 1) + flagsOf w
-unfolding childWord
 child-block level w a h e =
-    let r = fill-part level w (entryIndex (level + 1) a) e (slot-below (level + 1) a) in
+    let r = child-part level w a e in
     let f = leaf-block (level + 1) (down (addressOf w) (sizeAt level)) (flagsOf w) (omega (arith, flags-low w)) h in
     omega arith

@@ -6,9 +6,9 @@ use Prim.Native.Nat.{ℕ, zero, suc, _+_, _*_, _-_, _/_, _%_, _^_, _≤_, _<_}
 use native.Mathlib.Omega.{arith}
 use lib.Dec.{T, eqb, leb, ltb, eqb→eq, leb→le, ltb→lt, lt→ltb}
 use Rattle.laws.specs.Size.{sizeAt}
-use Rattle.laws.specs.Test.{le-or, and-l, and-r, and-i, or-e, cond-true, cond-false, eq→eqb, allBelow, all-to, allFrom, from-to}
+use Rattle.laws.specs.Test.{and-l, and-r, and-i, or-e, cond-true, cond-false, eq→eqb, allBelow, all-to, allFrom, from-to}
 use Rattle.entry.specs.Word.{addressOf, linkOf, only}
-use Rattle.entry.specs.Sub.{subOf, Found, sub-found, sub-in, sub-low, sub-high}
+use Rattle.entry.specs.Sub.{subOf, sub-found}
 use Rattle.entry.specs.declared.Sub.{Sub}
 use Rattle.entry.specs.declared.Sub.the-variants.{Table, Outside, Leaf}
 use Rattle.pool.specs.State.{St, tables, wordAt, numberAt}
@@ -17,6 +17,7 @@ use Rattle.pool.specs.Refuse.{Shaped}
 use Rattle.pool.specs.Sound.{flagSet, plainFlags, fits, leafb, namesb, hangsb, tableb, linkb, refersb, slotb, soundb}
 use Rattle.pool.specs.declared.Handle.{Handle}
 use Rattle.map.specs.declared.Map.{Map}
+use Rattle.map.specs.Laws.{sub-some}
 use Rattle.map.specs.Needed.{needed}
 use Rattle.map.specs.Closed.{closed}
 use Rattle.map.specs.Missed.{Lawful}
@@ -39,18 +40,6 @@ fits-lawful (suc (suc zero)) w h t = low 2 t
         let a = ltb→lt (w % 4) 2 (and-l (ltb (w % 4) 2) (eqb (addressOf w % sizeAt l) 0) t) in
         record { plain = (λ e. omega arith); aligned = (λ e. eqb→eq (addressOf w % sizeAt l) 0 (and-r (ltb (w % 4) 2) (eqb (addressOf w % sizeAt l) 0) t)) }
 fits-lawful (suc (suc (suc l))) w h t = absurd (omega arith)
-
--- a word that leads nowhere is no table
-leads-nowhere : (base n level w : ℕ) → level < 3 → subOf base n level w ≡ Leaf → w % 4 ≡ 3 → ⊥
-leads-nowhere base n level w h e q = go (le-or base (addressOf w)) (le-or n ((addressOf w - base) / 4096))
-  where
-    never : {x : Sub} → x ≡ subOf base n level w → x ≡ Leaf
-    never p = p ∙ e
-
-    go : (base ≤ addressOf w) ⊎ (addressOf w < base) → (n ≤ (addressOf w - base) / 4096) ⊎ ((addressOf w - base) / 4096 < n) → ⊥
-    go (inl a) (inl b) = let z : _≡_ {A = ℕ} 0 1 = cc (never (sub-high base n level w h q a b)) in omega arith
-    go (inl a) (inr b) = let z : _≡_ {A = ℕ} 0 1 = cc (never (sub-in base n level w h q a b)) in omega arith
-    go (inr a) b = let z : _≡_ {A = ℕ} 0 1 = cc (never (sub-low base n level w h q a)) in omega arith
 
 -- table k is in use, and stands at this level
 record UsedAt (s : St) (level k : ℕ) : Type 0 where
@@ -130,9 +119,6 @@ module _ (h : Handle) (s : St) (shape : Shaped h s) (sound : T (soundb h s)) whe
       absurd (let e = eqb→eq (numberAt s 0) (4 + h .level) t in omega (arith, n .some, shape .level))
   named-used level k (suc j) u l n t = go (or-e (eqb (numberAt s (suc j)) 0) (hangsb (h .base .0) s (suc j)) t)
     where
-      x : ℕ
-      x = numberAt s (suc j)
-
       go : T (eqb (numberAt s (suc j)) 0) ⊎ T (hangsb (h .base .0) s (suc j)) → UsedAt s (level + 1) (suc j)
       go (inl z) = absurd (let e = eqb→eq (numberAt s (suc j)) 0 z in omega (arith, n .low))
       go (inr g) =
@@ -147,7 +133,7 @@ module _ (h : Handle) (s : St) (shape : Shaped h s) (sound : T (soundb h s)) whe
   lawful-from zero k l u = 0
   lawful-from (suc left) k l u = λ i b.
       let low : 3 - suc left < 3 = omega arith in (
-        (λ e. leaf-lawful (3 - suc left) k i low u b (leads-nowhere (h .base .0) (tables s) (3 - suc left) (wordAt s k i) low e)),
+        (λ e. leaf-lawful (3 - suc left) k i low u b (λ q. sub-some (h .base .0) (tables s) (3 - suc left) (wordAt s k i) low q e)),
         (λ j e.
             let f = sub-found (h .base .0) (tables s) (3 - suc left) (wordAt s k i) j e in
             let next : 3 - suc left + 1 ≡ 3 - left = omega arith in

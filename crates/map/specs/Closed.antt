@@ -59,11 +59,11 @@ closed left h s k m = needTable closedLeaf left h s k m
 
 -- ---- the part at the end
 
-part-none : (level s e : ℕ) → e ≤ s → lastPart level s e ≡ 0
+pub part-none : (level s e : ℕ) → e ≤ s → lastPart level s e ≡ 0
 unfolding lastPart
 part-none level s e h = rw (le-ltb s e h)
 
-part-whole : (level s e : ℕ) → e % sizeAt level ≡ 0 → lastPart level s e ≡ 0
+pub part-whole : (level s e : ℕ) → e % sizeAt level ≡ 0 → lastPart level s e ≡ 0
 unfolding lastPart
 part-whole level s e h = rw (eq-eqb (e % sizeAt level) 0 h) (both (ltb s e))
   where
@@ -71,7 +71,7 @@ part-whole level s e h = rw (eq-eqb (e % sizeAt level) 0 h) (both (ltb s e))
     both true = refl
     both false = refl
 
-part-some : (level s e : ℕ) → s < e → (e % sizeAt level ≡ 0 → ⊥) → lastPart level s e ≡ 1
+pub part-some : (level s e : ℕ) → s < e → (e % sizeAt level ≡ 0 → ⊥) → lastPart level s e ≡ 1
 unfolding lastPart
 part-some level s e h n = rw (lt-ltb s e h, ne-eqb (e % sizeAt level) 0 n)
 
@@ -217,7 +217,7 @@ down-most Keep n = omega arith
 down-most (Drop x) n = omega arith
 down-most Down n = omega arith
 
-leaf-levels : (left : ℕ) (m : Map) (w : ℕ) → startOf m < endOf m → closedLeaf left m w ≤ left * (endOf m - startOf m)
+pub leaf-levels : (left : ℕ) (m : Map) (w : ℕ) → startOf m < endOf m → closedLeaf left m w ≤ left * (endOf m - startOf m)
 unfolding closedLeaf
 leaf-levels zero m w h = omega arith
 leaf-levels (suc left) m w h =
@@ -232,7 +232,7 @@ leaf-levels (suc left) m w h =
     omega arith
 
 -- a sum over chunks, where no summand passes q times its chunk's addresses
-sum-levels : (level q : ℕ) (f : Map → ℕ) → ((c : Map) → startOf c < endOf c → f c ≤ q * (endOf c - startOf c)) → (m : Map) → sumChunks level f m ≤ q * (endOf m - startOf m)
+pub sum-levels : (level q : ℕ) (f : Map → ℕ) → ((c : Map) → startOf c < endOf c → f c ≤ q * (endOf c - startOf c)) → (m : Map) → sumChunks level f m ≤ q * (endOf m - startOf m)
 sum-levels level q f each m = go (met level (startOf m) (endOf m)) m refl
   where
     none : (m : Map) → endOf m ≤ startOf m → sumChunks level f m ≤ q * (endOf m - startOf m)
@@ -261,7 +261,7 @@ sum-levels level q f each m = go (met level (startOf m) (endOf m)) m refl
             let e = sum-first level f m h in
             omega arith
 
-chunk-levels : (left : ℕ) (rec : ℕ → Map → ℕ) (leaf : Map → ℕ → ℕ) (h : Handle) (s : St) (level k : ℕ) (c : Map)
+pub chunk-levels : (left : ℕ) (rec : ℕ → Map → ℕ) (leaf : Map → ℕ → ℕ) (h : Handle) (s : St) (level k : ℕ) (c : Map)
     → ((j : ℕ) → rec j c ≤ left * (endOf c - startOf c)) → ((w : ℕ) → leaf c w ≤ left * (endOf c - startOf c)) → needChunk rec leaf h s level k c ≤ left * (endOf c - startOf c)
 unfolding needChunk needBelow
 chunk-levels left rec leaf h s level k c table plain =
@@ -277,7 +277,7 @@ chunk-levels left rec leaf h s level k c table plain =
     go Outside = omega arith
     go Leaf = plain w
 
-closed-levels : (left : ℕ) (h : Handle) (s : St) (k : ℕ) (m : Map) → closed left h s k m ≤ left * (endOf m - startOf m)
+pub closed-levels : (left : ℕ) (h : Handle) (s : St) (k : ℕ) (m : Map) → closed left h s k m ≤ left * (endOf m - startOf m)
 unfolding closed needTable
 closed-levels zero h s k m = omega arith
 closed-levels (suc left) h s k m =

@@ -17,7 +17,7 @@ use Rattle.pool.specs.State.{St, tables, wordAt}
 use Rattle.pool.specs.declared.Handle.{Handle}
 use Rattle.map.specs.declared.Map.{Map}
 use Rattle.map.specs.Rules.{rule2, ruleOf, chunkMap}
-use Rattle.map.specs.Needed.{ifDown, childWord, neededLeaf, needBelow, needChunk, needTable, needed, sumChunks, firstChunk, afterFirst, sum-none, sum-first, sum-is}
+use Rattle.map.specs.Needed.{ifDown, childWord, neededLeaf, needBelow, needChunk, needTable, needed, sumChunks, firstChunk, afterFirst, sum-none, sum-first, sum-is, slot-below}
 use Rattle.map.specs.Closed.{startOf, endOf, frameOf, restAt, rests, closedLeaf, closed, rest-one, level-next, left-next, rests-none, rests-blocks, rests-cut}
 use Rattle.map.specs.Missed.{Same, says-same, Blocks, Barred, blocks-or, fits-block, barred-block, rule-none, rule-whole, rule-down, Lawful, child-lawful, Missed, missed-plain, missed-rule2, Part, missed-block, missed-part, missed-later}
 
@@ -166,10 +166,6 @@ sum-same : (level : ℕ) (f g : Map → ℕ) (m : Map) → ((c : Map) → Chunk 
 sum-same level f g m each =
     sum-is level f (sumChunks level g) (λ c. ℕ) (λ c i h. sum-none level g c h)
     (λ c i h. (sum-first level g c h ∙ ap (λ (x : ℕ). x + sumChunks level g (afterFirst level c)) (sym (each (firstChunk level c) (first-chunk level c h))), 0)) m 0
-
-slot-below : (level a : ℕ) → entryIndex level a < 512
-unfolding entryIndex
-slot-below level a = omega arith
 
 -- one chunk
 chunk-same : (rec rec′ : ℕ → Map → ℕ) (leaf leaf′ : Map → ℕ → ℕ) (h : Handle) (s : St) (level k : ℕ) (c : Map)

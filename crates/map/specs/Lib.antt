@@ -8,3 +8,4 @@ pub mod Closed
 pub mod Missed
 pub mod Count
 pub mod SoundCount
+pub mod CountLaws

@@ -122,7 +122,7 @@ sum-is level f g I none step m i = go (met level (m .region .start .0) (m .regio
 
 -- ---- the words of a split
 
-slot-below : (level a : ℕ) → entryIndex level a < 512
+pub slot-below : (level a : ℕ) → entryIndex level a < 512
 unfolding entryIndex
 slot-below level a = omega arith
 

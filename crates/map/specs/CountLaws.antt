@@ -21,7 +21,8 @@ use Rattle.map.specs.declared.Map.{Map}
 use Rattle.map.specs.declared.Rule.{Rule}
 use Rattle.map.specs.declared.Rule.the-variants.{Write, Keep, Drop, Down}
 use Rattle.map.specs.Rules.{ruleOf, chunkMap}
-use Rattle.map.specs.Laws.{rule-page}
+use Rattle.map.specs.Fit.{Fit}
+use Rattle.map.specs.Range.{chunk-fit}
 use Rattle.map.specs.Needed.{ifDown, childWord, needBelow, needChunk, needTable, sumChunks, firstChunk, afterFirst}
 use Rattle.map.specs.Closed.{startOf, endOf, frameOf, lastPart, restAt, rests, closedLeaf, closed, leaf-levels, rests-most, closed-levels}
 
@@ -154,3 +155,11 @@ part-fits level w i h slot fits =
     let s = size-step level h in
     let l = size-low (level + 1) in
     record { step = omega arith; place = omega arith; word = omega arith }
+
+-- the first chunk below a leaf fits as the leaf does, and what remains is no longer
+module _ (level : ℕ) (m : Map) (fit : Fit m) (some : startOf m < endOf m) where
+  pub first-fit : Fit (firstChunk level m)
+  first-fit = chunk-fit level (startOf m) (endOf m) (frameOf m) m fit some (fit .from) (fit .to) (fit .frame) (fit .room)
+
+  pub length-fits : endOf m - startOf m ≤ 2 ^ 48
+  length-fits = omega (arith, fit .room)

@@ -103,13 +103,14 @@ fn count_leaf(level: usize, map: Map, word: u64) -> u64
     }
     let start = map.region.start.0;
     let end = map.region.end.0;
+    let frame = map.frame.0;
     let stop = region::chunk_end(start, end, level + 1);
     let first = Map {
         region: MemoryRegion {
             start: VirtualAddress(start),
             end: VirtualAddress(stop),
         },
-        frame: PhysicalAddress(map.frame.0),
+        frame: PhysicalAddress(frame),
         flags: map.flags,
         blocks: map.blocks,
     };
@@ -118,7 +119,7 @@ fn count_leaf(level: usize, map: Map, word: u64) -> u64
             start: VirtualAddress(stop),
             end: VirtualAddress(end),
         },
-        frame: PhysicalAddress(map.frame.0 + (stop - start)),
+        frame: PhysicalAddress(frame + (stop - start)),
         flags: map.flags,
         blocks: map.blocks,
     };

@@ -1,0 +1,2 @@
+-- Lemmas that several proofs of `map` share.
+pub mod Tags

@@ -163,3 +163,73 @@ module _ (level : ℕ) (m : Map) (fit : Fit m) (some : startOf m < endOf m) wher
 
   pub length-fits : endOf m - startOf m ≤ 2 ^ 48
   length-fits = omega (arith, fit .room)
+
+-- ---- count_needed
+
+-- one chunk of table k
+unfoldable pub countAt : ℕ → Handle → St → ℕ → Map → ℕ
+countAt level h s k = needChunk (λ j n. closed (3 - (level + 1)) h s j n) (closedLeaf (3 - level)) h s level k
+
+pub closed-done : (level : ℕ) (h : Handle) (s : St) (k : ℕ) (m : Map) → 3 ≤ level → 0 ≡ closed (3 - level) h s k m
+unfolding closed needTable
+closed-done level h s k m l = let e : 0 ≡ 3 - level = omega arith in ap (λ (x : ℕ). closed x h s k m) e
+
+pub closed-open : (level : ℕ) (h : Handle) (s : St) (k : ℕ) (m : Map) → level < 3 → sumChunks level (countAt level h s k) m ≡ closed (3 - level) h s k m
+unfolding countAt closed needTable
+closed-open level h s k m l =
+    let e : suc (3 - (level + 1)) ≡ 3 - level = omega arith in
+    let q : level ≡ 3 - suc (3 - (level + 1)) = omega arith in
+    ap (λ (x : ℕ). sumChunks level (needChunk (λ j n. needTable closedLeaf (3 - (level + 1)) h s j n) (closedLeaf x) h s level k) m) (sym e)
+    ∙ ap (λ (x : ℕ). sumChunks x (needChunk (λ j n. needTable closedLeaf (3 - (level + 1)) h s j n) (closedLeaf (suc (3 - (level + 1)))) h s x k) m) q
+    ∙ ap (λ (x : ℕ). needTable closedLeaf x h s k m) e
+
+pub count-fit : (level : ℕ) (h : Handle) (s : St) (k : ℕ) (m : Map) → level < 3 → sumChunks level (countAt level h s k) m ≤ 3 * (endOf m - startOf m)
+count-fit level h s k m l =
+    let o = closed-open level h s k m l in
+    let r = closed-levels (3 - level) h s k m in
+    let t : (3 - level) * (endOf m - startOf m) ≤ 3 * (endOf m - startOf m) = mul-le-mul-right (endOf m - startOf m) (omega arith) in
+    omega arith
+
+down-none : (r : Rule) → ifDown r 0 ≡ 0
+unfolding ifDown
+down-none (Write x) = refl
+down-none Keep = refl
+down-none (Drop x) = refl
+down-none Down = refl
+
+down-twice : (r : Rule) (n : ℕ) → ifDown r (ifDown r n) ≡ ifDown r n
+unfolding ifDown
+down-twice (Write x) n = refl
+down-twice Keep n = refl
+down-twice (Drop x) n = refl
+down-twice Down n = refl
+
+module _ (h : Handle) (s : St) (level k : ℕ) (c : Map) {i : ℕ} (index : i ≡ entryIndex level (startOf c)) where
+  -- where what the slot leads to is known
+  entry-sub : (x : Sub) → x ≡ subOf (h .base .0) (tables s) level (wordAt s k i)
+      → countAt level h s k c ≡ ifDown (ruleOf level c (wordAt s k i)) (needBelow (λ j. closed (3 - (level + 1)) h s j c) (λ w. closedLeaf (3 - level) c w) (wordAt s k i) x)
+  unfolding countAt needChunk
+  entry-sub x e =
+      ap (λ (y : ℕ). ifDown (ruleOf level c (wordAt s k y)) (needBelow (λ j. closed (3 - (level + 1)) h s j c) (λ w. closedLeaf (3 - level) c w) (wordAt s k y) (subOf (h .base .0) (tables s) level (wordAt s k y)))) (sym index)
+      ∙ ap (λ (y : Sub). ifDown (ruleOf level c (wordAt s k i)) (needBelow (λ j. closed (3 - (level + 1)) h s j c) (λ w. closedLeaf (3 - level) c w) (wordAt s k i) y)) (sym e)
+
+  pub entry-outside : {x : Sub} → x ≡ subOf (h .base .0) (tables s) level (wordAt s k i) → x ≡ Outside → countAt level h s k c ≡ 0
+  unfolding needBelow
+  entry-outside e q = entry-sub Outside (sym q ∙ e) ∙ down-none (ruleOf level c (wordAt s k i))
+
+  pub entry-leaf : {x : Sub} → x ≡ subOf (h .base .0) (tables s) level (wordAt s k i) → x ≡ Leaf → level < 3 → countAt level h s k c ≡ closedLeaf (3 - level) c (wordAt s k i)
+  unfolding needBelow
+  entry-leaf e q l =
+      let o = leaf-open level c (wordAt s k i) l in
+      entry-sub Leaf (sym q ∙ e) ∙ ap (λ (n : ℕ). ifDown (ruleOf level c (wordAt s k i)) n) o ∙ down-twice (ruleOf level c (wordAt s k i)) _ ∙ sym o
+
+  module _ {x : Sub} (e : x ≡ subOf (h .base .0) (tables s) level (wordAt s k i)) {r : Rule} (is : r ≡ ruleOf level c (wordAt s k i)) where
+    pub entry-none : Other r → countAt level h s k c ≡ 0
+    entry-none o = entry-sub x e ∙ none (sym is) _
+      where
+        none : {q : Rule} → q ≡ r → (n : ℕ) → ifDown q n ≡ 0
+        none p n = ap (λ (q : Rule). ifDown q n) p ∙ o .none n
+
+    pub entry-table : (j : ℕ) → x ≡ Table j → r ≡ Down → countAt level h s k c ≡ closed (3 - (level + 1)) h s j c
+    unfolding needBelow
+    entry-table j q d = entry-sub (Table j) (sym q ∙ e) ∙ is-down (ruleOf level c (wordAt s k i)) _ (sym is ∙ d)

@@ -1,5 +1,6 @@
 -- Map: the five rules on lists, and the call.
 pub mod Rules
 pub mod Fit
+pub mod Ask
 pub mod Laws
 pub mod Range

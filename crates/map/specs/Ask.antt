@@ -6,10 +6,13 @@ use mathlib.Core.Logic.{⊎-elim}
 use Prim.Native.Nat.{ℕ, _+_, _*_, _-_, _/_, _%_, _^_, _≤_, _<_}
 use native.Mathlib.Omega.{arith}
 use lib.Bits.{bitAnd}
-use lib.Dec.{T, eqb, eqb→eq, leb}
+use lib.Dec.{T, eqb, eqb→eq, leb, ltb}
 use borrow.Author.Tests.{eq-eqb, ne-eqb, le-leb, lt-leb}
 use Rattle.laws.specs.Bit.{sub-none}
 use Rattle.entry.specs.Word.{only, el1Flags, addressOf, flagsOf, mask-address, address-and-flags}
+use Rattle.laws.specs.Size.{down, up}
+use Rattle.laws.specs.Test.{byBool, eq-or, le-or}
+use Rattle.address.specs.Address.{alignUp}
 use Rattle.region.specs.Region.{rounded}
 use Rattle.pool.specs.Sound.{flagSet}
 use Rattle.pool.specs.declared.Handle.{Handle}
@@ -17,9 +20,13 @@ use Rattle.pool.specs.declared.Refusal.{Refusal}
 use Rattle.pool.specs.declared.Refusal.the-variants.{End, InvalidFlags, FlagSet, Frame}
 use Rattle.pool.specs.declared.Outcome.{Outcome}
 use Rattle.pool.specs.declared.Outcome.the-variants.{Accepted, Refused}
-use Rattle.verify.specs.Verify.{endFits, verify}
+use Rattle.verify.specs.Verify.{endFits, verify, verified-forwards}
 use Rattle.map.specs.declared.Map.{Map}
 use Rattle.map.specs.Fit.{Plain, Fit}
+
+-- the map that a call asks for: "start is rounded down and end up to 4096"; "blocks allowed" is NO_BLOCK_MAPPINGS unset, the constraints' bit 0
+unfoldable pub asked : ℕ → ℕ → ℕ → ℕ → ℕ → Map
+asked start end frame flags constraints = record { region = rounded start end; frame = record { 0 = frame }; flags = flags; blocks = eqb (constraints % 2) 0 }
 
 -- refusal 7: frame not a multiple of 4096, or frame + length above 2^48
 unfoldable pub frameAsked : ℕ → ℕ → Outcome
@@ -71,18 +78,18 @@ module _ (h : Handle) (end : ℕ) (m : Map) where
       ask-set e = rw (ends, ne-eqb (m .flags / 2 % 2) 1 plain, e)
 
       module _ (from : only (flagSet h) (m .flags) ≡ true) where
-        asked : (x : Outcome) → verify h (m .region) ≡ x → first x (frameAsked (m .frame .0) (m .region .end .0 - m .region .start .0)) ≡ verifyMap h end m
+        by-region : (x : Outcome) → verify h (m .region) ≡ x → first x (frameAsked (m .frame .0) (m .region .end .0 - m .region .start .0)) ≡ verifyMap h end m
         unfolding verifyMap
-        asked x e = rw (ends, ne-eqb (m .flags / 2 % 2) 1 plain, from, e)
+        by-region x e = rw (ends, ne-eqb (m .flags / 2 % 2) 1 plain, from, e)
 
         pub ask-region : {x : Outcome} → x ≡ verify h (m .region) → (r : Refusal) → x ≡ Refused r → x ≡ verifyMap h end m
         unfolding first
-        ask-region e r q = q ∙ asked (Refused r) (sym e ∙ q)
+        ask-region e r q = q ∙ by-region (Refused r) (sym e ∙ q)
 
         pub ask-frame : {x : Outcome} → x ≡ verify h (m .region) → x ≡ Accepted
             → frameAsked (m .frame .0) (m .region .end .0 - m .region .start .0) ≡ verifyMap h end m
         unfolding first
-        ask-frame e q = asked Accepted (sym e ∙ q)
+        ask-frame e q = by-region Accepted (sym e ∙ q)
 
 -- ---- what they leave
 
@@ -94,3 +101,62 @@ only-plain h f e =
     let z : addressOf f ≡ 0 = sym (mask-address f) ∙ none in
     let both = address-and-flags f in
     omega arith
+
+-- no refusal is an acceptance
+refused-not : {x : Outcome} (r : Refusal) → Refused r ≡ x → x ≡ Accepted → ⊥
+refused-not r e q = let z : _≡_ {A = ℕ} 0 1 = cc in omega arith
+
+pub record Passes (h : Handle) (end : ℕ) (m : Map) : Type 0 where
+  pub ends : endFits end ≡ true
+  pub plain : m .flags / 2 % 2 ≡ 0
+  pub from : only (flagSet h) (m .flags) ≡ true
+  pub region : verify h (m .region) ≡ Accepted
+  pub frame : frameAsked (m .frame .0) (m .region .end .0 - m .region .start .0) ≡ Accepted
+
+-- an accepted map passes each of them
+pub passes : (h : Handle) (end : ℕ) (m : Map) → verifyMap h end m ≡ Accepted → Passes h end m
+passes h end m ok = byBool (endFits end) ended (λ e. absurd (refused-not (End end) (ask-end h end m e) ok))
+  where
+    framed : (ends : endFits end ≡ true) (plain : m .flags / 2 % 2 ≡ 1 → ⊥) (from : only (flagSet h) (m .flags) ≡ true) (x : Outcome)
+        → verify h (m .region) ≡ x → Passes h end m
+    framed ends plain from Accepted e =
+        record { ends = ends; plain = omega arith; from = from; region = e; frame = ask-frame h end m ends plain from (sym e) refl ∙ ok }
+    framed ends plain from (Refused r) e = absurd (refused-not r (ask-region h end m ends plain from (sym e) r refl) ok)
+
+    ended : endFits end ≡ true → Passes h end m
+    ended ends = ⊎-elim
+        (λ e. absurd (refused-not (InvalidFlags (m .flags)) (ask-invalid h end m ends e) ok))
+        (λ plain. byBool (only (flagSet h) (m .flags)) (λ from. framed ends plain from (verify h (m .region)) refl)
+        (λ e. absurd (refused-not (FlagSet (m .flags)) (ask-set h end m ends plain e) ok)))
+        (eq-or (m .flags / 2 % 2) 1)
+
+frame-says : (frame length : ℕ) → frameAsked frame length ≡ Accepted → (frame % 4096 ≡ 0) × (frame + length ≤ 2 ^ 48)
+frame-says frame length ok = ⊎-elim
+    (λ e. ⊎-elim (λ l. (e, l)) (λ l. absurd (refused-not (Frame (record { 0 = frame })) (frame-past frame length e l) ok)) (le-or (frame + length) (2 ^ 48)))
+    (λ n. absurd (refused-not (Frame (record { 0 = frame })) (frame-part frame length n) ok))
+    (eq-or (frame % 4096) 0)
+
+-- both ends are multiples of 4096
+down-pages : (a : ℕ) → down a 4096 % 4096 ≡ 0
+unfolding down
+down-pages a = omega arith
+
+up-pages : (a : ℕ) → alignUp a 4096 % 4096 ≡ 0
+unfolding alignUp up
+up-pages a = byBool (ltb (up a 4096) (2 ^ 64)) (λ e. rw e (down-pages (a + 4095))) (λ e. rw e refl)
+
+-- what is put down is whole pages, with frames below 2^48 and flags that share no bit with them
+pub asked-fit : (h : Handle) (start end frame flags constraints : ℕ) → flags < 2 ^ 64 → let m = asked start end frame flags constraints in verifyMap h end m ≡ Accepted → Fit m
+unfolding asked rounded
+asked-fit h start end frame flags constraints low ok =
+    let m = asked start end frame flags constraints in
+    let p = passes h end m ok in
+    let f = frame-says frame (m .region .end .0 - m .region .start .0) (p .frame) in
+    record {
+      from = down-pages start;
+      to = up-pages end;
+      some = verified-forwards h (m .region) (p .region);
+      frame = f .0;
+      room = f .1;
+      flags = record { below = low; alone = only-plain h flags (p .from); no-table = p .plain };
+    }

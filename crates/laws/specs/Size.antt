@@ -4,7 +4,7 @@ use mathlib.Core.Path.{_≡_, sym, ap, _∙_}
 use mathlib.Core.Bool.{_&&_}
 use mathlib.Core.Logic.{⊎-elim}
 use Prim.Native.Nat.{ℕ, _+_, _*_, _-_, _/_, _%_, _^_, _≤_, _<_}
-use native.Mathlib.Nat.{add-mul, mul-assoc, mul-mod-left, mul-le-mul-right, div-add-mod', mod-lt, div-eq-of-lt-le, div-lt-iff-lt-mul, mul-div-cancel}
+use native.Mathlib.Nat.{add-mul, mul-assoc, mul-mod-left, mul-le-mul-right, div-add-mod', mod-lt, mod-eq-of-lt, zero-mod, mod-mod-of-dvd, dvd-mul-left, add-mul-mod-self-right, div-eq-of-lt-le, div-lt-iff-lt-mul, mul-div-cancel}
 use native.Mathlib.Omega.{arith}
 use lib.Bits.{bitAnd, bitOr, and-mask}
 use lib.Dec.{eqb}
@@ -157,3 +157,54 @@ size-room level a h =
     let w : 2 ^ 48 ≡ 2 ^ (36 - 9 * (3 - level)) * 2 ^ (12 + 9 * (3 - level)) = ap (λ (k : ℕ). 2 ^ k) e ∙ pow-add 2 (36 - 9 * (3 - level)) (12 + 9 * (3 - level)) in
     let r = down-room (2 ^ (36 - 9 * (3 - level))) a (2 ^ (12 + 9 * (3 - level))) (pow-pos (12 + 9 * (3 - level))) (omega arith) in
     omega arith
+
+-- ---- multiples, and offsets in an entry
+
+-- a multiple of a multiple
+pub multiple-of : (c b x : ℕ) → x % (c * b) ≡ 0 → x % b ≡ 0
+multiple-of c b x e = sym (mod-mod-of-dvd b x (dvd-mul-left b c)) ∙ ap (λ (r : ℕ). r % b) e ∙ zero-mod b
+
+-- a multiple by its quotient
+pub multiple-is : (x a : ℕ) → x % a ≡ 0 → x / a * a ≡ x
+multiple-is x a e = let d = div-add-mod' x a in omega arith
+
+-- what is added is a multiple
+pub add-multiple : (x y a : ℕ) → y % a ≡ 0 → (x + y) % a ≡ x % a
+add-multiple x y a e = ap (λ (z : ℕ). (x + z) % a) (sym (multiple-is y a e)) ∙ add-mul-mod-self-right x (y / a) a
+
+-- the distance of two multiples is one
+pub between-multiples : (x y a : ℕ) → x ≤ y → x % a ≡ 0 → y % a ≡ 0 → (y - x) % a ≡ 0
+between-multiples x y a l p q =
+    let e : x + (y - x) ≡ y = omega arith in
+    let s : (x + (y - x)) % a ≡ (y - x + x) % a = ap (λ (z : ℕ). z % a) (omega arith) in
+    sym (add-multiple (y - x) x a p) ∙ sym s ∙ ap (λ (z : ℕ). z % a) e ∙ q
+
+-- the offset in an entry: whole entries of the next level, and the offset in the last of them
+pub mod-parts : (c b x : ℕ) → 0 < b → 0 < c → x % (c * b) ≡ x / b % c * b + x % b
+mod-parts c b x h k =
+    let d = div-add-mod' x b in
+    let f = div-add-mod' (x / b) c in
+    let below = mod-lt (x / b) k in
+    let l : (x / b % c + 1) * b ≤ c * b = mul-le-mul-right b (omega arith) in
+    let n = next-multiple (x / b % c) b in
+    let m = mod-lt x h in
+    let t : x / b * b ≡ x / b / c * c * b + x / b % c * b = ap (λ (z : ℕ). z * b) (sym f) ∙ add-mul (x / b / c * c) (x / b % c) b in
+    let u = mul-assoc (x / b / c) c b in
+    let e : x ≡ x / b % c * b + x % b + x / b / c * (c * b) = omega arith in
+    ap (λ (z : ℕ). z % (c * b)) e ∙ add-mul-mod-self-right (x / b % c * b + x % b) (x / b / c) (c * b) ∙ mod-eq-of-lt (omega arith)
+
+-- further on in the same entry
+pub mod-on : (a x y : ℕ) → 0 < a → x ≤ y → y < (x / a + 1) * a → y % a ≡ x % a + (y - x)
+mod-on a x y h l u =
+    let d = div-add-mod' x a in
+    let e : y / a ≡ x / a = div-eq-of-lt-le a (omega arith) u in
+    let f : x / a * a + y % a ≡ y = ap (λ (q : ℕ). q * a + y % a) (sym e) ∙ div-add-mod' y a in
+    omega arith
+
+-- a multiple of a size is one of the next level's
+pub size-next : (level x : ℕ) → level < 3 → x % sizeAt level ≡ 0 → x % sizeAt (level + 1) ≡ 0
+size-next level x h e = multiple-of 512 (sizeAt (level + 1)) x (ap (λ (a : ℕ). x % a) (sym (size-step level h)) ∙ e)
+
+-- the offset in an entry: its slot in a table of the next level, and the offset there
+pub size-parts : (level x : ℕ) → level < 3 → x % sizeAt level ≡ x / sizeAt (level + 1) % 512 * sizeAt (level + 1) + x % sizeAt (level + 1)
+size-parts level x h = ap (λ (a : ℕ). x % a) (size-step level h) ∙ mod-parts 512 (sizeAt (level + 1)) x (size-pos (level + 1)) (omega arith)

@@ -4,3 +4,8 @@ pub mod Fit
 pub mod Ask
 pub mod Laws
 pub mod Range
+pub mod Needed
+pub mod Closed
+pub mod Missed
+pub mod Count
+pub mod SoundCount

@@ -5,12 +5,12 @@ use mathlib.Core.Bool.{Bool, true, false, cond}
 use mathlib.Core.List.{List, [], _∷_}
 use mathlib.Core.Logic.{_⊎_, inl, inr, ⊎-elim}
 use Prim.Native.Nat.{ℕ, zero, suc, _+_, _*_, _-_, _/_, _%_, _≤_, _<_, min}
-use native.Mathlib.Nat.{div-eq-of-lt-le, mul-div-cancel, le-div-iff-mul-le, div-add-mod', mod-lt, mul-le-mul-right}
+use native.Mathlib.Nat.{div-eq-of-lt-le, mul-div-cancel, le-div-iff-mul-le, div-lt-iff-lt-mul, div-add-mod', mod-lt, mul-mod-left, add-mul, suc-mul, mul-le-mul-left, mul-le-mul-right}
 use native.Mathlib.Omega.{arith}
 use lib.Dec.{ltb}
 use lib.ListN.{length, getD}
 use borrow.Author.Tests.{lt-ltb, le-ltb, ltb-true, ltb-false}
-use Rattle.laws.specs.Size.{sizeAt, size-pos, down, down-rest}
+use Rattle.laws.specs.Size.{sizeAt, size-pos, down, down-rest, multiple-is, next-multiple}
 use Rattle.laws.specs.Test.{byBool, le-or}
 use Rattle.region.specs.declared.MemoryRegion.{MemoryRegion}
 use Rattle.region.specs.declared.ChunkedIterator.{ChunkedIterator}
@@ -223,3 +223,68 @@ block-whole level r o hs he = whole (sizeAt level) (size-pos level) (r .start .0
         go : (e / size ≤ s / size) ⊎ (s / size < e / size) → e ≡ s + size
         go (inl l) = absurd (omega (arith, mul-le-mul-right size l, from, to))
         go (inr l) = let d : (s / size + 1) * size ≤ e / size * size = mul-le-mul-right size (omega arith) in let r = down-rest s size in omega (arith, from, to)
+
+-- ---- where a chunk ends, and the entries met, taken apart
+
+-- with the region, or with its entry
+pub chunk-stops : (level s e : ℕ) → (chunkEnd level s e ≡ e) ⊎ ((chunkEnd level s e < e) × (chunkEnd level s e % sizeAt level ≡ 0))
+unfolding chunkEnd
+chunk-stops level s e = go (le-or e (entryLast level s + 1))
+  where
+    go : (e ≤ entryLast level s + 1) ⊎ (entryLast level s + 1 < e) → (min e (entryLast level s + 1) ≡ e) ⊎ ((min e (entryLast level s + 1) < e) × (min e (entryLast level s + 1) % sizeAt level ≡ 0))
+    go (inl l) = inl (omega arith)
+    go (inr l) =
+        let here : min e (entryLast level s + 1) ≡ (s / sizeAt level + 1) * sizeAt level = let n = last-number level s in omega arith in
+        inr (omega arith, ap (λ (x : ℕ). x % sizeAt level) here ∙ mul-mod-left (s / sizeAt level + 1) (sizeAt level))
+
+-- what ends in the entry of its start is one chunk
+pub chunk-whole : (level s e : ℕ) → e ≤ entryLast level s + 1 → chunkEnd level s e ≡ e
+unfolding chunkEnd
+chunk-whole level s e h = omega arith
+
+-- the addresses of one entry, by its number
+pub in-entry : (level s a : ℕ) → a ≤ entryLast level s → a < (s / sizeAt level + 1) * sizeAt level
+in-entry level s a h = let n = last-number level s in omega arith
+
+pub met-one : (level s e : ℕ) → s < e → e ≤ entryLast level s + 1 → met level s e ≡ 1
+met-one level s e h l =
+    met-step level s e h ∙ ap suc (ap (λ (x : ℕ). met level x e) (chunk-whole level s e l) ∙ met-none level e e (omega arith))
+
+-- no more entries than addresses
+pub met-most : (level s e : ℕ) → met level s e ≤ e - s
+met-most level s e = go (le-or e s)
+  where
+    go : (e ≤ s) ⊎ (s < e) → met level s e ≤ e - s
+    go (inl h) = let z = met-none level s e h in omega arith
+    go (inr h) =
+        let m = met-some level s e h in
+        let far : (e - 1) / sizeAt level ≤ s / sizeAt level + (e - 1 - s) = div-le-add (sizeAt level) s (e - 1) (size-pos level) (omega arith) in
+        omega arith
+      where
+        div-le-add : (a x y : ℕ) → 0 < a → x ≤ y → y / a ≤ x / a + (y - x)
+        div-le-add a x y p l =
+            let d = div-add-mod' x a in
+            let r = mod-lt x p in
+            let t : (x / a + (y - x) + 1) * a ≡ x / a * a + (y - x) * a + a = add-mul (x / a + (y - x)) 1 a ∙ (let u = add-mul (x / a) (y - x) a in omega arith) in
+            let one : (y - x) * 1 ≤ (y - x) * a = mul-le-mul-left (y - x) p in
+            let below : y < (x / a + (y - x) + 1) * a = omega arith in
+            let less = div-lt-iff-lt-mul p .1 below in
+            omega arith
+
+-- cut where an entry begins
+pub met-split : (level s m e : ℕ) → s < m → m < e → m % sizeAt level ≡ 0 → met level s e ≡ met level s m + met level m e
+met-split level s m e h k z =
+    let x = met-some level s e (omega arith) in
+    let y = met-some level s m h in
+    let w = met-some level m e k in
+    let last = before (sizeAt level) (size-pos level) (multiple-is m (sizeAt level) z) in
+    let one : s / sizeAt level ≤ (m - 1) / sizeAt level = le-div-iff-mul-le (size-pos level) .1 (omega (arith, entry-around level s .0)) in
+    let two : m / sizeAt level ≤ (e - 1) / sizeAt level = le-div-iff-mul-le (size-pos level) .1 (omega (arith, entry-around level m .0)) in
+    omega arith
+  where
+    before : (a : ℕ) → 0 < a → m / a * a ≡ m → (m - 1) / a + 1 ≡ m / a
+    before a p q = go (m / a) q
+      where
+        go : (n : ℕ) → n * a ≡ m → (m - 1) / a + 1 ≡ n
+        go zero e = absurd (omega arith)
+        go (suc n) e = let t = suc-mul n a in let d : (m - 1) / a ≡ n = div-eq-of-lt-le a (omega arith) (let u = next-multiple n a in omega arith) in omega arith

@@ -9,3 +9,4 @@ pub mod Closed
 pub mod Missed
 pub mod Count
 pub mod SoundCount
+pub mod Call

@@ -1,9 +1,16 @@
 // Times ptb's calls against a plain pass over the same words, in one process: ratios of medians over interleaved runs.
 // Run it by run.sh, which builds the static library first. No dependency but std.
 use std::hint::black_box;
-use std::time::Instant;
+
+// C's struct timespec on x86-64 Linux.
+#[repr(C)]
+struct Time {
+    seconds: i64,
+    nanoseconds: i64,
+}
 
 extern "C" {
+    fn clock_gettime(clock: i32, time: *mut Time) -> i32;
     fn ptb_make(words: *mut u64, words_len: usize, ledger: *mut u32, ledger_len: usize, base: u64, level: u64, range: u64, answer: *mut u64) -> u64;
     fn ptb_check(words: *const u64, words_len: usize, ledger: *const u32, ledger_len: usize, base: u64, level: u64, range: u64, answer: *mut u64) -> u64;
     fn ptb_image(words: *const u64, words_len: usize, ledger: *const u32, ledger_len: usize, base: u64, level: u64, range: u64, table: u64, page: *mut u8, page_len: usize, answer: *mut u64) -> u64;
@@ -100,13 +107,21 @@ fn plain(words: &[u64]) -> u64 {
     any
 }
 
+// The seconds that this thread has had a processor: what else runs on the machine does not count, but for its share of caches and memory.
+fn now() -> f64 {
+    const THREAD_CPUTIME: i32 = 3;
+    let mut time = Time { seconds: 0, nanoseconds: 0 };
+    assert_eq!(unsafe { clock_gettime(THREAD_CPUTIME, &mut time) }, 0);
+    time.seconds as f64 + time.nanoseconds as f64 / 1e9
+}
+
 // The seconds that one of `turns` calls takes.
 fn timed<R>(turns: usize, mut call: impl FnMut() -> R) -> f64 {
-    let start = Instant::now();
+    let start = now();
     for _ in 0..turns {
         black_box(call());
     }
-    start.elapsed().as_secs_f64() / turns as f64
+    (now() - start) / turns as f64
 }
 
 fn median(mut times: Vec<f64>) -> f64 {

@@ -30,23 +30,9 @@ fn make(what: &[u8], words: &mut [u64], ledger: &mut [u32], base: u64, level: u6
     say(what, refusal);
 }
 
-// The word at a place, 0 where there is none.
-fn word_at(words: &[u64], at: usize) -> u64 {
-    if at < words.len() { words[at] } else { 0 }
-}
-
 fn put(words: &mut [u64], at: usize, word: u64) {
     if at < words.len() {
         words[at] = word;
-    }
-}
-
-// The ledger number of a table, 0 where there is none.
-fn number_of(ledger: &[u32], table: usize) -> u32 {
-    if table < ledger.len() {
-        ledger[table]
-    } else {
-        0
     }
 }
 
@@ -66,66 +52,88 @@ fn put_case_b(words: &mut [u64], ledger: &mut [u32]) {
     enter(ledger, 2, 4111);
 }
 
-// The check with one word changed, which is then put back.
-fn damaged_word(what: &[u8], words: &mut [u64], ledger: &[u32], at: usize, word: u64) {
-    let old = word_at(words, at);
+fn sound_pools(words: &mut [u64], ledger: &mut [u32]) {
+    check(b"before make", words, ledger);
+    make(b"make", words, ledger, BASE, LEVEL);
+    check(b"a fresh pool", words, ledger);
+    put_case_b(words, ledger);
+    check(b"case B", words, ledger);
+}
+
+// Case B with one word changed; then the word as it was.
+fn damaged(what: &[u8], words: &mut [u64], ledger: &[u32], at: usize, word: u64, old: u64) {
     put(words, at, word);
     check(what, words, ledger);
     put(words, at, old);
 }
 
-// The check with one ledger number changed, which is then put back.
-fn damaged_number(what: &[u8], words: &[u64], ledger: &mut [u32], table: usize, number: u32) {
-    let old = number_of(ledger, table);
-    enter(ledger, table, number);
-    check(what, words, ledger);
-    enter(ledger, table, old);
-}
-
-// Links that no ledger number answers.
-fn damaged_links(words: &mut [u64], ledger: &[u32]) {
-    damaged_word(
+// Links and ledger numbers that do not name each other.
+fn damaged_links(words: &mut [u64], ledger: &mut [u32]) {
+    damaged(
         b"a link to a table that is free",
         words,
         ledger,
         517,
         0x8000_3003,
+        0,
     );
-    damaged_word(b"two links to one table", words, ledger, 519, 0x8000_2003);
-    damaged_word(b"a link out of the pool", words, ledger, 521, 0x8000_8003);
+    damaged(
+        b"two links to one table",
+        words,
+        ledger,
+        519,
+        0x8000_2003,
+        0,
+    );
+    damaged(
+        b"a link out of the pool",
+        words,
+        ledger,
+        521,
+        0x8000_8003,
+        0,
+    );
+    enter(ledger, 2, 4119);
+    check(b"a ledger number that names another slot", words, ledger);
+    enter(ledger, 2, 4111);
 }
 
-// Words that their level does not allow.
+// Words that their table does not allow.
 fn damaged_leaves(words: &mut [u64], ledger: &[u32]) {
-    damaged_word(b"a word in a free table", words, ledger, 2660, 0x9403);
-    damaged_word(
+    damaged(b"a word in a free table", words, ledger, 2660, 0x9403, 0);
+    damaged(
         b"a flag outside the set, bit 48",
         words,
         ledger,
         1025,
         0x1_0000_0000_9403,
+        0x9403,
     );
-    damaged_word(
+    damaged(
         b"a block at level 1, not aligned",
         words,
         ledger,
         5,
         0x2000_0401,
+        0,
     );
-    damaged_word(b"the reserved word 1 at level 3", words, ledger, 1027, 1);
+    damaged(b"the reserved word 1 at level 3", words, ledger, 1027, 1, 0);
+    check(b"case B again", words, ledger);
 }
 
-// A pool without its first word.
-fn make_short(words: &mut [u64], ledger: &mut [u32]) {
-    if 0 < words.len() {
-        make(
-            b"make, a word short of 8 tables",
-            &mut words[1..],
-            ledger,
-            BASE,
-            LEVEL,
-        );
-    }
+// Refusal 1, for the handle and for a length: nothing changes.
+fn misshapen(words: &mut [u64], ledger: &mut [u32]) {
+    let mut few = [0u64; 511];
+    make(b"make, level 4", words, ledger, BASE, 4);
+    make(
+        b"make, a base that is no multiple of 4096",
+        words,
+        ledger,
+        BASE + 2048,
+        LEVEL,
+    );
+    make(b"make, 511 words", &mut few, ledger, BASE, LEVEL);
+    check(b"case B still", words, ledger);
 }
 
 fn image(what: &[u8], words: &[u64], ledger: &[u32], table: u64, page: &mut [u8]) {
@@ -136,19 +144,6 @@ fn image(what: &[u8], words: &[u64], ledger: &[u32], table: u64, page: &mut [u8]
         io::write_all(1, b"  needed: ");
         io::print_decimal(1, answer[0]);
         io::write_all(1, b"\n");
-    }
-}
-
-// A page without its first byte.
-fn image_short(words: &[u64], ledger: &[u32], page: &mut [u8]) {
-    if 0 < page.len() {
-        image(
-            b"page image, a byte short",
-            words,
-            ledger,
-            2,
-            &mut page[1..],
-        );
     }
 }
 
@@ -174,60 +169,21 @@ fn show(page: &[u8]) {
     }
 }
 
-// Made, then filled by hand.
-fn sound_pools(words: &mut [u64], ledger: &mut [u32]) {
-    check(b"before make", words, ledger);
-    make(b"make", words, ledger, BASE, LEVEL);
-    check(b"a fresh pool", words, ledger);
-    put_case_b(words, ledger);
-    check(b"case B", words, ledger);
-}
-
-// Eight pools that are not sound, each one change away from case B.
-fn damaged_pools(words: &mut [u64], ledger: &mut [u32]) {
-    damaged_number(
-        b"a ledger number that names another slot",
-        words,
-        ledger,
-        2,
-        4119,
-    );
-    damaged_links(words, ledger);
-    damaged_leaves(words, ledger);
-    check(b"case B again", words, ledger);
-}
-
-// Refusal 1, for the handle and for a length: nothing changes.
-fn misshapen_pools(words: &mut [u64], ledger: &mut [u32]) {
-    make(b"make, level 4", words, ledger, BASE, 4);
-    make(
-        b"make, a base that is no multiple of 4096",
-        words,
-        ledger,
-        BASE + 2048,
-        LEVEL,
-    );
-    make_short(words, ledger);
-    check(b"case B still", words, ledger);
-}
-
-fn images(words: &[u64], ledger: &[u32], page: &mut [u8]) {
-    image(b"page image of table 2", words, ledger, 2, page);
-    show(page);
-    image(b"page image of table 8", words, ledger, 8, page);
-    image_short(words, ledger, page);
-}
-
-fn run(words: &mut [u64], ledger: &mut [u32], page: &mut [u8]) {
-    sound_pools(words, ledger);
-    damaged_pools(words, ledger);
-    misshapen_pools(words, ledger);
-    images(words, ledger, page);
+fn images(words: &[u64], ledger: &[u32]) {
+    let mut page = [0u8; 4096];
+    let mut short = [0u8; 4095];
+    image(b"page image of table 2", words, ledger, 2, &mut page);
+    show(&page);
+    image(b"page image of table 8", words, ledger, 8, &mut page);
+    image(b"page image into 4095 bytes", words, ledger, 2, &mut short);
 }
 
 fn main() {
     let mut words = [0xFFFF_FFFFu64; 4096];
     let mut ledger = [7u32; 8];
-    let mut page = [0u8; 4096];
-    run(&mut words, &mut ledger, &mut page);
+    sound_pools(&mut words, &mut ledger);
+    damaged_links(&mut words, &mut ledger);
+    damaged_leaves(&mut words, &ledger);
+    misshapen(&mut words, &mut ledger);
+    images(&words, &ledger);
 }

@@ -1,6 +1,7 @@
 -- Map: the five rules on lists, and the call.
 pub mod Rules
 pub mod Fit
+pub mod Ask
 pub mod Laws
 pub mod Range
 pub mod Needed
@@ -9,3 +10,4 @@ pub mod Missed
 pub mod Count
 pub mod SoundCount
 pub mod CountLaws
+pub mod Call

@@ -1,4 +1,5 @@
 // Putting down a map: map_range and split_entry of paging.rs (aarch64-paging 0.12.3), on a pool of tables.
+pub mod ask;
 pub mod needed;
 pub mod range;
 pub mod rules;

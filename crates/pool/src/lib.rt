@@ -43,6 +43,12 @@ pub enum Outcome {
     Refused(Refusal),
 }
 
+// The answer of a call that changes tables: those in use afterwards, counted off the ledger.
+pub enum Counted {
+    Tables(usize),
+    Refused(Refusal),
+}
+
 // A table that was looked for.
 pub enum Found {
     At(usize),

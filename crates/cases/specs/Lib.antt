@@ -1,0 +1,2 @@
+-- Document 01, "Bench cases": the starred ones, proved about the definitions.
+pub mod Bench

@@ -1,0 +1,46 @@
+// What map asks of its arguments: refusals 2 to 7, in their order.
+use crate::Map;
+use address::PhysicalAddress;
+use pool::Handle;
+use pool::Outcome;
+use pool::Refusal;
+use pool::shape;
+ghost use mathlib.Core.Path.{_≡_};
+ghost use Rattle.map.specs.Ask.{frameAsked, verifyMap};
+
+// Refusal 7: the bound on the length comes before the difference is formed.
+fn verify_frame(frame: u64, length: u64) -> Outcome
+    ensures { λ r. ⌜ r ≡ frameAsked frame length ⌝ }
+{
+    if frame % 4096 != 0 {
+        return Outcome::Refused(Refusal::Frame(PhysicalAddress(frame)));
+    }
+    if 0x1_0000_0000_0000 < length {
+        return Outcome::Refused(Refusal::Frame(PhysicalAddress(frame)));
+    }
+    if 0x1_0000_0000_0000 - length < frame {
+        return Outcome::Refused(Refusal::Frame(PhysicalAddress(frame)));
+    }
+    Outcome::Accepted
+}
+
+// Whether the map can be asked for at all; `end` is the caller's, before it is rounded.
+pub fn verify_map(handle: Handle, end: u64, map: Map) -> Outcome
+    ensures { λ r. ⌜ r ≡ verifyMap handle end map ⌝ }
+{
+    if !verify::end_fits(end) {
+        return Outcome::Refused(Refusal::End(end));
+    }
+    if map.flags / 2 % 2 == 1 {
+        return Outcome::Refused(Refusal::InvalidFlags(map.flags));
+    }
+    if !entry::are_from(map.flags, shape::flag_set(handle)) {
+        return Outcome::Refused(Refusal::FlagSet(map.flags));
+    }
+    let region = map.region;
+    let outcome = verify::verify_region(handle, region);
+    let Outcome::Accepted = outcome else {
+        return outcome;
+    };
+    verify_frame(map.frame.0, region.len())
+}

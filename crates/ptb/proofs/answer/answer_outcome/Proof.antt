@@ -1,0 +1,34 @@
+-- `answer_outcome` tells an outcome outside. Assumes nothing.
+use native.Mathlib.Omega.{arith}
+use Rattle.ptb.specs.Answer.{told, accepted, over}
+use Rattle.ptb.proofs.answer.answer_outcome.Statement.{statement}
+use Rattle.ptb.proofs.answer.answer_outcome.Tie as tie
+use Rattle.ptb.proofs.answer.answer_outcome.Reads as reads
+use Rattle.ptb.proofs.answer.answer_outcome.Lts as lts
+use Rattle.ptb.proofs.answer.answer_refusal.Reads as answer-refusal-reads
+
+-- src/answer.rt:49:30
+enum-told : tie.Need-enum-told
+enum-told c = omega arith
+
+-- src/answer.rt:50:26
+enum-known-outcome : tie.Need-enum-known-outcome
+enum-known-outcome c = omega arith
+
+-- src/answer.rt:50:38
+answer-refusal-requires : tie.Need-answer-refusal-requires
+answer-refusal-requires c κs = omega arith
+
+-- src/answer.rt:45:1
+returns : tie.Need-returns
+unfolding told accepted over
+returns c = rw (c .enum-told .given .1)
+
+-- src/answer.rt:45:1
+returns-2 : tie.Need-returns-2
+unfolding told
+returns-2 c = rw (c .before .before .before .outcome .given .1) (c .answer-refusal .ensures)
+
+pub answer-outcome-spec : {M : Type 1} → statement M
+answer-outcome-spec =
+    tie.close (tie.spec enum-told enum-known-outcome answer-refusal-requires returns returns-2)

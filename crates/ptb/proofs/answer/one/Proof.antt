@@ -1,0 +1,19 @@
+-- `one` stores a value over the front of `answer`. Assumes nothing.
+use native.Mathlib.Omega.{arith}
+use mathlib.Core.Path.{ap}
+use Rattle.ptb.specs.Answer.{slip, over-one}
+use Rattle.ptb.proofs.answer.one.Statement.{statement}
+use Rattle.ptb.proofs.answer.one.Tie as tie
+use Rattle.ptb.proofs.answer.one.Reads as reads
+use Rattle.ptb.proofs.answer.one.Lts as lts
+
+-- src/answer.rt:12:5
+element-write-answer : tie.Need-element-write-answer
+element-write-answer c = omega arith
+
+-- src/answer.rt:9:1
+returns : tie.Need-returns
+returns c = let a = c .args in ap (slip (a .number)) (over-one (a .answer .now) (a .first))
+
+pub one-spec : {M : Type 1} → statement M
+one-spec = tie.close (tie.spec element-write-answer returns)

@@ -1,0 +1,23 @@
+-- `two` stores two values over the front of `answer`. Assumes nothing.
+use native.Mathlib.Omega.{arith}
+use mathlib.Core.Path.{ap}
+use Rattle.ptb.specs.Answer.{slip, over-two}
+use Rattle.ptb.proofs.answer.two.Statement.{statement}
+use Rattle.ptb.proofs.answer.two.Tie as tie
+use Rattle.ptb.proofs.answer.two.Reads as reads
+use Rattle.ptb.proofs.answer.two.Lts as lts
+
+-- src/answer.rt:20:5
+element-write-answer : tie.Need-element-write-answer
+element-write-answer c = omega arith
+
+-- src/answer.rt:21:5
+element-write-answer-2 : tie.Need-element-write-answer-2
+element-write-answer-2 c = omega arith
+
+-- src/answer.rt:17:1
+returns : tie.Need-returns
+returns c = let a = c .args in ap (slip (a .number)) (over-two (a .answer .now) (a .first) (a .second))
+
+pub two-spec : {M : Type 1} → statement M
+two-spec = tie.close (tie.spec element-write-answer element-write-answer-2 returns)

@@ -1,0 +1,20 @@
+-- `range_of` reads the number of a range. Assumes nothing.
+use borrow.Author.Tests.{eq-eqb, ne-eqb}
+use Rattle.ptb.specs.Face.{rangeOf}
+use Rattle.ptb.proofs.range_of.Statement.{statement}
+use Rattle.ptb.proofs.range_of.Tie as tie
+use Rattle.ptb.proofs.range_of.Reads as reads
+use Rattle.ptb.proofs.range_of.Lts as lts
+
+-- src/lib.rt:19:1
+returns : tie.Need-returns
+unfolding rangeOf
+returns c = rw (eq-eqb (c .before .args .range) 0 (c .if1 .taken))
+
+-- src/lib.rt:19:1
+returns-2 : tie.Need-returns-2
+unfolding rangeOf
+returns-2 c = rw (ne-eqb (c .before .args .range) 0 (c .if1 .left))
+
+pub range-of-spec : {M : Type 1} → statement M
+range-of-spec = tie.close (tie.spec returns returns-2)

@@ -1,0 +1,50 @@
+-- What a caller outside sees of an answer: the number that is returned, and the four numbers of `answer` after the call.
+-- Assumes nothing.
+use mathlib.Core.List.{List, [], _∷_}
+use mathlib.Core.Path.{_≡_, refl}
+use Prim.Native.Nat.{ℕ}
+use lib.ListN.{set}
+use Rattle.pool.specs.Refuse.{number, carried}
+use Rattle.pool.specs.declared.Refusal.{Refusal}
+use Rattle.pool.specs.declared.Outcome.{Outcome}
+use Rattle.pool.specs.declared.Outcome.the-variants.{Accepted, Refused}
+
+-- the number that is returned, and `answer` as the call leaves it
+pub record Slip : Type 0 where
+  pub number : ℕ
+  pub answer : List ℕ
+
+abbrev pub slip : ℕ → List ℕ → Slip
+slip n a = record { number = n; answer = a }
+
+-- values over the front of what stood in `answer`, whose rest is untouched
+unfoldable pub over : List ℕ → List ℕ → List ℕ
+over [] old = old
+over (value ∷ values) [] = []
+over (value ∷ values) (x ∷ old) = value ∷ over values old
+
+-- accepted: 0, and the call's values
+unfoldable pub accepted : List ℕ → List ℕ → Slip
+accepted values old = slip 0 (over values old)
+
+-- refused: the refusal's number, and what it carries (document 01, "The refusal slip")
+unfoldable pub refused : Refusal → List ℕ → Slip
+refused r old = slip (number r) (over (carried r) old)
+
+-- a call that has nothing more to say than that it was done
+unfoldable pub told : Outcome → List ℕ → Slip
+told Accepted old = accepted [] old
+told (Refused r) old = refused r old
+
+-- ---- laws: values stored one by one
+
+pub over-one : (old : List ℕ) (a : ℕ) → set old 0 a ≡ over (a ∷ []) old
+unfolding over
+over-one [] a = refl
+over-one (x ∷ old) a = refl
+
+pub over-two : (old : List ℕ) (a b : ℕ) → set (set old 0 a) 1 b ≡ over (a ∷ b ∷ []) old
+unfolding over
+over-two [] a b = refl
+over-two (x ∷ []) a b = refl
+over-two (x ∷ y ∷ old) a b = refl

@@ -1,0 +1,83 @@
+-- The calls with numbers alone: a handle made of three numbers, and each call's answer and lent state for every input.
+-- A call is a definition and two laws, one for each way through its code. Assumes nothing.
+use mathlib.Core.Path.{_≡_}
+use mathlib.Core.Bool.{cond}
+use mathlib.Core.List.{List}
+use Prim.Native.Nat.{ℕ, _≤_, _<_}
+use lib.Dec.{eqb, leb}
+use borrow.Author.Tests.{le-leb, lt-leb}
+use Rattle.pool.specs.State.{St}
+use Rattle.pool.specs.Refuse.{Out, out}
+use Rattle.pool.specs.Calls.{makeCall, imageCall, imaged}
+use Rattle.pool.specs.declared.Handle.{Handle}
+use Rattle.pool.specs.declared.VaRange.{VaRange}
+use Rattle.pool.specs.declared.VaRange.the-variants.{Lower, Upper}
+use Rattle.pool.specs.declared.Refusal.the-variants.{Shape}
+use Rattle.pool.specs.declared.Outcome.{Outcome}
+use Rattle.checker.specs.Check.{checkCall}
+use Rattle.ptb.specs.Answer.{Slip, slip, over, refused, told}
+
+-- 0 is lower, 1 upper; a call refuses any other range first
+unfoldable pub rangeOf : ℕ → VaRange
+rangeOf range = cond (eqb range 0) Lower Upper
+
+-- all 64 bits of each number count
+abbrev pub handleOf : ℕ → ℕ → ℕ → Handle
+handleOf base level range = record { base = record { 0 = base }; level = level; range = rangeOf range }
+
+-- ---- make
+
+unfoldable pub makeFace : ℕ → ℕ → ℕ → St → List ℕ → Out Slip
+makeFace base level range s old =
+    let made = makeCall (handleOf base level range) s in
+    cond (leb range 1) (out (told (made .answer) old) (made .state)) (out (refused Shape old) s)
+
+module _ (base level range : ℕ) (s : St) (old : List ℕ) where
+  pub make-no-range : 1 < range → out (slip 1 old) s ≡ makeFace base level range s old
+  unfolding makeFace refused over
+  make-no-range h = rw (lt-leb range 1 h)
+
+  pub make-told : {h : Handle} {o : Outcome} {s′ : St} {x : Slip} → range ≤ 1 → h ≡ handleOf base level range → out o s′ ≡ makeCall h s → x ≡ told o old
+      → out x s′ ≡ makeFace base level range s old
+  unfolding makeFace
+  make-told l e m t = rw (t, le-leb range 1 l, ← e, ← m)
+
+-- ---- check
+
+unfoldable pub checkFace : ℕ → ℕ → ℕ → St → List ℕ → Slip
+checkFace base level range s old = cond (leb range 1) (told (checkCall (handleOf base level range) s) old) (refused Shape old)
+
+module _ (base level range : ℕ) (s : St) (old : List ℕ) where
+  pub check-no-range : 1 < range → slip 1 old ≡ checkFace base level range s old
+  unfolding checkFace refused over
+  check-no-range h = rw (lt-leb range 1 h)
+
+  pub check-told : {h : Handle} {o : Outcome} {x : Slip} → range ≤ 1 → h ≡ handleOf base level range → o ≡ checkCall h s → x ≡ told o old
+      → x ≡ checkFace base level range s old
+  unfolding checkFace
+  check-told l e m t = rw (t, le-leb range 1 l, ← e, ← m)
+
+-- ---- page image
+
+-- an answer and the buffer that it leaves
+pub record Filled : Type 0 where
+  pub answer : Slip
+  pub buffer : List ℕ
+
+abbrev pub filled : Slip → List ℕ → Filled
+filled a b = record { answer = a; buffer = b }
+
+unfoldable pub imageFace : ℕ → ℕ → ℕ → St → ℕ → List ℕ → List ℕ → Filled
+imageFace base level range s table page old =
+    let image = imageCall (handleOf base level range) s table page in
+    cond (leb range 1) (filled (told (image .answer) old) (image .page)) (filled (refused Shape old) page)
+
+module _ (base level range : ℕ) (s : St) (table : ℕ) (page old : List ℕ) where
+  pub image-no-range : 1 < range → filled (slip 1 old) page ≡ imageFace base level range s table page old
+  unfolding imageFace refused over
+  image-no-range h = rw (lt-leb range 1 h)
+
+  pub image-told : {h : Handle} {o : Outcome} {page′ : List ℕ} {x : Slip} → range ≤ 1 → h ≡ handleOf base level range
+      → imaged o page′ ≡ imageCall h s table page → x ≡ told o old → filled x page′ ≡ imageFace base level range s table page old
+  unfolding imageFace
+  image-told l e m t = rw (t, le-leb range 1 l, ← e, ← m)

@@ -1,0 +1,100 @@
+// The face for other languages: each call by its C name, with numbers alone (include/ptb.h says what each is).
+mod answer;
+
+use address::PhysicalAddress;
+use pool::Handle;
+use pool::VaRange;
+use pool::image;
+use pool::make;
+ghost use mathlib.Core.Path.{_≡_};
+ghost use Rattle.pool.specs.State.{st};
+ghost use Rattle.pool.specs.Refuse.{out};
+ghost use Rattle.ptb.specs.Answer.{slip};
+ghost use Rattle.ptb.specs.Face.{rangeOf, handleOf, makeFace, checkFace, filled, imageFace};
+
+// The number of the upper range, the highest there is.
+const UPPER: u64 = 1;
+
+// 0 is lower, 1 upper.
+fn range_of(range: u64) -> VaRange
+    ensures { λ r. ⌜ r ≡ rangeOf range ⌝ }
+{
+    if range == 0 {
+        VaRange::Lower
+    } else {
+        VaRange::Upper
+    }
+}
+
+// The handle of three numbers.
+fn handle_of(base: u64, level: u64, range: u64) -> Handle
+    ensures { λ r. ⌜ r ≡ handleOf base level range ⌝ }
+{
+    Handle {
+        base: PhysicalAddress(base),
+        level: level as usize,
+        range: range_of(range),
+    }
+}
+
+// Zeroes all words and the ledger, then enters the root as table 0.
+#[no_mangle]
+pub extern "C" fn ptb_make(
+    words: &mut [u64],
+    ledger: &mut [u32],
+    base: u64,
+    level: u64,
+    range: u64,
+    answer: &mut [u64; 4],
+) -> u64
+    ensures { λ r. ⌜ out (slip r (now (answer .exit))) (st (now (words .exit)) (now (ledger .exit))) ≡ makeFace base level range (st (now (words .entry)) (now (ledger .entry))) (now (answer .entry)) ⌝ }
+{
+    if UPPER < range {
+        return 1;
+    }
+    let handle = handle_of(base, level, range);
+    let outcome = make::make(words, ledger, handle);
+    answer::answer_outcome(outcome, answer)
+}
+
+// Whether the pool is sound.
+#[no_mangle]
+pub extern "C" fn ptb_check(
+    words: &[u64],
+    ledger: &[u32],
+    base: u64,
+    level: u64,
+    range: u64,
+    answer: &mut [u64; 4],
+) -> u64
+    ensures { λ r. ⌜ slip r (now (answer .exit)) ≡ checkFace base level range (st (now (words .entry)) (now (ledger .entry))) (now (answer .entry)) ⌝ }
+{
+    if UPPER < range {
+        return 1;
+    }
+    let handle = handle_of(base, level, range);
+    let outcome = checker::check(words, ledger, handle);
+    answer::answer_outcome(outcome, answer)
+}
+
+// Writes one table's 512 words into 4096 bytes.
+#[no_mangle]
+pub extern "C" fn ptb_image(
+    words: &[u64],
+    ledger: &[u32],
+    base: u64,
+    level: u64,
+    range: u64,
+    table: u64,
+    page: &mut [u8],
+    answer: &mut [u64; 4],
+) -> u64
+    ensures { λ r. ⌜ filled (slip r (now (answer .exit))) (now (page .exit)) ≡ imageFace base level range (st (now (words .entry)) (now (ledger .entry))) table (now (page .entry)) (now (answer .entry)) ⌝ }
+{
+    if UPPER < range {
+        return 1;
+    }
+    let handle = handle_of(base, level, range);
+    let outcome = image::page_image(words, ledger, handle, table as usize, page);
+    answer::answer_outcome(outcome, answer)
+}

@@ -1,0 +1,73 @@
+/*
+ * ptb: page tables for AArch64 (VMSAv8-64, 4 KiB granule, 48 bits), proved. Link with libptb.a (`rt staticlib ptb`).
+ *
+ * What is lent to each call
+ *   words, words_len     the pool: 512 words for each of its n tables. Table k has the physical address base + 4096 * k;
+ *                        table 0 is the root
+ *   ledger, ledger_len   a number for each table, so ledger_len is n, from 1 to 4096: 0 is free, the root has 4 + level,
+ *                        any other table 4 + level + 8 * (512 * p + i + 1), where slot i of table p refers to it
+ *   base, level, range   the handle: the physical address of table 0, the root's level (0 to 3), and the end of the
+ *                        address space that the root spans (PTB_LOWER or PTB_UPPER)
+ *   answer               four numbers, written only as said below
+ * A length counts elements. Pointers are aligned and not null, also where a length is 0; no two of what is lent overlap.
+ * What is `const` is only read. Nothing is kept between calls.
+ *
+ * What comes back
+ *   The returned number is 0 where the call was accepted, else the refusal's. A refused call changes nothing that is lent
+ *   but `answer`; where several refusals apply the lowest number is given. The rest of `answer` is untouched.
+ *
+ *   accepted     answer holds the call's values, from answer[0] on, as said at the call
+ *   refusal 1    n is 0 or above 4096, words_len is not 512 * n, base is not a multiple of 4096 or its end is above 2^48,
+ *                a level above 3, a range above 1, a table not below n                             answer: nothing
+ *   refusal 2    end is 0 or above 2^64 - 4096                                                     answer[0]: end
+ *   refusal 3    a flag argument has bit 1                                                         answer[0]: that argument
+ *   refusal 4    a flag outside the set; modify: bit 0 to set, or a bit both set and cleared       answer[0]: that argument
+ *   refusal 5    the rounded end is below the rounded start                                        answer[0], [1]: start, end, rounded
+ *   refusal 6    an address outside the root's span                                                answer[0]: the address
+ *   refusal 7    a frame that is no multiple of 4096, or that ends above 2^48                      answer[0]: frame
+ *   refusal 8    the pool is not sound                                                             answer: nothing
+ *   refusal 9    more new tables are needed than are free                                          answer[0], [1]: needed, free
+ *   refusal 10   a live edit that the house rule forbids                                           answer[0]: the old word
+ *   refusal 11   a buffer of the wrong length                                                      answer[0]: the length needed
+ */
+#ifndef PTB_H
+#define PTB_H
+
+#include <stddef.h>
+#include <stdint.h>
+
+#ifdef __cplusplus
+extern "C" {
+#endif
+
+#define PTB_LOWER 0
+#define PTB_UPPER 1
+
+/*
+ * Makes a pool: zeroes all words and the ledger, then enters the root as table 0.
+ * Refusal 1. Accepted: no value.
+ */
+uint64_t ptb_make(uint64_t *words, size_t words_len, uint32_t *ledger, size_t ledger_len,
+                  uint64_t base, uint64_t level, uint64_t range, uint64_t answer[4]);
+
+/*
+ * Checks that the pool is sound, whoever wrote its words: every used table hangs from the slot that its number names, every
+ * table word is the address of such a table + 3, every other word has only what its level allows, and free tables are zero.
+ * Refusals 1, 8. Accepted: no value.
+ */
+uint64_t ptb_check(const uint64_t *words, size_t words_len, const uint32_t *ledger, size_t ledger_len,
+                   uint64_t base, uint64_t level, uint64_t range, uint64_t answer[4]);
+
+/*
+ * Writes one table's 512 words, little-endian, into 4096 bytes. It does not ask that the pool is sound.
+ * Refusals 1 (a table not below n), 11 (page_len is not 4096; answer[0] is 4096). Accepted: no value.
+ */
+uint64_t ptb_image(const uint64_t *words, size_t words_len, const uint32_t *ledger, size_t ledger_len,
+                   uint64_t base, uint64_t level, uint64_t range, uint64_t table,
+                   uint8_t *page, size_t page_len, uint64_t answer[4]);
+
+#ifdef __cplusplus
+}
+#endif
+
+#endif

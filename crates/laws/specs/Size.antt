@@ -6,9 +6,9 @@ use mathlib.Core.Logic.{⊎-elim}
 use Prim.Native.Nat.{ℕ, _+_, _*_, _-_, _/_, _%_, _^_, _≤_, _<_}
 use native.Mathlib.Nat.{add-mul, div-add-mod', mod-lt, div-eq-of-lt-le, mul-div-cancel}
 use native.Mathlib.Omega.{arith}
-use lib.Bits.{bitAnd, bitOr}
+use lib.Bits.{bitAnd, bitOr, and-mask}
 use lib.Dec.{eqb}
-use lib.Pow.{pow-add, pow-pos, pow-mono}
+use lib.Pow.{pow-add, pow-pos, pow-mono, mod-mod-pow}
 use Rattle.laws.specs.Bit.{or-ones, or-aligned}
 use Rattle.laws.specs.Test.{eq-or}
 
@@ -115,3 +115,14 @@ size-aligned level a b = or-aligned (12 + 9 * (3 - level)) a b
 
 pub next-multiple : (i a : ℕ) → (i + 1) * a ≡ i * a + a
 next-multiple i a = add-mul i 1 a ∙ (let e : i * a + 1 * a ≡ i * a + a = omega arith in e)
+
+-- the place in an entry, and in a page
+pub size-and : (level a : ℕ) → bitAnd a (sizeAt level - 1) ≡ a % sizeAt level
+unfolding sizeAt
+size-and level a = and-mask a (12 + 9 * (3 - level))
+
+pub size-offset : (level a : ℕ) → a % sizeAt level % 4096 ≡ a % 4096
+unfolding sizeAt
+size-offset level a =
+    let e : 12 + 9 * (3 - level) ≡ 9 * (3 - level) + 12 = omega arith in
+    ap (λ (k : ℕ). a % 2 ^ k % 4096) e ∙ mod-mod-pow a (9 * (3 - level)) 12

@@ -1,0 +1,4 @@
+-- The Arm walk, and what the contracts of `walk` cite.
+pub mod Arm
+pub mod Walk
+pub mod LookUp

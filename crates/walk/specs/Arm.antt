@@ -33,38 +33,47 @@ frameOf level w va = bits 47 (lowBit level) w * 2 ^ lowBit level + bits (lowBit 
 unfoldable pub flagsIn : ℕ → ℕ
 flagsIn w = w - (bits 47 12 w * 2 ^ 12 + bits 1 1 w * 2)
 
--- What the walk of an address answers: kind, level, flags and, for a block or a page, the frame. `outside`: a Table descriptor on the path refers
+-- The descriptor that a lookup at this level fetches from table k: word i of table k stands at 512·k + i of the pool's words.
+unfoldable pub fetch : List ℕ → ℕ → ℕ → ℕ → ℕ
+fetch words va level k = getD words (512 * k + index level va) 0
+
+-- Where the lookups end: at a descriptor of a level that is no Table descriptor, or away from the pool, where a Table descriptor on the path refers
 -- to a table that the pool doesn't have.
+pub data Reached : Type 0 where
+  at : (level word : ℕ) → Reached
+  away : Reached
+
+-- On from table k, with so many levels below its own. Level 3 holds no Table descriptors; at levels 0 to 2 bits[1:0] = 0b11 is one, and leads on to the
+-- table at its address. The pool has n tables, table k at physical address base + 4096·k (document 01, "Pool and ledger").
+module _ (base n : ℕ) (words : List ℕ) (va : ℕ) where
+  unfoldable pub reachFrom : ℕ → ℕ → Reached
+  reachFrom zero k = at 3 (fetch words va 3 k)
+  reachFrom (suc left) k =
+      let w = fetch words va (2 - left) k in
+      let a = tableAddress w in
+      let next = reachFrom left ((a - base) / 4096) in
+      cond (eqb (bits 1 0 w) 3) (cond (leb base a && ltb a (base + 4096 * n)) next away) (at (2 - left) w)
+
+  -- from the root, table 0, whose level is the initial lookup level
+  unfoldable pub reach : ℕ → Reached
+  reach root = reachFrom (3 - root) 0
+
+-- What the walk of an address answers: kind, level, flags and, for a block or a page, the frame.
 pub data Walked : Type 0 where
   hole : (level flags : ℕ) → Walked
   block : (level flags frame : ℕ) → Walked
   page : (level flags frame : ℕ) → Walked
   outside : Walked
 
--- A descriptor that is not a Table descriptor ends the walk, by its bits[1:0]: 0b11 at level 3 is a Page descriptor; 0b01 at levels 1 and 2 is a Block
--- descriptor; 0b01 at levels 0 and 3 is reserved, and like 0bx0 invalid: a translation fault, our hole.
-unfoldable pub ends : ℕ → ℕ → ℕ → Walked
-ends level w va =
+-- By its bits[1:0] a descriptor that is no Table descriptor is: 0b11, at level 3, a Page descriptor; 0b01, at levels 1 and 2, a Block descriptor;
+-- 0b01 at levels 0 and 3 reserved, and like 0bx0 invalid: a translation fault, our hole.
+unfoldable pub says : ℕ → Reached → Walked
+says va (at level w) =
     cond (eqb (bits 1 0 w) 3) (page level (flagsIn w) (frameOf level w va))
     (cond (eqb (bits 1 0 w) 1 && (eqb level 1 || eqb level 2)) (block level (flagsIn w) (frameOf level w va))
     (hole level (flagsIn w)))
+says va away = outside
 
--- The descriptor that a lookup at this level fetches from table k: word i of table k stands at 512·k + i of the pool's words.
-unfoldable pub fetch : List ℕ → ℕ → ℕ → ℕ → ℕ
-fetch words va level k = getD words (512 * k + index level va) 0
-
--- The pool: n tables, table k at physical address base + 4096·k (document 01, "Pool and ledger").
-module _ (base n : ℕ) (words : List ℕ) (va : ℕ) where
-  -- On from table k, with so many levels below its own: level 3 holds no Table descriptors; at levels 0 to 2, 0b11 is one, and leads on to the table at
-  -- its address, if the pool has it.
-  unfoldable pub walkFrom : ℕ → ℕ → Walked
-  walkFrom zero k = ends 3 (fetch words va 3 k) va
-  walkFrom (suc left) k =
-      let w = fetch words va (2 - left) k in
-      let a = tableAddress w in
-      let next = walkFrom left ((a - base) / 4096) in
-      cond (eqb (bits 1 0 w) 3) (cond (leb base a && ltb a (base + 4096 * n)) next outside) (ends (2 - left) w va)
-
-  -- The walk: from the root, table 0, whose level is the initial lookup level.
-  unfoldable pub walk : ℕ → Walked
-  walk root = walkFrom (3 - root) 0
+-- The walk of an address in a pool of n tables from base on, down from a root of this level.
+unfoldable pub walk : ℕ → ℕ → List ℕ → ℕ → ℕ → Walked
+walk base n words va root = says va (reach base n words va root)

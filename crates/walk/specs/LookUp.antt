@@ -15,8 +15,8 @@ use Rattle.pool.specs.declared.Handle.{Handle}
 use Rattle.pool.specs.declared.VaRange.{VaRange}
 use Rattle.pool.specs.declared.VaRange.the-variants.{Lower, Upper}
 use Rattle.pool.specs.declared.Refusal.the-variants.{Shape, AddressRange, Unsound}
-use Rattle.walk.specs.Arm.{lowBit, frameOf, flagsIn, Walked, hole, block, page, outside, ends, walk}
-use Rattle.walk.specs.Walk.{size-is, ends-hole, ends-block, ends-page}
+use Rattle.walk.specs.Arm.{lowBit, frameOf, flagsIn, Walked, hole, block, page, outside, at, says, walk}
+use Rattle.walk.specs.Walk.{size-is, says-hole, says-block, says-page}
 use Rattle.walk.specs.declared.Looked.{Looked}
 use Rattle.walk.specs.declared.Looked.the-variants.{Hole, Block, Page, Refused}
 
@@ -79,14 +79,14 @@ module _ (range : VaRange) (level va g : ℕ) where
 
 -- what a word says that ends the walk
 module _ (level w va : ℕ) {flags : ℕ} (flag : flags ≡ flagsIn w) where
-  pub leaf-hole : kindOf level w ≡ hole′ → Hole level flags ≡ answer (ends level w va)
+  pub leaf-hole : kindOf level w ≡ hole′ → Hole level flags ≡ answer (says va (at level w))
   unfolding answer
-  leaf-hole e = ap (Hole level) flag ∙ sym (ap answer (ends-hole level w va e))
+  leaf-hole e = ap (Hole level) flag ∙ sym (ap answer (says-hole level w va e))
 
-  pub leaf-block : {frame : PhysicalAddress} → frame .0 ≡ frameOf level w va → kindOf level w ≡ block′ → Block level flags frame ≡ answer (ends level w va)
+  pub leaf-block : {frame : PhysicalAddress} → frame .0 ≡ frameOf level w va → kindOf level w ≡ block′ → Block level flags frame ≡ answer (says va (at level w))
   unfolding answer
-  leaf-block f e = ap₂ (λ (x y : ℕ). Block level x (record { 0 = y })) flag f ∙ sym (ap answer (ends-block level w va e))
+  leaf-block f e = ap₂ (λ (x y : ℕ). Block level x (record { 0 = y })) flag f ∙ sym (ap answer (says-block level w va e))
 
-  pub leaf-page : {frame : PhysicalAddress} → frame .0 ≡ frameOf level w va → w % 4 ≡ 3 → Page level flags frame ≡ answer (ends level w va)
+  pub leaf-page : {frame : PhysicalAddress} → frame .0 ≡ frameOf level w va → w % 4 ≡ 3 → Page level flags frame ≡ answer (says va (at level w))
   unfolding answer
-  leaf-page f e = ap₂ (λ (x y : ℕ). Page level x (record { 0 = y })) flag f ∙ sym (ap answer (ends-page level w va e))
+  leaf-page f e = ap₂ (λ (x y : ℕ). Page level x (record { 0 = y })) flag f ∙ sym (ap answer (says-page level w va e))

@@ -18,7 +18,7 @@ use Rattle.entry.specs.declared.Kind.{Kind}
 use Rattle.entry.specs.declared.Kind.the-variants.{Table as table, Block as block′, Page as page′, Hole as hole′}
 use Rattle.entry.specs.declared.Sub.{Sub}
 use Rattle.entry.specs.declared.Sub.the-variants.{Table, Outside, Leaf}
-use Rattle.walk.specs.Arm.{bits, lowBit, index, tableAddress, frameOf, flagsIn, Walked, hole, block, page, outside, ends, fetch, walkFrom, walk}
+use Rattle.walk.specs.Arm.{bits, lowBit, index, tableAddress, frameOf, flagsIn, Walked, hole, block, page, outside, Reached, at, away, says, fetch, reachFrom}
 
 -- the slots of an address, by level
 unfoldable pub slotsOf : ℕ → List ℕ
@@ -103,52 +103,52 @@ frame-masks level w va =
 -- ---- a word that ends the walk
 
 module _ (level w va : ℕ) where
-  pub ends-hole : kindOf level w ≡ hole′ → ends level w va ≡ hole level (flagsIn w)
-  unfolding ends
-  ends-hole e = go (rw e at (kind-says level w))
+  pub says-hole : kindOf level w ≡ hole′ → says va (at level w) ≡ hole level (flagsIn w)
+  unfolding says
+  says-hole e = go (rw e at (kind-says level w))
     where
-      go : Says hole′ level w → ends level w va ≡ hole level (flagsIn w)
+      go : Says hole′ level w → says va (at level w) ≡ hole level (flagsIn w)
       go (inl z) = rw (low-bits w, ne-eqb (w % 4) 3 (λ q. omega arith), ne-eqb (w % 4) 1 (λ q. omega arith))
       go (inr p) = rw (low-bits w, p .0, ne-eqb level 1 (p .1), ne-eqb level 2 (p .2))
 
-  pub ends-block : kindOf level w ≡ block′ → ends level w va ≡ block level (flagsIn w) (frameOf level w va)
-  unfolding ends
-  ends-block e = go (rw e at (kind-says level w))
+  pub says-block : kindOf level w ≡ block′ → says va (at level w) ≡ block level (flagsIn w) (frameOf level w va)
+  unfolding says
+  says-block e = go (rw e at (kind-says level w))
     where
-      go : Says block′ level w → ends level w va ≡ block level (flagsIn w) (frameOf level w va)
+      go : Says block′ level w → says va (at level w) ≡ block level (flagsIn w) (frameOf level w va)
       go (inl l, q) = rw (low-bits w, q, l)
       go (inr l, q) = rw (low-bits w, q, l)
 
-  pub ends-page : w % 4 ≡ 3 → ends level w va ≡ page level (flagsIn w) (frameOf level w va)
-  unfolding ends
-  ends-page q = rw (low-bits w, q)
+  pub says-page : w % 4 ≡ 3 → says va (at level w) ≡ page level (flagsIn w) (frameOf level w va)
+  unfolding says
+  says-page q = rw (low-bits w, q)
 
 -- ---- on from table k, by where its word leads
 
 module _ (base n : ℕ) (words : List ℕ) (va level k : ℕ) (here : level ≤ 3) where
   -- a table leads on; a word that is no table ends the walk
-  unfoldable pub follow : Sub → Walked
-  follow (Table j) = walkFrom base n words va (3 - (level + 1)) j
-  follow Outside = outside
-  follow Leaf = ends level (fetch words va level k) va
+  unfoldable pub follow : Sub → Reached
+  follow (Table j) = reachFrom base n words va (3 - (level + 1)) j
+  follow Outside = away
+  follow Leaf = at level (fetch words va level k)
 
   -- above the last level
-  walk-open : level < 3 → let w = fetch words va level k in let a = addressOf w in
-      walkFrom base n words va (3 - level) k
-      ≡ cond (eqb (w % 4) 3) (cond (leb base a && ltb a (base + 4096 * n)) (walkFrom base n words va (3 - (level + 1)) ((a - base) / 4096)) outside) (ends level w va)
-  unfolding walkFrom
-  walk-open h =
+  reach-open : level < 3 → let w = fetch words va level k in let a = addressOf w in
+      reachFrom base n words va (3 - level) k
+      ≡ cond (eqb (w % 4) 3) (cond (leb base a && ltb a (base + 4096 * n)) (reachFrom base n words va (3 - (level + 1)) ((a - base) / 4096)) away) (at level w)
+  unfolding reachFrom
+  reach-open h =
       let up : 3 - level ≡ suc (3 - (level + 1)) = omega arith in
       let same : 2 - (3 - (level + 1)) ≡ level = omega arith in
       rw (up, same, low-bits, table-address)
 
-  walk-last : level ≡ 3 → walkFrom base n words va (3 - level) k ≡ ends level (fetch words va level k) va
-  unfolding walkFrom
-  walk-last e = rw e
+  reach-last : level ≡ 3 → reachFrom base n words va (3 - level) k ≡ at level (fetch words va level k)
+  unfolding reachFrom
+  reach-last e = rw e
 
-  pub walk-sub : walkFrom base n words va (3 - level) k ≡ follow (subOf base n level (fetch words va level k))
+  pub reach-sub : reachFrom base n words va (3 - level) k ≡ follow (subOf base n level (fetch words va level k))
   unfolding follow
-  walk-sub = go (eq-or level 3) (eq-or (w % 4) 3) (le-or base a) (le-or n ((a - base) / 4096))
+  reach-sub = go (eq-or level 3) (eq-or (w % 4) 3) (le-or base a) (le-or n ((a - base) / 4096))
     where
       w : ℕ
       w = fetch words va level k
@@ -157,27 +157,29 @@ module _ (base n : ℕ) (words : List ℕ) (va level k : ℕ) (here : level ≤ 
       a = addressOf w
 
       go : (level ≡ 3) ⊎ (level ≢ 3) → (w % 4 ≡ 3) ⊎ (w % 4 ≢ 3) → (base ≤ a) ⊎ (a < base) → (n ≤ (a - base) / 4096) ⊎ ((a - base) / 4096 < n)
-          → walkFrom base n words va (3 - level) k ≡ follow (subOf base n level w)
-      go (inl e) low from to = walk-last e ∙ ap follow (sub-leaf base n level w (λ p. omega (arith, p .0)))
-      go (inr m) (inr low) from to = walk-open (omega arith) ∙ rw (ne-eqb (w % 4) 3 low) (ap follow (sub-leaf base n level w (λ p. low (p .1))))
-      go (inr m) (inl low) (inr from) to = walk-open (omega arith) ∙ rw (low, lt-leb base a from) (ap follow (sub-low base n level w (omega arith) low from))
+          → reachFrom base n words va (3 - level) k ≡ follow (subOf base n level w)
+      go (inl e) low from to = reach-last e ∙ ap follow (sub-leaf base n level w (λ p. omega (arith, p .0)))
+      go (inr m) (inr low) from to = reach-open (omega arith) ∙ rw (ne-eqb (w % 4) 3 low) (ap follow (sub-leaf base n level w (λ p. low (p .1))))
+      go (inr m) (inl low) (inr from) to = reach-open (omega arith) ∙ rw (low, lt-leb base a from) (ap follow (sub-low base n level w (omega arith) low from))
       go (inr m) (inl low) (inl from) (inl to) =
-          walk-open (omega arith) ∙ rw (low, le-leb base a from, le-ltb a (base + 4096 * n) (omega arith)) (ap follow (sub-high base n level w (omega arith) low from to))
+          reach-open (omega arith)
+          ∙ rw (low, le-leb base a from, le-ltb a (base + 4096 * n) (omega arith)) (ap follow (sub-high base n level w (omega arith) low from to))
       go (inr m) (inl low) (inl from) (inr to) =
-          walk-open (omega arith) ∙ rw (low, le-leb base a from, lt-ltb a (base + 4096 * n) (omega arith)) (ap follow (sub-in base n level w (omega arith) low from to))
+          reach-open (omega arith)
+          ∙ rw (low, le-leb base a from, lt-ltb a (base + 4096 * n) (omega arith)) (ap follow (sub-in base n level w (omega arith) low from to))
 
-module _ (base n : ℕ) (words : List ℕ) (va level k : ℕ) (here : level ≤ 3) {w : ℕ} (is : w ≡ fetch words va level k) where
-  chosen : (x : Sub) → subOf base n level w ≡ x → walkFrom base n words va (3 - level) k ≡ follow base n words va level k here x
-  chosen x e = walk-sub base n words va level k here ∙ ap (follow base n words va level k here) (ap (subOf base n level) (sym is) ∙ e)
+  module _ {w : ℕ} (is : w ≡ fetch words va level k) where
+    chosen : (x : Sub) → subOf base n level w ≡ x → reachFrom base n words va (3 - level) k ≡ follow x
+    chosen x e = reach-sub ∙ ap follow (ap (subOf base n level) (sym is) ∙ e)
 
-  pub walk-table : (j : ℕ) → subOf base n level w ≡ Table j → walkFrom base n words va (3 - level) k ≡ walkFrom base n words va (3 - (level + 1)) j
-  unfolding follow
-  walk-table j e = chosen (Table j) e
+    pub reach-table : (j : ℕ) → subOf base n level w ≡ Table j → reachFrom base n words va (3 - level) k ≡ reachFrom base n words va (3 - (level + 1)) j
+    unfolding follow
+    reach-table j e = chosen (Table j) e
 
-  pub walk-outside : subOf base n level w ≡ Outside → walkFrom base n words va (3 - level) k ≡ outside
-  unfolding follow
-  walk-outside e = chosen Outside e
+    pub reach-outside : subOf base n level w ≡ Outside → reachFrom base n words va (3 - level) k ≡ away
+    unfolding follow
+    reach-outside e = chosen Outside e
 
-  pub walk-leaf : subOf base n level w ≡ Leaf → walkFrom base n words va (3 - level) k ≡ ends level w va
-  unfolding follow
-  walk-leaf e = chosen Leaf e ∙ ap (λ (x : ℕ). ends level x va) (sym is)
+    pub reach-leaf : subOf base n level w ≡ Leaf → reachFrom base n words va (3 - level) k ≡ at level w
+    unfolding follow
+    reach-leaf e = chosen Leaf e ∙ ap (at level) (sym is)

@@ -12,7 +12,7 @@ ghost use Prim.Native.Nat.{_*_, _≤_};
 ghost use lib.ListN.{length};
 ghost use Rattle.pool.specs.State.{st};
 ghost use Rattle.pool.specs.Refuse.{Shaped};
-ghost use Rattle.walk.specs.Arm.{frameOf, flagsIn, ends, walk};
+ghost use Rattle.walk.specs.Arm.{frameOf, flagsIn, at, says, walk};
 ghost use Rattle.walk.specs.Walk.{slotsOf};
 ghost use Rattle.walk.specs.LookUp.{answer, spanned, lookUpCall};
 
@@ -57,7 +57,7 @@ fn plain_flags(word: u64) -> u64
 
 // What a word says that ends the walk.
 fn leaf(level: usize, word: u64, va: VirtualAddress) -> Looked
-    ensures { λ r. ⌜ r ≡ answer (ends level word (va .0)) ⌝ }
+    ensures { λ r. ⌜ r ≡ answer (says (va .0) (at level word)) ⌝ }
 {
     let flags = plain_flags(word);
     let kind = entry::kind_of(level, word);

@@ -7,8 +7,8 @@ use Prim.Native.Nat.{ℕ, _+_, _*_, _-_, _≤_, _<_}
 use native.Mathlib.Omega.{arith}
 use lib.ListN.{length, getD}
 use Rattle.entry.specs.Sub.{sub-found}
-use Rattle.walk.specs.Arm.{walkFrom, walk, fetch}
-use Rattle.walk.specs.Walk.{slotsOf, slots-at, slot-below, fetch-is, walk-table, walk-outside, walk-leaf}
+use Rattle.walk.specs.Arm.{reach, reachFrom, says, walk, fetch}
+use Rattle.walk.specs.Walk.{slotsOf, slots-at, slot-below, fetch-is, reach-table, reach-outside, reach-leaf}
 use Rattle.walk.proofs.look_up.walk_from.Statement.{statement}
 use Rattle.walk.proofs.look_up.walk_from.Tie as tie
 use Rattle.walk.proofs.look_up.walk_from.Reads as reads
@@ -20,7 +20,7 @@ use Rattle.walk.proofs.look_up.slots_of.Reads as slots-of-reads
 abbrev Inv-loop : tie.InvT-loop
 Inv-loop words tables handle va slots level₀ k₀ level k =
     (level ≤ 3) × (k < tables) × (slots ≡ slotsOf (va .0))
-    × (walkFrom (handle .base .0) tables words (va .0) (3 - level) k ≡ walk (handle .base .0) tables words (va .0) (handle .level))
+    × (says (va .0) (reachFrom (handle .base .0) tables words (va .0) (3 - level) k) ≡ walk (handle .base .0) tables words (va .0) (handle .level))
 
 abbrev μ-loop : tie.MeasureT-loop
 μ-loop words tables handle va slots level₀ k₀ level k = 4 - level
@@ -46,7 +46,7 @@ slots-of-requires c κs = search needs
 
 -- src/look_up.rt:79:5
 loop-holds : tie.Need-loop-holds Inv-loop μ-loop
-unfolding walk
+unfolding walk reach
 loop-holds c = (omega arith, omega arith, c .slots-of .ensures, refl)
 
 -- src/look_up.rt:80:20
@@ -91,12 +91,12 @@ enum-told c = search needs
 
 -- src/look_up.rt:85:17
 returns : tie.Need-returns Inv-loop μ-loop
-unfolding answer
+unfolding answer says
 returns c =
     let at = c .before .before .before .before .before in
     let a = at .before .before .before .args in
-    ap answer (sym (walk-outside (a .handle .base .0) (a .tables) (a .words .now) (a .va .0) (at .loop .level) (at .loop .k) (at .loop .inv .0) (word at)
-    (sym (c .before .before .before .subtable .ensures) ∙ c .enum-told .given .1)) ∙ at .loop .inv .3)
+    ap answer (sym (ap (says (a .va .0)) (reach-outside (a .handle .base .0) (a .tables) (a .words .now) (a .va .0) (at .loop .level) (at .loop .k) (at .loop .inv .0) (word at)
+    (sym (c .before .before .before .subtable .ensures) ∙ c .enum-told .given .1))) ∙ at .loop .inv .3)
 
 -- src/look_up.rt:87:13
 leaf-requires : tie.Need-leaf-requires Inv-loop μ-loop
@@ -108,8 +108,8 @@ returns-2 c =
     let at = c .before .before .before .before .before in
     let a = at .before .before .before .args in
     c .leaf .ensures
-    ∙ ap answer (sym (walk-leaf (a .handle .base .0) (a .tables) (a .words .now) (a .va .0) (at .loop .level) (at .loop .k) (at .loop .inv .0) (word at)
-    (sym (c .before .before .before .subtable .ensures) ∙ is-leaf _ (c .before .before .match .keys2) (c .before .match2 .keys2))) ∙ at .loop .inv .3)
+    ∙ ap answer (sym (ap (says (a .va .0)) (reach-leaf (a .handle .base .0) (a .tables) (a .words .now) (a .va .0) (at .loop .level) (at .loop .k) (at .loop .inv .0) (word at)
+    (sym (c .before .before .before .subtable .ensures) ∙ is-leaf _ (c .before .before .match .keys2) (c .before .match2 .keys2)))) ∙ at .loop .inv .3)
 
 -- src/look_up.rt:90:9
 add-level : tie.Need-add-level Inv-loop μ-loop
@@ -129,7 +129,7 @@ loop-again c =
       omega (arith, found .high),
       found .below,
       at .loop .inv .2,
-      sym (walk-table (a .handle .base .0) (a .tables) (a .words .now) (a .va .0) (at .loop .level) (at .loop .k) (at .loop .inv .0) (word at) _ table) ∙ at .loop .inv .3,
+      sym (ap (says (a .va .0)) (reach-table (a .handle .base .0) (a .tables) (a .words .now) (a .va .0) (at .loop .level) (at .loop .k) (at .loop .inv .0) (word at) _ table)) ∙ at .loop .inv .3,
     )
 
 pub walk-from-spec : {M : Type 1} → statement M

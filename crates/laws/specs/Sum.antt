@@ -3,7 +3,8 @@ use mathlib.Core.Path.{_≡_, refl, sym, _∙_}
 use mathlib.Core.Bool.{Bool, true, false}
 use mathlib.Core.Logic.{_⊎_, inl, inr, _≢_}
 use Prim.Native.Nat.{ℕ, zero, suc, _+_, _*_, _≤_, _<_}
-use native.Mathlib.Nat.{add-zero, add-suc, mul-zero, mul-suc}
+use native.Mathlib.Nat.{suc-mul, add-zero, add-suc, mul-zero, mul-suc}
+use native.Mathlib.Numerals.{add-one}
 use native.Mathlib.Omega.{arith}
 use lib.Dec.{T}
 use Rattle.laws.specs.Test.{eq-or}
@@ -15,6 +16,14 @@ sum (suc n) f = sum n f + f n
 pub sum-suc : (n : ℕ) (f : ℕ → ℕ) → sum (suc n) f ≡ sum n f + f n
 unfolding sum
 sum-suc n f = refl
+
+pub sum-empty : (f : ℕ → ℕ) → sum 0 f ≡ 0
+unfolding sum
+sum-empty f = refl
+
+pub sum-more : (n : ℕ) (f : ℕ → ℕ) → sum (n + 1) f ≡ sum n f + f n
+unfolding sum
+sum-more n f = rw add-one
 
 pub sum-le : (n m : ℕ) (f : ℕ → ℕ) → n < m → sum n f + f n ≤ sum m f
 unfolding sum
@@ -132,3 +141,13 @@ pub sum-pieces : (n m : ℕ) (f : ℕ → ℕ) → sum (m * n) f ≡ sum n (λ k
 unfolding sum
 sum-pieces zero m f = rw (mul-zero m)
 sum-pieces (suc n) m f = let r = sum-pieces n m f in let t = sum-append (m * n) m f in rw (mul-suc m n) (omega arith)
+
+-- no summand passes m
+pub sum-most : (n m : ℕ) (f : ℕ → ℕ) → ((i : ℕ) → i < n → f i ≤ m) → sum n f ≤ n * m
+unfolding sum
+sum-most zero m f h = omega arith
+sum-most (suc n) m f h =
+    let r = sum-most n m f (λ i l. h i (omega arith)) in
+    let t = h n (omega arith) in
+    let e = suc-mul n m in
+    omega arith

@@ -6,6 +6,7 @@ use mathlib.Core.List.{List, [], _∷_}
 use mathlib.Core.Logic.{_⊎_, inl, inr, _≢_}
 use Prim.Native.Nat.{ℕ, zero, suc, _+_, _≤_, _<_}
 use native.Mathlib.Decide.{decLe}
+use native.Mathlib.Numerals.{add-one}
 use native.Mathlib.Omega.{arith}
 use lib.Dec.{T, eqb, eqb→eq, eqb-refl, leb, ltb}
 use lib.ListN.{length, getD}
@@ -115,6 +116,18 @@ pub all-of : (n : ℕ) (f : ℕ → Bool) → ((k : ℕ) → k < n → T (f k)) 
 unfolding allBelow
 all-of zero f h = tt
 all-of (suc n) f h = and-i (f n) (allBelow n f) (h n (omega arith)) (all-of n f (λ k l. h k (omega arith)))
+
+-- for a loop that tests one after the other
+pub all-none : (f : ℕ → Bool) → T (allBelow 0 f)
+unfolding allBelow
+all-none f = tt
+
+pub all-more : (n : ℕ) (f : ℕ → Bool) → T (allBelow n f) → T (f n) → T (allBelow (n + 1) f)
+unfolding allBelow
+all-more n f a t = rw add-one (and-i (f n) (allBelow n f) t a)
+
+pub all-fails : (n : ℕ) (f : ℕ → Bool) (k : ℕ) → k < n → f k ≡ false → allBelow n f ≡ false
+all-fails n f k h e = is-false (allBelow n f) (λ t. rw e at (all-to n f t k h))
 
 -- ---- for all words, with their places: one walk of the list
 

@@ -1,4 +1,4 @@
--- Whole calls: make, the pool check, page image. Each gives answer and state for every input, refusals first and in their order.
+-- Whole calls: make, page image. Each gives answer and state for every input, refusals first and in their order.
 -- Assumes nothing.
 use mathlib.Core.Path.{_≡_, refl}
 use mathlib.Core.Bool.{Bool, true, false, cond}
@@ -12,9 +12,8 @@ use Rattle.pool.specs.Image.{imageOf}
 use Rattle.pool.specs.State.{St, st, tables}
 use Rattle.pool.specs.Number.{rootNumber}
 use Rattle.pool.specs.Refuse.{shaped, Out, out, refuse}
-use Rattle.pool.specs.Sound.{soundb}
 use Rattle.pool.specs.declared.Handle.{Handle}
-use Rattle.pool.specs.declared.Refusal.the-variants.{Shape, Unsound, Short}
+use Rattle.pool.specs.declared.Refusal.the-variants.{Shape, Short}
 use Rattle.pool.specs.declared.Outcome.{Outcome}
 use Rattle.pool.specs.declared.Outcome.the-variants.{Accepted, Refused}
 
@@ -25,11 +24,6 @@ fresh h s = st (replicate (length (s .words)) 0) (set (replicate (length (s .led
 
 unfoldable pub makeCall : Handle → St → Out Outcome
 makeCall h s = cond (shaped h s) (out Accepted (fresh h s)) (refuse Shape s)
-
--- ---- the pool check. Refusals 1, 8. It only reads.
-
-unfoldable pub checkCall : Handle → St → Outcome
-checkCall h s = cond (shaped h s) (cond (soundb h s) Accepted (Refused Unsound)) (Refused Shape)
 
 -- ---- page image: one table's 512 words, little-endian, into 4096 bytes. Refusals 1 (a table number not below n counts), 11.
 
@@ -58,18 +52,6 @@ make-refused h s e = rw e
 pub make-accepted : (h : Handle) (s : St) → shaped h s ≡ true → out Accepted (fresh h s) ≡ makeCall h s
 unfolding makeCall
 make-accepted h s e = rw e
-
-pub check-misshaped : (h : Handle) (s : St) → shaped h s ≡ false → Refused Shape ≡ checkCall h s
-unfolding checkCall
-check-misshaped h s e = rw e
-
-pub check-unsound : (h : Handle) (s : St) → shaped h s ≡ true → soundb h s ≡ false → Refused Unsound ≡ checkCall h s
-unfolding checkCall
-check-unsound h s e q = rw (e, q)
-
-pub check-sound : (h : Handle) (s : St) → shaped h s ≡ true → soundb h s ≡ true → Accepted ≡ checkCall h s
-unfolding checkCall
-check-sound h s e q = rw (e, q)
 
 module _ (h : Handle) (s : St) (k : ℕ) (page : List ℕ) where
   pub image-misshaped : shaped h s ≡ false → imaged (Refused Shape) page ≡ imageCall h s k page

@@ -86,4 +86,3 @@ imaged-more i ws page h e =
     ∙ ap₂ (λ (a b : List ℕ). a ++ b)
     (sym (ap imageOf (rw add-one (take-suc ws i 0 h)) ∙ image-append (take i ws) (w ∷ []) ∙ ap (λ (l : List ℕ). front ++ l) (image-one w)))
     (ap (λ (x : ℕ). drop x page) (let q : 8 * i + 8 ≡ 8 * (i + 1) = omega arith in q))
-

@@ -4,10 +4,5 @@ pub mod Number
 pub mod Table
 pub mod Refuse
 pub mod Sound
-pub mod Stream
-pub mod Mask
-pub mod Row
-pub mod Named
-pub mod Counted
 pub mod Image
 pub mod Calls

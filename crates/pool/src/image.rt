@@ -2,7 +2,7 @@
 use crate::Handle;
 use crate::Outcome;
 use crate::Refusal;
-use crate::make;
+use crate::shape;
 ghost use mathlib.Core.Path.{_≡_};
 ghost use Prim.Native.Nat.{_*_};
 ghost use lib.ListN.{length};
@@ -39,10 +39,16 @@ fn write_to(table: &[u64], page: &mut [u8])
 }
 
 // Writes one table's 512 words into 4096 bytes.
-pub fn page_image(words: &[u64], ledger: &[u32], handle: Handle, k: usize, page: &mut [u8]) -> Outcome
+pub fn page_image(
+    words: &[u64],
+    ledger: &[u32],
+    handle: Handle,
+    k: usize,
+    page: &mut [u8],
+) -> Outcome
     ensures { λ r. ⌜ imaged r (now (page .exit)) ≡ imageCall handle (st (now (words .entry)) (now (ledger .entry))) k (now (page .entry)) ⌝ }
 {
-    if !make::is_shaped(words, ledger, handle) {
+    if !shape::is_shaped(words, ledger, handle) {
         return Outcome::Refused(Refusal::Shape);
     }
     if ledger.len() <= k {

@@ -2,6 +2,7 @@
 pub mod image;
 pub mod ledger;
 pub mod make;
+pub mod shape;
 pub mod table;
 
 use address::PhysicalAddress;
@@ -46,10 +47,4 @@ pub enum Outcome {
 pub enum Found {
     At(usize),
     Nothing,
-}
-
-// A run of words that passed, with how many of them refer to tables; or one that holds a wrong word.
-pub enum Run {
-    Passed(usize),
-    Failed,
 }

@@ -20,14 +20,14 @@ returns-2 c = let a = c .before .before .args in sub-leaf (a .base .0) (a .table
 -- src/lib.rt:108:9
 returns-3 : tie.Need-returns-3
 returns-3 c =
-    let a = c .before .before .before .before .args in 
+    let a = c .before .before .before .before .args in
     let at = mask-address (a .word) in
     sub-low (a .base .0) (a .tables) (a .level) (a .word) (omega arith) (c .before .before .if2 .left) (omega arith)
 
 -- src/lib.rt:97:1
 returns-4 : tie.Need-returns-4
 returns-4 c =
-    let a = c .before .before .before .before .before .before .args in 
+    let a = c .before .before .before .before .before .before .args in
     let at = mask-address (a .word) in
     ap (λ (x : ℕ). Table ((x - a .base .0) / 4096)) at
     ∙ sub-in (a .base .0) (a .tables) (a .level) (a .word) (omega arith) (c .before .before .before .before .if2 .left) (omega arith) (omega arith)
@@ -35,7 +35,7 @@ returns-4 c =
 -- src/lib.rt:97:1
 returns-5 : tie.Need-returns-5
 returns-5 c =
-    let a = c .before .before .before .before .before .before .args in 
+    let a = c .before .before .before .before .before .before .args in
     let at = mask-address (a .word) in
     sub-high (a .base .0) (a .tables) (a .level) (a .word) (omega arith) (c .before .before .before .before .if2 .left) (omega arith) (omega arith)
 

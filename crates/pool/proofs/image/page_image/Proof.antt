@@ -9,13 +9,12 @@ use Rattle.pool.specs.Refuse.{shaped, Shaped, shaped-says}
 use Rattle.pool.specs.Image.{imageOf}
 use Rattle.pool.specs.Calls.{imaged, image-misshaped, image-no-table, image-short, image-written}
 use Rattle.pool.specs.declared.Outcome.the-variants.{Accepted}
-use borrow.Author.Needs.{needs}
 use Rattle.pool.proofs.image.page_image.Statement.{statement}
 use Rattle.pool.proofs.image.page_image.Tie as tie
 use Rattle.pool.proofs.image.page_image.Reads as reads
 use Rattle.pool.proofs.image.page_image.Lts as lts
 use Rattle.pool.proofs.image.write_to.Reads as write-to-reads
-use Rattle.pool.proofs.make.is_shaped.Reads as is-shaped-reads
+use Rattle.pool.proofs.shape.is_shaped.Reads as is-shaped-reads
 
 -- past the first test the shape is known
 good : (c : tie.Else1) → let a = c .before .before .before .before .before .args in shaped (a .handle) (st (a .words .now) (a .ledger .now)) ≡ true
@@ -26,7 +25,7 @@ shape c = let a = c .before .before .before .before .before .args in shaped-says
 
 -- src/image.rt:45:9
 is-shaped-requires : tie.Need-is-shaped-requires
-is-shaped-requires c κs = search needs
+is-shaped-requires c κs = omega arith
 
 -- src/image.rt:46:9
 returns : tie.Need-returns
@@ -60,11 +59,11 @@ mul-write-to c = let p = shape (c .before .before) in omega (arith, p .sized)
 
 -- src/image.rt:56:14
 sub-write-to : tie.Need-sub-write-to
-sub-write-to c = search needs
+sub-write-to c = omega arith
 
 -- src/image.rt:56:14
 part-write-to-start : tie.Need-part-write-to-start
-part-write-to-start c = search needs
+part-write-to-start c = omega arith
 
 -- src/image.rt:56:14
 part-write-to-end : tie.Need-part-write-to-end
@@ -72,11 +71,11 @@ part-write-to-end c = let p = shape (c .before .before) in omega (arith, p .size
 
 -- src/image.rt:56:5
 write-to-requires : tie.Need-write-to-requires
-write-to-requires c κs = search needs
+write-to-requires c κs = omega arith
 
 -- src/image.rt:42:1
 same-length : tie.Need-same-length
-same-length c = search needs
+same-length c = omega arith
 
 -- src/image.rt:42:1
 returns-4 : tie.Need-returns-4

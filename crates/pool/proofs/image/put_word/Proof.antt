@@ -47,7 +47,7 @@ loop-again c =
       omega arith,
       length-set (at .loop .bytes) i _ ∙ at .loop .inv .1,
       ap₂ (λ (l : List ℕ) (x : ℕ). set l i x) (at .loop .inv .2) (ap (λ (x : ℕ). x % 256) (at .loop .inv .3) ∙ sym (bytes-at 8 (a .word) i (omega arith)))
-      ∙ write-more (a .bytes .now) all i 0 (omega arith) (omega (arith, length-bytes 8 (a .word))),
+          ∙ write-more (a .bytes .now) all i 0 (omega arith) (omega (arith, length-bytes 8 (a .word))),
       ap (λ (x : ℕ). x / 256) (at .loop .inv .3) ∙ sym (divided-more i (a .word)),
     )
 

@@ -1,4 +1,3 @@
-use borrow.Author.Needs.{needs}
 use mathlib.Core.List.{List}
 use mathlib.Core.Path.{_≡_, refl, sym, ap, _∙_}
 use Prim.Native.Nat.{ℕ, _+_, _*_, _-_, _≤_}
@@ -37,11 +36,11 @@ sub-put-word c = omega arith
 
 -- src/image.rt:36:18
 part-put-word-start : tie.Need-part-put-word-start Inv-loop μ-loop
-part-put-word-start c = search needs
+part-put-word-start c = omega arith
 
 -- src/image.rt:36:18
 part-put-word-end : tie.Need-part-put-word-end Inv-loop μ-loop
-part-put-word-end c = search needs
+part-put-word-end c = omega arith
 
 -- src/image.rt:36:35
 mul-put-word : tie.Need-mul-put-word Inv-loop μ-loop
@@ -53,7 +52,7 @@ shared-slice-read-put-word c = omega arith
 
 -- src/image.rt:36:9
 put-word-requires : tie.Need-put-word-requires Inv-loop μ-loop
-put-word-requires c κs = search needs
+put-word-requires c κs = omega arith
 
 -- src/image.rt:37:9
 add-i : tie.Need-add-i Inv-loop μ-loop
@@ -66,7 +65,7 @@ loop-less c = omega arith
 -- src/image.rt:33:5
 loop-again : tie.Need-loop-again Inv-loop μ-loop
 loop-again c =
-    let at = c .before .before .before .before .before .before  in
+    let at = c .before .before .before .before .before .before in
     let a = c .before .before .before .before .before .before .before .before .before .args in
     let i = at .loop .i in
     let bytes = bytesOf 8 (getD (a .table .now) i 0) in

@@ -16,7 +16,7 @@ use Rattle.pool.proofs.make.make.Statement.{statement}
 use Rattle.pool.proofs.make.make.Tie as tie
 use Rattle.pool.proofs.make.make.Reads as reads
 use Rattle.pool.proofs.make.make.Lts as lts
-use Rattle.pool.proofs.make.is_shaped.Reads as is-shaped-reads
+use Rattle.pool.proofs.shape.is_shaped.Reads as is-shaped-reads
 use Rattle.pool.proofs.table.zero_numbers.Reads as zero-numbers-reads
 use Rattle.pool.proofs.table.zero_words.Reads as zero-words-reads
 
@@ -26,15 +26,15 @@ shape c = let a = c .before .before .before .before .before .before .args in sha
 
 -- src/make.rt:44:9
 is-shaped-requires : tie.Need-is-shaped-requires
-is-shaped-requires c κs = search needs
+is-shaped-requires c κs = omega arith
 
 -- src/make.rt:45:9
 same-length : tie.Need-same-length
-same-length c = search needs
+same-length c = omega arith
 
 -- src/make.rt:45:9
 same-length-2 : tie.Need-same-length-2
-same-length-2 c = search needs
+same-length-2 c = omega arith
 
 -- src/make.rt:45:9
 returns : tie.Need-returns
@@ -42,11 +42,11 @@ returns c = let a = c .before .before .before .before .before .before .args in m
 
 -- src/make.rt:47:5
 zero-words-requires : tie.Need-zero-words-requires
-zero-words-requires c κs = search needs
+zero-words-requires c κs = omega arith
 
 -- src/make.rt:48:5
 zero-numbers-requires : tie.Need-zero-numbers-requires
-zero-numbers-requires c κs = search needs
+zero-numbers-requires c κs = omega arith
 
 -- src/make.rt:49:18
 add-ledger : tie.Need-add-ledger
@@ -62,7 +62,7 @@ slice-write-ledger c = let p = shape (c .before .before .before .before .before 
 
 -- src/make.rt:41:1
 same-length-3 : tie.Need-same-length-3
-same-length-3 c = search needs
+same-length-3 c = omega arith
 
 -- src/make.rt:41:1
 same-length-4 : tie.Need-same-length-4
@@ -73,7 +73,7 @@ returns-2 : tie.Need-returns-2
 unfolding fresh rootNumber
 returns-2 c =
     let a = c .before .before .before .before .before .before .before .before .before .before .before .before .before .before .before .args in
-    let p = c .before .before .before .before .before .before .before .before .before  in
+    let p = c .before .before .before .before .before .before .before .before .before in
     ap₂ (λ (w l : List ℕ). out Accepted (st w (set l 0 (4 + a .handle .level)))) (c .before .before .before .before .before .before .before .zero-words .ensures) (c .before .before .before .zero-numbers .ensures)
     ∙ make-accepted (a .handle) (st (a .words .now) (a .ledger .now)) (sym (p .before .is-shaped .ensures) ∙ not-false _ (p .if1 .left))
 

@@ -1,6 +1,5 @@
 use mathlib.Core.Logic.{⊎-elim}
 use Rattle.entry.proofs.Tags.{no-table}
-use borrow.Author.Needs.{needs}
 use mathlib.Core.Path.{_≡_, refl, sym, ap, _∙_}
 use Prim.Native.Nat.{_+_, _-_, _≤_}
 use native.Mathlib.Omega.{arith}
@@ -38,7 +37,7 @@ abbrev below : ℕ → Handle → ℕ → St → St
 below level handle = λ j t. freeTree (3 - (level + 1)) handle j t
 
 abbrev free-Inv-loop : free-lts.InvT-loop
-free-Inv-loop words₀ ledger₀ handle k level i₀ words ledger i = 
+free-Inv-loop words₀ ledger₀ handle k level i₀ words ledger i =
     (i ≤ 512) × (length words ≡ length words₀) × (length ledger ≡ length ledger₀)
     × (st words ledger ≡ iter (freeSlot (below level handle) handle level k) i (st words₀ ledger₀))
 
@@ -51,11 +50,11 @@ free-clear-table-requires t c κs = omega arith
 
 -- src/table.rt:94:9
 free-same-length : (t : ℕ) → free-lts.Need-same-length (calls t) (free-at t) free.Post free-Inv-loop free-μ-loop
-free-same-length t c = search needs
+free-same-length t c = omega arith
 
 -- src/table.rt:94:9
 free-same-length-2 : (t : ℕ) → free-lts.Need-same-length-2 (calls t) (free-at t) free.Post free-Inv-loop free-μ-loop
-free-same-length-2 t c = search needs
+free-same-length-2 t c = omega arith
 
 -- src/table.rt:94:9
 free-returns : (t : ℕ) → free-lts.Need-returns (calls t) (free-at t) free.Post free-Inv-loop free-μ-loop
@@ -89,7 +88,7 @@ free-add-i t c = omega arith
 
 -- src/table.rt:100:13
 free-subtable-requires : (t : ℕ) → free-lts.Need-subtable-requires (calls t) (free-at t) free.Post free-Inv-loop free-μ-loop
-free-subtable-requires t c κs = search needs
+free-subtable-requires t c κs = omega arith
 
 -- src/table.rt:101:24
 free-enum-known-kind : (t : ℕ) → free-lts.Need-enum-known-kind (calls t) (free-at t) free.Post free-Inv-loop free-μ-loop
@@ -102,7 +101,7 @@ free-loop-less t c = omega arith
 -- src/table.rt:97:5
 free-loop-again : (t : ℕ) → free-lts.Need-loop-again (calls t) (free-at t) free.Post free-Inv-loop free-μ-loop
 free-loop-again t c =
-    let at = c .before .before .before .before  in
+    let at = c .before .before .before .before in
     let a = c .before .before .before .before .before .before .before .before .args in
     let s = st (at .loop .words) (at .loop .ledger) in
     let sub = c .before .subtable in (
@@ -110,9 +109,9 @@ free-loop-again t c =
       at .loop .inv .1,
       at .loop .inv .2,
       iter-step (freeSlot (below (a .level) (a .handle)) (a .handle) (a .level) (a .k)) (at .loop .i) (st (a .words .now) (a .ledger .now)) (at .loop .inv .3)
-      (⊎-elim (λ e. slot-outside (below (a .level) (a .handle)) (a .handle) (a .level) (a .k) (at .loop .i) s (sub .ensures) e)
-      (λ e. slot-leaf (below (a .level) (a .handle)) (a .handle) (a .level) (a .k) (at .loop .i) s (sub .ensures) e)
-      (no-table (sub .result) (c .match .keys2))),
+          (⊎-elim (λ e. slot-outside (below (a .level) (a .handle)) (a .handle) (a .level) (a .k) (at .loop .i) s (sub .ensures) e)
+          (λ e. slot-leaf (below (a .level) (a .handle)) (a .handle) (a .level) (a .k) (at .loop .i) s (sub .ensures) e)
+          (no-table (sub .result) (c .match .keys2))),
     )
 
 -- src/table.rt:104:40
@@ -132,15 +131,15 @@ free-loop-less-2 t c = omega arith
 -- src/table.rt:97:5
 free-loop-again-2 : (t : ℕ) → free-lts.Need-loop-again-2 (calls t) (free-at t) free.Post free-Inv-loop free-μ-loop
 free-loop-again-2 t c =
-    let at = c .before .before .before .before .before .before .before .before .before .before .before .before .before  in
+    let at = c .before .before .before .before .before .before .before .before .before .before .before .before .before in
     let a = c .before .before .before .before .before .before .before .before .before .before .before .before .before .before .before .before .before .args in
     let s = st (at .loop .words) (at .loop .ledger) in
-    let called = c .before .before .before .before  in (
+    let called = c .before .before .before .before in (
       omega arith,
       omega arith,
       omega arith,
       iter-step (freeSlot (below (a .level) (a .handle)) (a .handle) (a .level) (a .k)) (at .loop .i) (st (a .words .now) (a .ledger .now)) (at .loop .inv .3)
-      (called .free .ensures ∙ slot-table (below (a .level) (a .handle)) (a .handle) (a .level) (a .k) (at .loop .i) s (c .before .before .before .before .before .before .before .before .before .before .subtable .ensures) _ (c .before .before .before .before .before .before .before .before .kind .given .1)),
+          (called .free .ensures ∙ slot-table (below (a .level) (a .handle)) (a .handle) (a .level) (a .k) (at .loop .i) s (c .before .before .before .before .before .before .before .before .before .before .subtable .ensures) _ (c .before .before .before .before .before .before .before .before .kind .given .1)),
     )
 
 -- src/table.rt:106:5
@@ -149,16 +148,16 @@ free-clear-table-requires-2 t c κs = omega arith
 
 -- src/table.rt:88:1
 free-same-length-3 : (t : ℕ) → free-lts.Need-same-length-3 (calls t) (free-at t) free.Post free-Inv-loop free-μ-loop
-free-same-length-3 t c = search needs
+free-same-length-3 t c = omega arith
 
 -- src/table.rt:88:1
 free-same-length-4 : (t : ℕ) → free-lts.Need-same-length-4 (calls t) (free-at t) free.Post free-Inv-loop free-μ-loop
-free-same-length-4 t c = search needs
+free-same-length-4 t c = omega arith
 
 -- src/table.rt:88:1
 free-returns-2 : (t : ℕ) → free-lts.Need-returns-2 (calls t) (free-at t) free.Post free-Inv-loop free-μ-loop
 free-returns-2 t c =
-    let at = c .before .before .before .before .before .before .before .before  in
+    let at = c .before .before .before .before .before .before .before .before in
     let a = c .before .before .before .before .before .before .before .before .before .before .before .before .args in
     let all : at .loop .i ≡ 512 = omega arith in
     c .before .before .before .before .clear-table2 .ensures

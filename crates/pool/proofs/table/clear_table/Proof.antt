@@ -15,43 +15,43 @@ use Rattle.pool.proofs.table.zero_words.Reads as zero-words-reads
 
 -- src/table.rt:55:13
 mul-a : tie.Need-mul-a
-mul-a c = search needs
+mul-a c = omega arith
 
 -- src/table.rt:56:13
 add-e : tie.Need-add-e
-add-e c = search needs
+add-e c = omega arith
 
 -- src/table.rt:57:16
 mul-zero-words : tie.Need-mul-zero-words
-mul-zero-words c = search needs
+mul-zero-words c = omega arith
 
 -- src/table.rt:57:16
 sub-zero-words : tie.Need-sub-zero-words
-sub-zero-words c = search needs
+sub-zero-words c = omega arith
 
 -- src/table.rt:57:16
 part-zero-words-start : tie.Need-part-zero-words-start
-part-zero-words-start c = search needs
+part-zero-words-start c = omega arith
 
 -- src/table.rt:57:16
 part-zero-words-end : tie.Need-part-zero-words-end
-part-zero-words-end c = search needs
+part-zero-words-end c = omega arith
 
 -- src/table.rt:57:5
 zero-words-requires : tie.Need-zero-words-requires
-zero-words-requires c κs = search needs
+zero-words-requires c κs = omega arith
 
 -- src/table.rt:58:5
 mul-ledger : tie.Need-mul-ledger
-mul-ledger c = search needs
+mul-ledger c = omega arith
 
 -- src/table.rt:58:5
 slice-write-ledger : tie.Need-slice-write-ledger
-slice-write-ledger c = search needs
+slice-write-ledger c = omega arith
 
 -- src/table.rt:51:1
 same-length : tie.Need-same-length
-same-length c = search needs
+same-length c = omega arith
 
 -- src/table.rt:51:1
 same-length-2 : tie.Need-same-length-2

@@ -60,7 +60,7 @@ loop-again c =
       omega arith,
       length-set (at .loop .table) i (at .loop .word) ∙ at .loop .inv .1,
       ap₂ (λ (t : List ℕ) (w : ℕ). set t i w) (at .loop .inv .2) (at .loop .inv .3 ∙ sym (rising-at 512 (a .first) (a .step) i (omega arith)))
-      ∙ write-more (a .table .now) all i 0 (omega arith) (omega (arith, length-rising 512 (a .first) (a .step))),
+          ∙ write-more (a .table .now) all i 0 (omega arith) (omega (arith, length-rising 512 (a .first) (a .step))),
       omega (arith, at .loop .inv .3, next-multiple i (a .step)),
     )
 

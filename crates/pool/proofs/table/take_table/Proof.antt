@@ -26,19 +26,19 @@ lowest c = lowest-found (c .before .before .before .before .before .before .befo
 
 -- src/table.rt:75:9
 lowest-free-requires : tie.Need-lowest-free-requires
-lowest-free-requires c κs = search needs
+lowest-free-requires c κs = omega arith
 
 -- src/table.rt:76:19
 enum-known-free : tie.Need-enum-known-free
-enum-known-free c = search needs
+enum-known-free c = omega arith
 
 -- src/table.rt:77:9
 enum-told : tie.Need-enum-told
-enum-told c = search needs
+enum-told c = omega arith
 
 -- src/table.rt:77:9
 same-length : tie.Need-same-length
-same-length c = search needs
+same-length c = omega arith
 
 -- src/table.rt:77:9
 returns : tie.Need-returns
@@ -60,11 +60,11 @@ mul-fill c = omega (arith, lowest c .inside)
 
 -- src/table.rt:81:10
 sub-fill : tie.Need-sub-fill
-sub-fill c = search needs
+sub-fill c = omega arith
 
 -- src/table.rt:81:10
 part-fill-start : tie.Need-part-fill-start
-part-fill-start c = search needs
+part-fill-start c = omega arith
 
 -- src/table.rt:81:10
 part-fill-end : tie.Need-part-fill-end
@@ -72,31 +72,31 @@ part-fill-end c = omega (arith, lowest c .inside)
 
 -- src/table.rt:81:5
 fill-requires : tie.Need-fill-requires
-fill-requires c κs = search needs
+fill-requires c κs = omega arith
 
 -- src/table.rt:82:18
 add-ledger : tie.Need-add-ledger
-add-ledger c = search needs
+add-ledger c = omega arith
 
 -- src/table.rt:82:35
 mul-ledger : tie.Need-mul-ledger
-mul-ledger c = search needs
+mul-ledger c = omega arith
 
 -- src/table.rt:82:35
 add-ledger-2 : tie.Need-add-ledger-2
-add-ledger-2 c = search needs
+add-ledger-2 c = omega arith
 
 -- src/table.rt:82:35
 add-ledger-3 : tie.Need-add-ledger-3
-add-ledger-3 c = search needs
+add-ledger-3 c = omega arith
 
 -- src/table.rt:82:30
 mul-ledger-2 : tie.Need-mul-ledger-2
-mul-ledger-2 c = search needs
+mul-ledger-2 c = omega arith
 
 -- src/table.rt:82:18
 add-ledger-4 : tie.Need-add-ledger-4
-add-ledger-4 c = search needs
+add-ledger-4 c = omega arith
 
 -- src/table.rt:82:17
 cast-ledger : tie.Need-cast-ledger
@@ -113,23 +113,23 @@ slice-write-ledger c = let h = lowest (c .before .before .before .before) .insid
 
 -- src/table.rt:83:26
 link-requires : tie.Need-link-requires
-link-requires c κs = search needs
+link-requires c κs = omega arith
 
 -- src/table.rt:83:11
 mul-words : tie.Need-mul-words
-mul-words c = search needs
+mul-words c = omega arith
 
 -- src/table.rt:83:11
 add-words : tie.Need-add-words
-add-words c = search needs
+add-words c = omega arith
 
 -- src/table.rt:83:5
 mul-words-2 : tie.Need-mul-words-2
-mul-words-2 c = search needs
+mul-words-2 c = omega arith
 
 -- src/table.rt:83:5
 slice-write-words : tie.Need-slice-write-words
-slice-write-words c = search needs
+slice-write-words c = omega arith
 
 -- src/table.rt:62:1
 same-length-2 : tie.Need-same-length-2
@@ -145,7 +145,7 @@ unfolding takeAt numberOf
 returns-2 c =
     let a = c .before .before .before .before .before .before .before .before .before .before .before .before .args in
     let shape = c .before .before .before .before .before .before .before .before .before .before .before .before .pre .0 in
-    let told = c .before .before .before .before .before  in
+    let told = c .before .before .before .before .before in
     let j = told .before .free .given .0 .0 in
     let inside = lowest told .inside in
     let part = c .before .before .before .fill in

@@ -1,3 +1,4 @@
+use native.Mathlib.Omega.{arith}
 use mathlib.Core.Path.{ap₂}
 use Rattle.region.specs.Region.{region, rounded}
 use borrow.Author.Needs.{needs}

@@ -12,11 +12,11 @@ use lib.Seq.{getD-take, getD-drop}
 use Rattle.laws.specs.Part.{partOf, length-part}
 use Rattle.laws.specs.Sum.{sum, sum-ext, sum-shift, sum-pieces, tally, tally-yes, tally-no}
 use Rattle.laws.specs.Test.{and-l, and-r, and-i, allBelow, all-to, all-of}
 use Rattle.pool.specs.State.{St, tables, numberAt}
 use Rattle.pool.specs.Number.{used}
 use Rattle.pool.specs.Sound.{flagSet}
-use Rattle.pool.specs.Stream.{passesb, passAll, linkCount, countAll, runWords, runPasses, runLinks, tableLinks}
+use Rattle.checker.specs.Stream.{passesb, passAll, linkCount, countAll, runWords, runPasses, runLinks, tableLinks}
 use Rattle.pool.specs.declared.Handle.{Handle}
 
 -- ---- a run of words, index by index
 

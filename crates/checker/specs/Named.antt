@@ -5,17 +5,17 @@ use mathlib.Core.Bool.{Bool, true, false, cond, _&&_}
 use mathlib.Core.Logic.{_⊎_, inl, inr, _≢_}
 use Prim.Native.Nat.{ℕ, suc, _+_, _*_, _-_, _/_, _%_, _≤_, _<_}
 use native.Mathlib.Omega.{arith}
-use lib.Dec.{T, eqb, eqb→eq, eqb-refl, leb, leb→le, ltb, ltb→lt}
+use lib.Dec.{T, eqb, eqb→eq, eqb-refl, leb, leb→le, le→leb, ltb, ltb→lt, lt→ltb}
 use lib.ListN.{List·getD-eq-default}
 use borrow.Author.Tests.{eq-eqb, ne-eqb, lt-ltb}
 use Rattle.laws.specs.Sum.{tally, tally-yes, tally-says}
 use Rattle.laws.specs.Test.{eq-or, le-or, and-l, and-r, and-i, eq→eqb}
 use Rattle.entry.specs.Word.{addressOf, linkOf}
 use Rattle.pool.specs.State.{St, tables, wordAt, numberAt}
 use Rattle.pool.specs.Number.{Names, levelOf, parentOf, slotOf}
 use Rattle.pool.specs.Sound.{flagSet, leafb, namesb, hangsb, linkb, refersb, slotb}
-use Rattle.pool.specs.Stream.{passesb, linkCount}
+use Rattle.checker.specs.Stream.{passesb, linkCount}
 use Rattle.pool.specs.declared.Handle.{Handle}
 
 -- ---- a slot's test is the test of a run's word, and that a table word is a link
 
@@ -111,6 +111,19 @@ hangs-to base s k t =
       parent = ltb→lt 0 y (and-l (ltb 0 y) says v);
       says = eqb→eq (wordAt s (parentOf x) (slotOf x)) (linkOf base k) (and-r (ltb 0 y) says v);
     }
+
+pub hangs-of : (base : ℕ) (s : St) (k : ℕ) → Hangs base s k → T (hangsb base s k)
+unfolding hangsb
+hangs-of base s k p =
+    let x = numberAt s k in
+    let y = numberAt s (parentOf x) in
+    and-i (namesb x) _ (p .named)
+    (and-i (eqb (levelOf x) (suc (levelOf y))) _ (eq→eqb (levelOf x) (suc (levelOf y)) (p .deeper))
+    (and-i (ltb 0 y) _ (lt→ltb 0 y (p .parent)) (eq→eqb (wordAt s (parentOf x) (slotOf x)) (linkOf base k) (p .says))))
+
+pub names-of : (x : ℕ) → Names x → T (namesb x)
+unfolding namesb
+names-of x p = and-i (leb 4 (x % 8)) (leb 1 (x / 8)) (le→leb 4 (x % 8) (p .kind)) (le→leb 1 (x / 8) (p .some))
 
 -- ---- a link: slot i of table p refers to a table k whose number names it
 

@@ -6,11 +6,10 @@ use Rattle.laws.specs.Test.{is-false, same-test}
 use Rattle.pool.specs.State.{St, st}
 use Rattle.pool.specs.declared.Handle.{Handle}
 use Rattle.pool.specs.Refuse.{maxTables, shaped, Shaped, shaped-says, says-shaped}
-use borrow.Author.Needs.{needs}
-use Rattle.pool.proofs.make.is_shaped.Statement.{statement}
-use Rattle.pool.proofs.make.is_shaped.Tie as tie
-use Rattle.pool.proofs.make.is_shaped.Reads as reads
-use Rattle.pool.proofs.make.is_shaped.Lts as lts
+use Rattle.pool.proofs.shape.is_shaped.Statement.{statement}
+use Rattle.pool.proofs.shape.is_shaped.Tie as tie
+use Rattle.pool.proofs.shape.is_shaped.Reads as reads
+use Rattle.pool.proofs.shape.is_shaped.Lts as lts
 
 -- one part that fails
 misshaped : (h : Handle) (s : St) → (Shaped h s → ⊥) → false ≡ shaped h s
@@ -31,7 +30,7 @@ returns-2 c =
 
 -- src/make.rt:25:23
 mul-if3 : tie.Need-mul-if3
-mul-if3 c = search needs
+mul-if3 c = omega arith
 
 -- src/make.rt:26:9
 returns-3 : tie.Need-returns-3
@@ -53,7 +52,7 @@ returns-5 c =
 
 -- src/make.rt:34:45
 mul-if6 : tie.Need-mul-if6
-mul-if6 c = search needs
+mul-if6 c = omega arith
 
 -- src/make.rt:35:9
 returns-6 : tie.Need-returns-6

@@ -12,12 +12,12 @@ use Rattle.laws.specs.Size.{sizeAt}
 use Rattle.laws.specs.Sum.{sum}
 use Rattle.laws.specs.Test.{allBelow}
 use Rattle.entry.specs.Word.{only}
 use Rattle.pool.specs.State.{St, tables, numberAt}
 use Rattle.pool.specs.Number.{levelOf, used}
 use Rattle.pool.specs.Sound.{flagSet, leafb, refersb, tableb}
 use Rattle.pool.specs.declared.Handle.{Handle}
-use Rattle.pool.specs.declared.Run.{Run}
-use Rattle.pool.specs.declared.Run.the-variants.{Passed, Failed}
+use Rattle.checker.specs.declared.Run.{Run}
+use Rattle.checker.specs.declared.Run.the-variants.{Passed, Failed}
 
 -- ---- one run of words of a table whose number is y
 
@@ -61,6 +61,10 @@ tableLinks s k = sum 4 (runLinks s k)
 unfoldable pub streamb : Handle → St → Bool
 streamb h s = allBelow (tables s) (tablePasses h s) && eqb (sum (tables s) (tableLinks s) + 1) (used (s .ledger))
 
+-- the links of all tables, if all pass
+unfoldable pub tablesRun : Handle → St → Run
+tablesRun h s = cond (allBelow (tables s) (tablePasses h s)) (Passed (sum (tables s) (tableLinks s))) Failed
+
 -- ---- a run by unions: which bits a leaf may have at a level of a used table
 
 -- the flags of the set, and the address bits from the entry's size on; bit 1 at level 3; at level 0 neither bit 0 nor an address
@@ -88,3 +92,17 @@ leaves (w ∷ ws) = bitOr (cond (eqb (w % 4) 3) 0 w) (leaves ws)
 unfoldable pub links : List ℕ → ℕ
 links [] = 0
 links (w ∷ ws) = cond (eqb (w % 4) 3) 1 0 + links ws
+
+-- ---- a run, judged by its unions
+
+-- of a free table
+unfoldable pub freeRun : List ℕ → Run
+freeRun ws = cond (eqb (union ws) 0) (Passed 0) Failed
+
+-- of a table of pages, with the bits that are allowed
+unfoldable pub pagesRun : ℕ → List ℕ → Run
+pagesRun allowed ws = cond (only allowed (union ws) && eqb (strays ws % 2) 0) (Passed 0) Failed
+
+-- of a table of levels 0 to 2
+unfoldable pub linksRun : ℕ → List ℕ → Run
+linksRun allowed ws = cond (only allowed (leaves ws)) (Passed (links ws)) Failed

@@ -18,10 +18,10 @@ use Rattle.laws.specs.Bit.{sub-or, sub-parts, and-assoc, and-swap, and-add, and
 use Rattle.laws.specs.Size.{sizeAt, down, down-rest, down-le, size-low}
 use Rattle.laws.specs.Test.{eqb-cases, same-test, and-l, and-r, and-i, eq→eqb}
 use Rattle.entry.specs.Word.{addressOf, only, el1Flags}
 use Rattle.pool.specs.Number.{levelOf}
 use Rattle.pool.specs.Sound.{plainFlags, fits, leafb, refersb}
-use Rattle.pool.specs.Stream.{passesb, passAll, linkCount, countAll, runOf, allowedAt, union, strays, leaves, links}
-use Rattle.pool.specs.declared.Run.the-variants.{Passed, Failed}
+use Rattle.checker.specs.Stream.{passesb, passAll, linkCount, countAll, runOf, allowedAt, union, strays, leaves, links}
+use Rattle.checker.specs.declared.Run.the-variants.{Passed, Failed}
 
 -- ---- flag sets
 

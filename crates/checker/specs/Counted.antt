@@ -12,50 +12,14 @@ use lib.ListN.{length}
 use Rattle.laws.specs.Sum.{sum, sum-ext, sum-none, sum-one, sum-add, sum-swap, sum-some, sum-at, sum-tight, tally, tally-yes, tally-no}
 use Rattle.laws.specs.Test.{byBool, eq-or, and-l, and-r, and-i, or-e, eq→eqb, same-test, allBelow, all-to, all-of, from-to, from-of}
 use Rattle.entry.specs.Word.{addressOf, linkOf, link-once, link-address, link-low}
 use Rattle.pool.specs.State.{St, tables, numberAt}
 use Rattle.pool.specs.Number.{rootNumber, parentOf, used}
-use Rattle.pool.specs.Refuse.{maxTables, shaped}
+use Rattle.pool.specs.Refuse.{Shaped}
 use Rattle.pool.specs.Sound.{namesb, hangsb, tableb, linkb, slotb, soundb}
-use Rattle.pool.specs.Stream.{runPasses, tablePasses, tableLinks, streamb}
-use Rattle.pool.specs.Row.{wordIn, linkIn, passIn, used-sum, all-links, runs-to, runs-of}
-use Rattle.pool.specs.Named.{slot-passes, slot-links, slot-of, count-most, count-one, used-in, Named, place, names-to, named-in, Hangs, hangs-to, links-to, links-of, namedAt, named-yes, named-says, named-no}
+use Rattle.checker.specs.Stream.{runPasses, tablePasses, tableLinks, streamb}
+use Rattle.checker.specs.Row.{wordIn, linkIn, passIn, used-sum, all-links, runs-to, runs-of}
+use Rattle.checker.specs.Named.{slot-passes, slot-links, slot-of, count-most, count-one, used-in, Named, place, names-to, named-in, Hangs, hangs-to, links-to, links-of, namedAt, named-yes, named-says, named-no}
 use Rattle.pool.specs.declared.Handle.{Handle}
-
--- ---- the parts of a pool's shape
-
-six : (a b c d e f : Bool) → T (a && (b && (c && (d && (e && f))))) → T a × T b × T c × T d × T e × T f
-six true true true true true f t = (tt, tt, tt, tt, tt, t)
-six false b c d e f t = absurd t
-six true false c d e f t = absurd t
-six true true false d e f t = absurd t
-six true true true false e f t = absurd t
-six true true true true false f t = absurd t
-
-module _ (h : Handle) (s : St) (t : shaped h s ≡ true) where
-  parts : T (leb 1 (tables s)) × T (leb (tables s) maxTables) × T (eqb (length (s .words)) (512 * tables s))
-      × T (eqb (h .base .0 % 4096) 0) × T (leb (h .base .0 + 4096 * tables s) (2 ^ 48)) × T (leb (h .level) 3)
-  unfolding shaped
-  parts =
-      six (leb 1 (tables s)) (leb (tables s) maxTables) (eqb (length (s .words)) (512 * tables s)) (eqb (h .base .0 % 4096) 0)
-      (leb (h .base .0 + 4096 * tables s) (2 ^ 48)) (leb (h .level) 3) (subst⁻¹ T t tt)
-
-  pub shaped-some : 1 ≤ tables s
-  shaped-some = leb→le 1 (tables s) (parts .0)
-
-  pub shaped-most : tables s ≤ maxTables
-  shaped-most = leb→le (tables s) maxTables (parts .1)
-
-  pub shaped-words : length (s .words) ≡ 512 * tables s
-  shaped-words = eqb→eq (length (s .words)) (512 * tables s) (parts .2)
-
-  pub shaped-pages : h .base .0 % 4096 ≡ 0
-  shaped-pages = eqb→eq (h .base .0 % 4096) 0 (parts .3)
-
-  pub shaped-below : h .base .0 + 4096 * tables s ≤ 2 ^ 48
-  shaped-below = leb→le (h .base .0 + 4096 * tables s) (2 ^ 48) (parts .4)
-
-  pub shaped-level : h .level ≤ 3
-  shaped-level = leb→le (h .level) 3 (parts .5)
 
 -- ---- the table words counted
 
@@ -246,5 +210,5 @@ module _ (h : Handle) (s : St) (some : 1 ≤ tables s) (words : length (s .words
   pub stream-same : streamb h s ≡ soundb h s
   stream-same = same-test (streamb h s) (soundb h s) stream-to stream-of
 
-pub stream-sound : (h : Handle) (s : St) → shaped h s ≡ true → streamb h s ≡ soundb h s
-stream-sound h s t = stream-same h s (shaped-some h s t) (shaped-words h s t) (shaped-pages h s t) (shaped-below h s t) (shaped-level h s t)
+pub stream-sound : (h : Handle) (s : St) → Shaped h s → streamb h s ≡ soundb h s
+stream-sound h s p = stream-same h s (p .some) (p .sized) (p .paged) (p .ended) (p .level)

@@ -1,0 +1,97 @@
+-- Laws that the check's loops cite: one for each way through a run, a table, and all tables. Leans on `Stream`. Assumes nothing.
+use mathlib.Core.Path.{_≡_, refl, sym, ap, _∙_}
+use mathlib.Core.Bool.{Bool, true, false, cond, _&&_}
+use mathlib.Core.List.{List, [], _∷_}
+use Prim.Native.Nat.{ℕ, _+_, _*_, _≤_, _<_}
+use native.Mathlib.Omega.{arith}
+use lib.Dec.{T, eqb}
+use lib.ListN.{length}
+use Rattle.laws.specs.Part.{length-part}
+use Rattle.laws.specs.Sum.{sum, sum-most}
+use Rattle.laws.specs.Test.{is-true, is-false, and-r, allBelow, all-fails}
+use Rattle.pool.specs.State.{St, tables, numberAt}
+use Rattle.pool.specs.Number.{used}
+use Rattle.pool.specs.Refuse.{Shaped}
+use Rattle.pool.specs.Sound.{tableb, soundb}
+use Rattle.checker.specs.Stream.{passAll, countAll, runOf, runWords, runPasses, runLinks, tablePasses, tableLinks, tablesRun, streamb}
+use Rattle.checker.specs.Named.{count-most}
+use Rattle.checker.specs.Counted.{stream-sound}
+use Rattle.pool.specs.declared.Handle.{Handle}
+use Rattle.checker.specs.declared.Run.{Run}
+use Rattle.checker.specs.declared.Run.the-variants.{Passed, Failed}
+
+pub count-below : (y : ℕ) (ws : List ℕ) → countAll y ws ≤ length ws
+unfolding countAll
+count-below y [] = omega arith
+count-below y (w ∷ ws) = let a = count-most y w in let r = count-below y ws in omega arith
+
+-- what a run's answer says of its test
+passed-says : (b : Bool) (x y : ℕ) → Passed y ≡ cond b (Passed x) Failed → (b ≡ true) × (y ≡ x)
+passed-says true x y e = (refl, cc)
+passed-says false x y e = let z : _≡_ {A = ℕ} 0 1 = cc in absurd (omega arith)
+
+failed-says : (b : Bool) (x : ℕ) → Failed ≡ cond b (Passed x) Failed → b ≡ false
+failed-says true x e = let z : _≡_ {A = ℕ} 0 1 = cc in absurd (omega arith)
+failed-says false x e = refl
+
+module _ (set y : ℕ) (ws : List ℕ) {r : Run} (is : r ≡ runOf set y ws) where
+  pub run-passed : (count : ℕ) → r ≡ Passed count → (passAll set y ws ≡ true) × (count ≡ countAll y ws)
+  unfolding runOf
+  run-passed count e = passed-says (passAll set y ws) (countAll y ws) count (sym e ∙ is)
+
+  pub run-failed : r ≡ Failed → passAll set y ws ≡ false
+  unfolding runOf
+  run-failed e = failed-says (passAll set y ws) (countAll y ws) (sym e ∙ is)
+
+pub tables-passed : (h : Handle) (s : St) (links : ℕ) → T (allBelow (tables s) (tablePasses h s)) → links ≡ sum (tables s) (tableLinks s) → Passed links ≡ tablesRun h s
+unfolding tablesRun
+tables-passed h s links t e = rw (is-true (allBelow (tables s) (tablePasses h s)) t) (ap Passed e)
+
+-- a table whose number is wrong, or one of whose runs fails
+pub tables-failed : (h : Handle) (s : St) (k : ℕ) → k < tables s → tablePasses h s k ≡ false → Failed ≡ tablesRun h s
+unfolding tablesRun
+tables-failed h s k l e = rw (all-fails (tables s) (tablePasses h s) k l e)
+
+pub number-fails : (h : Handle) (s : St) (k : ℕ) → tableb h s k ≡ false → tablePasses h s k ≡ false
+unfolding tablePasses
+number-fails h s k e = rw e
+
+pub run-fails : (h : Handle) (s : St) (k r : ℕ) → r < 4 → runPasses h s k r ≡ false → tablePasses h s k ≡ false
+unfolding tablePasses
+run-fails h s k r l e = is-false (tableb h s k && allBelow 4 (runPasses h s k)) (λ t. rw (all-fails 4 (runPasses h s k) r l e) at (and-r (tableb h s k) (allBelow 4 (runPasses h s k)) t))
+
+pub table-passes : (h : Handle) (s : St) (k : ℕ) → tableb h s k ≡ true → T (allBelow 4 (runPasses h s k)) → T (tablePasses h s k)
+unfolding tablePasses
+table-passes h s k e t = rw e t
+
+-- at most 512 links a table
+links-few : (s : St) (k : ℕ) → length (s .words) ≡ 512 * tables s → k < tables s → tableLinks s k ≤ 512
+unfolding tableLinks runLinks
+links-few s k sized l = sum-most 4 128 (runLinks s k) (λ r h.
+    let few = count-below (numberAt s k) (runWords s k r) in
+    let long = length-part (512 * k + 128 * r) 128 (s .words) (omega arith) in
+    omega arith)
+
+-- ---- from the scan of all tables to soundness
+
+module _ (h : Handle) (s : St) (shape : Shaped h s) {r : Run} (is : r ≡ tablesRun h s) where
+  scan-says : (links : ℕ) → r ≡ Passed links → (allBelow (tables s) (tablePasses h s) ≡ true) × (links ≡ sum (tables s) (tableLinks s))
+  unfolding tablesRun
+  scan-says links e = passed-says (allBelow (tables s) (tablePasses h s)) (sum (tables s) (tableLinks s)) links (sym e ∙ is)
+
+  pub scan-few : (links : ℕ) → r ≡ Passed links → links ≤ 512 * tables s
+  scan-few links e = omega (arith, scan-says links e .1, sum-most (tables s) 512 (tableLinks s) (λ k l. links-few s k (shape .sized) l))
+
+  pub scan-counted : (links : ℕ) → r ≡ Passed links → eqb (links + 1) (used (s .ledger)) ≡ soundb h s
+  unfolding streamb
+  scan-counted links e =
+      let says = scan-says links e in
+      let same : streamb h s ≡ eqb (sum (tables s) (tableLinks s) + 1) (used (s .ledger)) = rw (says .0) in
+      ap (λ (x : ℕ). eqb (x + 1) (used (s .ledger))) (says .1) ∙ sym same ∙ stream-sound h s shape
+
+  pub scan-unsound : r ≡ Failed → false ≡ soundb h s
+  unfolding tablesRun streamb
+  scan-unsound e =
+      let fails = failed-says (allBelow (tables s) (tablePasses h s)) (sum (tables s) (tableLinks s)) (sym e ∙ is) in
+      let same : streamb h s ≡ false = rw fails in
+      sym same ∙ stream-sound h s shape

@@ -1,0 +1,15 @@
+use mathlib.Core.Path.{refl}
+use Rattle.entry.specs.Word.{el1Flags}
+use Rattle.pool.specs.Sound.{flagSet}
+use Rattle.pool.proofs.shape.flag_set.Statement.{statement}
+use Rattle.pool.proofs.shape.flag_set.Tie as tie
+use Rattle.pool.proofs.shape.flag_set.Reads as reads
+use Rattle.pool.proofs.shape.flag_set.Lts as lts
+
+-- src/check.rt:19:1
+returns : tie.Need-returns
+unfolding flagSet el1Flags
+returns c = refl
+
+pub flag-set-spec : {M : Type 1} → statement M
+flag-set-spec = tie.close (tie.spec returns)

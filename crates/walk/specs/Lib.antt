@@ -3,3 +3,5 @@ pub mod Arm
 pub mod Walk
 pub mod Page
 pub mod LookUp
+pub mod Lines
+pub mod Listing

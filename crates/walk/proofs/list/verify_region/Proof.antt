@@ -1,0 +1,24 @@
+use mathlib.Core.Path.{_∙_}
+use native.Mathlib.Omega.{arith}
+use Rattle.walk.specs.Listing.{verify-backwards, verify-forwards}
+use borrow.Author.Needs.{needs}
+use Rattle.walk.proofs.list.verify_region.Statement.{statement}
+use Rattle.walk.proofs.list.verify_region.Tie as tie
+use Rattle.walk.proofs.list.verify_region.Reads as reads
+use Rattle.walk.proofs.list.verify_region.Lts as lts
+use Rattle.walk.proofs.list.in_range.Reads as in-range-reads
+
+-- src/list.rt:50:9
+returns : tie.Need-returns
+returns c = let a = c .before .before .args in verify-backwards (a .handle) (a .region) (c .if1 .taken)
+
+-- src/list.rt:53:5
+in-range-requires : tie.Need-in-range-requires
+in-range-requires c κs = search needs
+
+-- src/list.rt:46:1
+returns-2 : tie.Need-returns-2
+returns-2 c = let a = c .before .before .before .args in c .in-range .ensures ∙ verify-forwards (a .handle) (a .region) (omega arith)
+
+pub verify-region-spec : {M : Type 1} → statement M
+verify-region-spec = tie.close (tie.spec returns in-range-requires returns-2)

@@ -1,0 +1,138 @@
+-- The call list: refusals 1, 2, 5, 6, 8, 11 in this order, else the lines. Leans on `Lines`. Assumes nothing.
+use mathlib.Core.Path.{_≡_, refl, sym, ap, _∙_}
+use mathlib.Core.Bool.{Bool, true, false, cond, _&&_, _||_}
+use mathlib.Core.List.{List, [], _∷_, _++_}
+use Prim.Native.Nat.{ℕ, _*_, _-_, _^_, _≤_, _<_}
+use native.Mathlib.Omega.{arith}
+use lib.Dec.{leb, ltb}
+use lib.ListN.{length, drop}
+use borrow.Author.Tests.{le-leb, lt-leb, le-ltb, lt-ltb}
+use Rattle.laws.specs.Size.{sizeAt, size-high}
+use Rattle.region.specs.Region.{rounded}
+use Rattle.region.specs.declared.MemoryRegion.{MemoryRegion}
+use Rattle.pool.specs.State.{St, tables}
+use Rattle.pool.specs.Refuse.{shaped, carried}
+use Rattle.pool.specs.Sound.{soundb}
+use Rattle.pool.specs.declared.Handle.{Handle}
+use Rattle.pool.specs.declared.VaRange.{VaRange}
+use Rattle.pool.specs.declared.VaRange.the-variants.{Lower, Upper}
+use Rattle.pool.specs.declared.Refusal.{Refusal}
+use Rattle.pool.specs.declared.Refusal.the-variants.{Shape, End, RegionBackwards, AddressRange, Unsound, Short}
+use Rattle.pool.specs.declared.Outcome.{Outcome}
+use Rattle.pool.specs.declared.Outcome.the-variants.{Accepted, Refused}
+use Rattle.walk.specs.Arm.{lowBit}
+use Rattle.walk.specs.Walk.{size-is}
+use Rattle.walk.specs.Lines.{Line, numbers, linesFrom}
+use Rattle.walk.specs.declared.Listed.{Listed}
+use Rattle.walk.specs.declared.Listed.the-variants.{Lines, Refused as refused}
+
+-- refusal 2 is given exactly when this fails: end is 0 or above 2^64 - 4096
+unfoldable pub endFits : ℕ → Bool
+endFits end = leb 1 end && leb end (2 ^ 64 - 4096)
+
+-- refusal 6, as `verify_region` tests it: a lower region starts below 2^63 and ends in the span; an upper one starts at or above 2^63, in the span
+unfoldable pub inRange : VaRange → ℕ → MemoryRegion → Outcome
+inRange Lower level r =
+    cond (leb (2 ^ 63) (r .start .0)) (Refused (AddressRange (r .start)))
+    (cond (ltb (512 * 2 ^ lowBit level) (r .end .0)) (Refused (AddressRange (r .end))) Accepted)
+inRange Upper level r =
+    cond (ltb (r .start .0) (2 ^ 63) || ltb (r .start .0) (2 ^ 64 - 512 * 2 ^ lowBit level)) (Refused (AddressRange (r .start))) Accepted
+
+-- `verify_region`: refusals 5, 6 of a rounded region
+unfoldable pub verify : Handle → MemoryRegion → Outcome
+verify h r = cond (ltb (r .end .0) (r .start .0)) (Refused (RegionBackwards r)) (inRange (h .range) (h .level) r)
+
+-- the answer and the list
+pub record Listing : Type 0 where
+  pub answer : Listed
+  pub list : List ℕ
+
+abbrev pub listing : Listed → List ℕ → Listing
+listing a l = record { answer = a; list = l }
+
+-- the lines at the front, the rest stays
+unfoldable pub put : List Line → List ℕ → List ℕ
+put ls list = numbers ls ++ drop (4 * length ls) list
+
+-- the lines of a region, in a pool that is sound
+unfoldable pub linesOf : Handle → St → MemoryRegion → List Line
+linesOf h s r = linesFrom (h .base .0) (tables s) (s .words) (3 - h .level) 0 r
+
+unfoldable pub listLines : List Line → List ℕ → Listing
+listLines ls list = cond (leb (4 * length ls) (length list)) (listing (Lines (length ls)) (put ls list)) (listing (refused (Short (4 * length ls))) list)
+
+unfoldable pub listVerified : Handle → St → MemoryRegion → List ℕ → Outcome → Listing
+listVerified h s r list (Refused x) = listing (refused x) list
+listVerified h s r list Accepted = let ls = listLines (linesOf h s r) list in cond (soundb h s) ls (listing (refused Unsound) list)
+
+unfoldable pub listCall : Handle → St → ℕ → ℕ → List ℕ → Listing
+listCall h s start end list =
+    let r = rounded start end in
+    cond (shaped h s)
+    (cond (endFits end) (listVerified h s r list (verify h r)) (listing (refused (End end)) list))
+    (listing (refused Shape) list)
+
+-- ---- laws: one for each way through the code
+
+module _ (h : Handle) (s : St) (start end : ℕ) (list : List ℕ) where
+  pub list-misshaped : shaped h s ≡ false → listing (refused Shape) list ≡ listCall h s start end list
+  unfolding listCall
+  list-misshaped e = rw e
+
+  module _ (shape : shaped h s ≡ true) where
+    pub list-end : endFits end ≡ false → listing (refused (End end)) list ≡ listCall h s start end list
+    unfolding listCall
+    list-end e = rw (shape, e)
+
+    module _ (fits : endFits end ≡ true) where
+      pub list-region : (x : Refusal) → verify h (rounded start end) ≡ Refused x → listing (refused x) list ≡ listCall h s start end list
+      unfolding listCall listVerified
+      list-region x e = rw (shape, fits, e)
+
+      module _ (region : verify h (rounded start end) ≡ Accepted) where
+        pub list-unsound : soundb h s ≡ false → listing (refused Unsound) list ≡ listCall h s start end list
+        unfolding listCall listVerified
+        list-unsound e = rw (shape, fits, region, e)
+
+        pub list-sound : soundb h s ≡ true → listLines (linesOf h s (rounded start end)) list ≡ listCall h s start end list
+        unfolding listCall listVerified
+        list-sound e = rw (shape, fits, region, e)
+
+-- `verify_region`, by the size of an entry
+module _ (range : VaRange) (level : ℕ) (r : MemoryRegion) {g : ℕ} (size : g ≡ sizeAt level) where
+  span : 512 * g ≡ 512 * 2 ^ lowBit level
+  span = ap (λ (x : ℕ). 512 * x) (size ∙ sym (size-is level))
+
+  pub lower-start : range ≡ Lower → 2 ^ 63 ≤ r .start .0 → Refused (AddressRange (r .start)) ≡ inRange range level r
+  unfolding inRange
+  lower-start e l = rw (e, le-leb (2 ^ 63) (r .start .0) l)
+
+  pub lower-end : range ≡ Lower → r .start .0 < 2 ^ 63 → 512 * g < r .end .0 → Refused (AddressRange (r .end)) ≡ inRange range level r
+  unfolding inRange
+  lower-end e l m = rw (e, lt-leb (2 ^ 63) (r .start .0) l, ← span, lt-ltb (512 * g) (r .end .0) m)
+
+  pub lower-in : range ≡ Lower → r .start .0 < 2 ^ 63 → r .end .0 ≤ 512 * g → Accepted ≡ inRange range level r
+  unfolding inRange
+  lower-in e l m = rw (e, lt-leb (2 ^ 63) (r .start .0) l, ← span, le-ltb (512 * g) (r .end .0) m)
+
+  pub upper-start : range ≡ Upper → r .start .0 ≤ 18446744073709551615 - 512 * g → Refused (AddressRange (r .start)) ≡ inRange range level r
+  unfolding inRange
+  upper-start e l = let h = size-high level in rw (e, ← span, lt-ltb (r .start .0) (2 ^ 64 - 512 * g) (omega arith)) (either (ltb (r .start .0) (2 ^ 63)))
+    where
+      either : (b : Bool) → Refused (AddressRange (r .start)) ≡ cond (b || true) (Refused (AddressRange (r .start))) Accepted
+      either true = refl
+      either false = refl
+
+  pub upper-in : range ≡ Upper → 18446744073709551615 - 512 * g < r .start .0 → Accepted ≡ inRange range level r
+  unfolding inRange
+  upper-in e l =
+      let h = size-high level in
+      rw (e, ← span, le-ltb (r .start .0) (2 ^ 63) (omega arith), le-ltb (r .start .0) (2 ^ 64 - 512 * g) (omega arith))
+
+pub verify-backwards : (h : Handle) (r : MemoryRegion) → r .end .0 < r .start .0 → Refused (RegionBackwards r) ≡ verify h r
+unfolding verify
+verify-backwards h r l = rw (lt-ltb (r .end .0) (r .start .0) l)
+
+pub verify-forwards : (h : Handle) (r : MemoryRegion) → r .start .0 ≤ r .end .0 → inRange (h .range) (h .level) r ≡ verify h r
+unfolding verify
+verify-forwards h r l = rw (le-ltb (r .end .0) (r .start .0) l)

@@ -8,8 +8,8 @@ use lib.ListN.{length, set, take, drop, length-append, take-append-drop}
 use lib.Seq.{take-at, drop-append-add, drop-drop, length-take-le}
 use Rattle.laws.specs.Part.{putPart}
 use Rattle.laws.specs.Test.{eq-or, le-or}
-use Rattle.region.specs.Region.{nextChunk, chunkEnd}
-use Rattle.region.specs.Chunks.{chunks, chunksOf, next-gives, met, met-none, met-step, chunks-none, chunks-step}
+use Rattle.region.specs.Region.{region, nextChunk, chunkEnd}
+use Rattle.region.specs.Chunks.{chunks, chunksOf, next-gives, met, met-none, met-step, chunks-none, chunks-step, Tiles, none, more, chunks-tile}
 use Rattle.region.specs.declared.MemoryRegion.{MemoryRegion}
 use Rattle.region.specs.declared.ChunkedIterator.{ChunkedIterator}
 use Rattle.region.specs.declared.NextChunk.{NextChunk}
@@ -158,7 +158,8 @@ put-append from p q l h =
     (ap (λ (x : ℕ). drop (x + length q) (front ++ back)) (sym long) ∙ drop-append-add front back (length q) ∙ drop-drop (length q) (from + length p) l)
     ∙ append-assoc (take from l) p (q ++ drop (from + length p + length q) l)
     ∙ ap (λ (t : List ℕ). take from l ++ t) (sym (append-assoc p q (drop (from + length p + length q) l)))
-    ∙ ap₂ (λ (t : List ℕ) (x : ℕ). take from l ++ ((p ++ q) ++ drop x l)) refl (let e : from + length p + length q ≡ from + (length p + length q) = omega arith in e ∙ ap (λ (x : ℕ). from + x) (sym (length-append p q)))
+    ∙ ap (λ (x : ℕ). take from l ++ ((p ++ q) ++ drop x l))
+    (let e : from + length p + length q ≡ from + (length p + length q) = omega arith in e ∙ ap (λ (x : ℕ). from + x) (sym (length-append p q)))
 
 -- nothing is written
 put-none : (to : ℕ) (l : List ℕ) → putPart to [] l ≡ l
@@ -175,13 +176,13 @@ module _ (f : MemoryRegion → List Line) {rs rest : List MemoryRegion} {r : Mem
   pub count-step : length (each f rs) ≡ length ls + length (each f rest)
   count-step = ap length each-step ∙ length-append ls (each f rest)
 
-  pub write-step : (to : ℕ) (list : List ℕ) {after : List ℕ} → to + 4 * length (each f rs) ≤ length list → after ≡ putPart to (numbers ls) list
-      → putPart (to + 4 * length ls) (numbers (each f rest)) after ≡ putPart to (numbers (each f rs)) list
-  write-step to list h e =
+  pub write-step : (to : ℕ) (list : List ℕ) {next : ℕ} {after : List ℕ} → to + 4 * length (each f rs) ≤ length list → next ≡ to + 4 * length ls
+      → after ≡ putPart to (numbers ls) list → putPart next (numbers (each f rest)) after ≡ putPart to (numbers (each f rs)) list
+  write-step to list h q e =
       let long = length-numbers ls in
       let more = length-numbers (each f rest) in
       let both = count-step in
-      rw e (ap (λ (x : ℕ). putPart (to + x) (numbers (each f rest)) (putPart to (numbers ls) list)) (sym long)
+      rw (e, q) (ap (λ (x : ℕ). putPart (to + x) (numbers (each f rest)) (putPart to (numbers ls) list)) (sym long)
       ∙ put-append to (numbers ls) (numbers (each f rest)) list (omega arith)
       ∙ ap (λ (t : List ℕ). putPart to t list) (sym (numbers-append ls (each f rest)) ∙ ap numbers (sym each-step)))
 
@@ -218,3 +219,28 @@ unfolding linesFrom
 lines-pages base n words level k r h =
     let last : 3 - level ≡ 0 = omega arith in
     rw last (sym (each-one (λ q. line q (fetch words (q .start .0) 3 k) 3) (chunks 3 (r .start .0) (r .end .0)) ∙ length-chunks (met 3 (r .start .0) (r .end .0)) 3 (r .start .0) (r .end .0) refl))
+
+-- ---- no more lines than bytes
+
+each-bound : {level e s : ℕ} {rs : List MemoryRegion} (f : MemoryRegion → List Line)
+    → ((r : MemoryRegion) → r .start .0 < r .end .0 → length (f r) ≤ r .end .0 - r .start .0) → Tiles level e s rs → length (each f rs) ≤ e - s
+unfolding each
+each-bound f h (none l) = omega arith
+each-bound f h (more {s = s} {m = m} {l = rest} a b c t) =
+    let here = h (region s m) a in
+    let more = each-bound f h t in
+    let both = length-append (f (region s m)) (each f rest) in
+    omega arith
+
+pub lines-bound : (base n : ℕ) (words : List ℕ) (left k : ℕ) (r : MemoryRegion) → length (linesFrom base n words left k r) ≤ r .end .0 - r .start .0
+unfolding linesFrom chunkLines subLines
+lines-bound base n words zero k r = each-bound _ (λ q h. omega arith) (chunks-tile 3 (r .start .0) (r .end .0))
+lines-bound base n words (suc left) k r =
+    each-bound (chunkLines base n words (λ j q. linesFrom base n words left j q) (2 - left) k)
+    (λ q h. go q h (subOf base n (2 - left) (fetch words (q .start .0) (2 - left) k)) (λ j. lines-bound base n words left j q)) (chunks-tile (2 - left) (r .start .0) (r .end .0))
+  where
+    go : (q : MemoryRegion) → q .start .0 < q .end .0 → (x : Sub) → ((j : ℕ) → length (linesFrom base n words left j q) ≤ q .end .0 - q .start .0)
+        → length (subLines x (λ j. linesFrom base n words left j q) (line q (fetch words (q .start .0) (2 - left) k) (2 - left))) ≤ q .end .0 - q .start .0
+    go q h (Table j) ih = ih j
+    go q h Outside ih = omega arith
+    go q h Leaf ih = omega arith

@@ -2,12 +2,16 @@
 use mathlib.Core.Path.{_≡_, refl, sym, ap, _∙_}
 use mathlib.Core.Bool.{Bool, true, false, cond, _&&_, _||_}
 use mathlib.Core.List.{List, [], _∷_, _++_}
-use Prim.Native.Nat.{ℕ, _*_, _-_, _^_, _≤_, _<_}
+use mathlib.Core.Logic.{_⊎_, inl, inr}
+use Prim.Native.Nat.{ℕ, _+_, _*_, _-_, _^_, _≤_, _<_}
 use native.Mathlib.Omega.{arith}
-use lib.Dec.{leb, ltb}
+use lib.Dec.{leb, ltb, ltb→lt}
 use lib.ListN.{length, drop}
 use borrow.Author.Tests.{le-leb, lt-leb, le-ltb, lt-ltb}
-use Rattle.laws.specs.Size.{sizeAt, size-high}
+use Rattle.laws.specs.Size.{sizeAt, size-high, up}
+use Rattle.laws.specs.Part.{putPart}
+use Rattle.laws.specs.Test.{byBool, le-or}
+use Rattle.address.specs.Address.{alignUp}
 use Rattle.region.specs.Region.{rounded}
 use Rattle.region.specs.declared.MemoryRegion.{MemoryRegion}
 use Rattle.pool.specs.State.{St, tables}
@@ -22,7 +26,7 @@ use Rattle.pool.specs.declared.Outcome.{Outcome}
 use Rattle.pool.specs.declared.Outcome.the-variants.{Accepted, Refused}
 use Rattle.walk.specs.Arm.{lowBit}
 use Rattle.walk.specs.Walk.{size-is}
-use Rattle.walk.specs.Lines.{Line, numbers, linesFrom}
+use Rattle.walk.specs.Lines.{Line, numbers, length-numbers, linesFrom}
 use Rattle.walk.specs.declared.Listed.{Listed}
 use Rattle.walk.specs.declared.Listed.the-variants.{Lines, Refused as refused}
 
@@ -136,3 +140,65 @@ verify-backwards h r l = rw (lt-ltb (r .end .0) (r .start .0) l)
 pub verify-forwards : (h : Handle) (r : MemoryRegion) → r .start .0 ≤ r .end .0 → inRange (h .range) (h .level) r ≡ verify h r
 unfolding verify
 verify-forwards h r l = rw (le-ltb (r .end .0) (r .start .0) l)
+
+-- ---- refusals 2 and 11
+
+pub end-zero : (end : ℕ) → end ≡ 0 → endFits end ≡ false
+unfolding endFits
+end-zero end e = rw e
+
+pub end-high : (end : ℕ) → 18446744073709547520 < end → endFits end ≡ false
+unfolding endFits
+end-high end l = rw (le-leb 1 end (omega arith), lt-leb end 18446744073709547520 l)
+
+pub end-fits : (end : ℕ) → (end ≡ 0 → ⊥) → end ≤ 18446744073709547520 → endFits end ≡ true
+unfolding endFits
+end-fits end n l = rw (le-leb 1 end (omega arith), le-leb end 18446744073709547520 l)
+
+pub list-short : (ls : List Line) (list : List ℕ) → length list < 4 * length ls → listing (refused (Short (4 * length ls))) list ≡ listLines ls list
+unfolding listLines
+list-short ls list l = rw (lt-leb (4 * length ls) (length list) l)
+
+pub list-written : (ls : List Line) (list : List ℕ) → 4 * length ls ≤ length list → listing (Lines (length ls)) (putPart 0 (numbers ls) list) ≡ listLines ls list
+unfolding listLines put putPart
+list-written ls list l =
+    rw (le-leb (4 * length ls) (length list) l)
+    (ap (λ (x : ℕ). listing (Lines (length ls)) (numbers ls ++ drop x list)) (let e = length-numbers ls in let q : 0 + length (numbers ls) ≡ 4 * length ls = omega arith in q))
+
+-- ---- a region that was verified is no longer than the largest span
+
+verified-range : (range : VaRange) (level : ℕ) (r : MemoryRegion) → inRange range level r ≡ Accepted → r .end .0 < 2 ^ 64 → r .end .0 - r .start .0 ≤ 2 ^ 48
+unfolding inRange
+verified-range Lower level r e h = go (le-or (2 ^ 63) (r .start .0)) (le-or (r .end .0) (512 * 2 ^ lowBit level))
+  where
+    never : {x : Refusal} → _≡_ {A = Outcome} (Refused x) Accepted → ⊥
+    never q = let z : _≡_ {A = ℕ} 0 1 = cc in omega arith
+
+    go : (2 ^ 63 ≤ r .start .0) ⊎ (r .start .0 < 2 ^ 63) → (r .end .0 ≤ 512 * 2 ^ lowBit level) ⊎ (512 * 2 ^ lowBit level < r .end .0) → r .end .0 - r .start .0 ≤ 2 ^ 48
+    go (inl l) m = absurd (never (rw (le-leb (2 ^ 63) (r .start .0) l) at e))
+    go (inr l) (inr m) = absurd (never (rw (lt-leb (2 ^ 63) (r .start .0) l, lt-ltb (512 * 2 ^ lowBit level) (r .end .0) m) at e))
+    go (inr l) (inl m) = let a = size-is level in let b = size-high level in omega arith
+verified-range Upper level r e h = go (le-or (2 ^ 64 - 512 * 2 ^ lowBit level) (r .start .0))
+  where
+    either : (b : Bool) → cond (b || true) (Refused (AddressRange (r .start))) Accepted ≡ Accepted → ⊥
+    either true q = let z : _≡_ {A = ℕ} 0 1 = cc in omega arith
+    either false q = let z : _≡_ {A = ℕ} 0 1 = cc in omega arith
+
+    go : (2 ^ 64 - 512 * 2 ^ lowBit level ≤ r .start .0) ⊎ (r .start .0 < 2 ^ 64 - 512 * 2 ^ lowBit level) → r .end .0 - r .start .0 ≤ 2 ^ 48
+    go (inl l) = let a = size-is level in let b = size-high level in omega arith
+    go (inr l) = absurd (either (ltb (r .start .0) (2 ^ 63)) (rw (lt-ltb (r .start .0) (2 ^ 64 - 512 * 2 ^ lowBit level) l) at e))
+
+up-below : (v a : ℕ) → alignUp v a < 2 ^ 64
+unfolding alignUp
+up-below v a = byBool (ltb (up v a) (2 ^ 64)) (λ e. rw e (ltb→lt (up v a) (2 ^ 64) (rw e tt))) (λ e. rw e (omega arith))
+
+pub verified-length : (h : Handle) (start end : ℕ) → verify h (rounded start end) ≡ Accepted → rounded start end .end .0 - rounded start end .start .0 ≤ 2 ^ 48
+unfolding verify rounded
+verified-length h start end e = go (le-or (r .start .0) (r .end .0))
+  where
+    r : MemoryRegion
+    r = rounded start end
+
+    go : (r .start .0 ≤ r .end .0) ⊎ (r .end .0 < r .start .0) → r .end .0 - r .start .0 ≤ 2 ^ 48
+    go (inl l) = verified-range (h .range) (h .level) r (rw (le-ltb (r .end .0) (r .start .0) l) at e) (up-below end 4096)
+    go (inr l) = omega arith

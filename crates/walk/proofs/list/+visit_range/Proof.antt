@@ -144,7 +144,7 @@ visit-range-loop-again t c =
     let lines = lines-other (a .handle .base .0) (a .tables) (a .words .now) (a .level) (a .k) _ (c .before .before .before .before .before .before .get-entry .ensures) (c .before .before .before .before .before .subtable .ensures) (no-table _ (c .before .before .before .before .match2 .keys2)) in
     let step = count-step f _ cut lines in
     let total = ap length (all (at .before)) in
-    (omega (arith, at .loop .inv .0), omega arith, write-step f _ cut lines (at .loop .to) (at .loop .list) (omega (arith, at .loop .inv .0)) (c .before .before .put-line .ensures) ∙ at .loop .inv .2)
+    (omega (arith, at .loop .inv .0), omega arith, write-step f _ cut lines (at .loop .to) (at .loop .list) (omega (arith, at .loop .inv .0)) refl (c .before .before .put-line .ensures) ∙ at .loop .inv .2)
 
 -- src/list.rt:154:52
 visit-range-add-visit-range : (t : ℕ) → visit-range-lts.Need-add-visit-range (calls t) (visit-range-at t) visit-range.Post visit-range-Inv-loop visit-range-μ-loop
@@ -183,7 +183,7 @@ visit-range-loop-again-2 t c =
     let total = ap length (all (at .before)) in
     let to = ap (λ (x : Written). x .to) (c .before .before .visit-range .ensures) in
     let list = ap (λ (x : Written). x .list) (c .before .before .visit-range .ensures) in
-    (omega (arith, at .loop .inv .0), omega arith, ap (λ (x : ℕ). putPart x (numbers (each f (chunksOf _))) _) to ∙ write-step f _ cut lines (at .loop .to) (at .loop .list) (omega (arith, at .loop .inv .0)) list ∙ at .loop .inv .2)
+    (omega (arith, at .loop .inv .0), omega arith, write-step f _ cut lines (at .loop .to) (at .loop .list) (omega (arith, at .loop .inv .0)) to list ∙ at .loop .inv .2)
 
 pub +visit-range-spec : {M : Type 1} → statement M
 +visit-range-spec = close μ-visit-range λ t. visit-range-lts.spec (calls t)

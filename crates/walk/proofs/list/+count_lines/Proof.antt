@@ -4,7 +4,6 @@ use Prim.Native.Nat.{_+_, _-_, _≤_}
 use native.Mathlib.Nat.{zero-add}
 use native.Mathlib.Omega.{arith}
 use lib.ListN.{length}
-use borrow.Author.Needs.{needs}
 use Rattle.entry.specs.Sub.{sub-found}
 use Rattle.entry.proofs.Tags.{no-table}
 use Rattle.region.specs.Chunks.{chunksOf}
@@ -56,7 +55,7 @@ all c =
 
 -- src/list.rt:93:9
 count-lines-count-pages-requires : (t : ℕ) → count-lines-lts.Need-count-pages-requires (calls t) (count-lines-at t) count-lines.Post count-lines-Inv-loop count-lines-μ-loop
-count-lines-count-pages-requires t c κs = search needs
+count-lines-count-pages-requires t c κs = omega arith
 
 -- src/list.rt:93:9
 count-lines-returns : (t : ℕ) → count-lines-lts.Need-returns (calls t) (count-lines-at t) count-lines.Post count-lines-Inv-loop count-lines-μ-loop
@@ -66,7 +65,7 @@ count-lines-returns t c =
 
 -- src/list.rt:96:9
 count-lines-split-requires : (t : ℕ) → count-lines-lts.Need-split-requires (calls t) (count-lines-at t) count-lines.Post count-lines-Inv-loop count-lines-μ-loop
-count-lines-split-requires t c κs = search needs
+count-lines-split-requires t c κs = omega arith
 
 -- src/list.rt:97:5
 count-lines-loop-holds : (t : ℕ) → count-lines-lts.Need-loop-holds (calls t) (count-lines-at t) count-lines.Post count-lines-Inv-loop count-lines-μ-loop
@@ -74,7 +73,7 @@ count-lines-loop-holds t c = zero-add _
 
 -- src/list.rt:98:13
 count-lines-next-requires : (t : ℕ) → count-lines-lts.Need-next-requires (calls t) (count-lines-at t) count-lines.Post count-lines-Inv-loop count-lines-μ-loop
-count-lines-next-requires t c κs = search needs
+count-lines-next-requires t c κs = omega arith
 
 -- src/list.rt:99:30
 count-lines-enum-known-next : (t : ℕ) → count-lines-lts.Need-enum-known-next (calls t) (count-lines-at t) count-lines.Post count-lines-Inv-loop count-lines-μ-loop
@@ -82,7 +81,7 @@ count-lines-enum-known-next t c = c .match .keys1
 
 -- src/list.rt:100:13
 count-lines-enum-told : (t : ℕ) → count-lines-lts.Need-enum-told (calls t) (count-lines-at t) count-lines.Post count-lines-Inv-loop count-lines-μ-loop
-count-lines-enum-told t c = search needs
+count-lines-enum-told t c = omega arith
 
 -- src/list.rt:100:13
 count-lines-returns-2 : (t : ℕ) → count-lines-lts.Need-returns-2 (calls t) (count-lines-at t) count-lines.Post count-lines-Inv-loop count-lines-μ-loop
@@ -96,11 +95,11 @@ count-lines-returns-2 t c =
 
 -- src/list.rt:103:13
 count-lines-get-entry-requires : (t : ℕ) → count-lines-lts.Need-get-entry-requires (calls t) (count-lines-at t) count-lines.Post count-lines-Inv-loop count-lines-μ-loop
-count-lines-get-entry-requires t c κs = search needs
+count-lines-get-entry-requires t c κs = omega arith
 
 -- src/list.rt:104:13
 count-lines-subtable-requires : (t : ℕ) → count-lines-lts.Need-subtable-requires (calls t) (count-lines-at t) count-lines.Post count-lines-Inv-loop count-lines-μ-loop
-count-lines-subtable-requires t c κs = search needs
+count-lines-subtable-requires t c κs = omega arith
 
 -- src/list.rt:105:24
 count-lines-enum-known-kind : (t : ℕ) → count-lines-lts.Need-enum-known-kind (calls t) (count-lines-at t) count-lines.Post count-lines-Inv-loop count-lines-μ-loop

@@ -3,7 +3,6 @@ use mathlib.Core.List.{List, [], _∷_}
 use Prim.Native.Nat.{_+_, _*_, _-_, _≤_}
 use native.Mathlib.Omega.{arith}
 use lib.ListN.{length}
-use borrow.Author.Needs.{needs}
 use Rattle.laws.specs.Part.{putPart}
 use Rattle.entry.specs.Sub.{sub-found}
 use Rattle.entry.proofs.Tags.{no-table}
@@ -59,7 +58,7 @@ all c =
 
 -- src/list.rt:140:9
 visit-range-split-requires : (t : ℕ) → visit-range-lts.Need-split-requires (calls t) (visit-range-at t) visit-range.Post visit-range-Inv-loop visit-range-μ-loop
-visit-range-split-requires t c κs = search needs
+visit-range-split-requires t c κs = omega arith
 
 -- src/list.rt:141:5
 visit-range-loop-holds : (t : ℕ) → visit-range-lts.Need-loop-holds (calls t) (visit-range-at t) visit-range.Post visit-range-Inv-loop visit-range-μ-loop
@@ -67,7 +66,7 @@ visit-range-loop-holds t c = (refl, refl, refl)
 
 -- src/list.rt:142:13
 visit-range-next-requires : (t : ℕ) → visit-range-lts.Need-next-requires (calls t) (visit-range-at t) visit-range.Post visit-range-Inv-loop visit-range-μ-loop
-visit-range-next-requires t c κs = search needs
+visit-range-next-requires t c κs = omega arith
 
 -- src/list.rt:143:30
 visit-range-enum-known-next : (t : ℕ) → visit-range-lts.Need-enum-known-next (calls t) (visit-range-at t) visit-range.Post visit-range-Inv-loop visit-range-μ-loop
@@ -75,7 +74,7 @@ visit-range-enum-known-next t c = c .match .keys1
 
 -- src/list.rt:144:13
 visit-range-enum-told : (t : ℕ) → visit-range-lts.Need-enum-told (calls t) (visit-range-at t) visit-range.Post visit-range-Inv-loop visit-range-μ-loop
-visit-range-enum-told t c = search needs
+visit-range-enum-told t c = omega arith
 
 -- src/list.rt:144:13
 visit-range-same-length : (t : ℕ) → visit-range-lts.Need-same-length (calls t) (visit-range-at t) visit-range.Post visit-range-Inv-loop visit-range-μ-loop
@@ -96,11 +95,11 @@ visit-range-returns t c =
 
 -- src/list.rt:147:13
 visit-range-get-entry-requires : (t : ℕ) → visit-range-lts.Need-get-entry-requires (calls t) (visit-range-at t) visit-range.Post visit-range-Inv-loop visit-range-μ-loop
-visit-range-get-entry-requires t c κs = search needs
+visit-range-get-entry-requires t c κs = omega arith
 
 -- src/list.rt:148:13
 visit-range-subtable-requires : (t : ℕ) → visit-range-lts.Need-subtable-requires (calls t) (visit-range-at t) visit-range.Post visit-range-Inv-loop visit-range-μ-loop
-visit-range-subtable-requires t c κs = search needs
+visit-range-subtable-requires t c κs = omega arith
 
 -- src/list.rt:149:24
 visit-range-enum-known-kind : (t : ℕ) → visit-range-lts.Need-enum-known-kind (calls t) (visit-range-at t) visit-range.Post visit-range-Inv-loop visit-range-μ-loop

@@ -3,7 +3,6 @@ use native.Mathlib.Omega.{arith}
 use borrow.Author.Tests.{lt-ltb}
 use Rattle.laws.specs.Size.{sizeAt}
 use Rattle.region.specs.Chunks.{met, met-none}
-use borrow.Author.Needs.{needs}
 use Rattle.walk.proofs.list.count_pages.Statement.{statement}
 use Rattle.walk.proofs.list.count_pages.Tie as tie
 use Rattle.walk.proofs.list.count_pages.Reads as reads
@@ -15,15 +14,15 @@ returns c = let r = c .before .before .args .region in sym (met-none 3 (r .start
 
 -- src/list.rt:84:7
 sub-result : tie.Need-sub-result
-sub-result c = search needs
+sub-result c = omega arith
 
 -- src/list.rt:84:6
 sub-result-2 : tie.Need-sub-result-2
-sub-result-2 c = search needs
+sub-result-2 c = omega arith
 
 -- src/list.rt:84:6
 add-result : tie.Need-add-result
-add-result c = search needs
+add-result c = omega arith
 
 -- src/list.rt:78:1
 returns-2 : tie.Need-returns-2

@@ -4,7 +4,6 @@ use native.Mathlib.Omega.{arith}
 use lib.ListN.{getD}
 use Rattle.walk.specs.Arm.{fetch}
 use Rattle.walk.specs.Walk.{slot-below}
-use borrow.Author.Needs.{needs}
 use Rattle.walk.proofs.list.get_entry.Statement.{statement}
 use Rattle.walk.proofs.list.get_entry.Tie as tie
 use Rattle.walk.proofs.list.get_entry.Reads as reads
@@ -13,11 +12,11 @@ use Rattle.walk.proofs.list.slot_at.Reads as slot-at-reads
 
 -- src/list.rt:73:9
 slot-at-requires : tie.Need-slot-at-requires
-slot-at-requires c κs = search needs
+slot-at-requires c κs = omega arith
 
 -- src/list.rt:74:11
 mul-result : tie.Need-mul-result
-mul-result c = search needs
+mul-result c = omega arith
 
 -- src/list.rt:74:11
 add-result : tie.Need-add-result

@@ -1,7 +1,6 @@
 use native.Mathlib.Omega.{arith}
 use Rattle.laws.specs.Size.{size-high}
 use Rattle.walk.specs.Listing.{lower-start, lower-end, lower-in, upper-start, upper-in}
-use borrow.Author.Needs.{needs}
 use Rattle.walk.proofs.list.in_range.Statement.{statement}
 use Rattle.walk.proofs.list.in_range.Tie as tie
 use Rattle.walk.proofs.list.in_range.Reads as reads
@@ -10,7 +9,7 @@ use Rattle.address.proofs.granularity_at_level.Reads as granularity-at-level-re
 
 -- src/list.rt:25:22
 granularity-at-level-requires : tie.Need-granularity-at-level-requires
-granularity-at-level-requires c κs = search needs
+granularity-at-level-requires c κs = omega arith
 
 -- src/list.rt:25:16
 mul-span : tie.Need-mul-span
@@ -18,7 +17,7 @@ mul-span c = omega (arith, c .granularity-at-level .ensures, size-high (c .befor
 
 -- src/list.rt:28:16
 enum-told : tie.Need-enum-told
-enum-told c = search needs
+enum-told c = omega arith
 
 -- src/list.rt:29:17
 returns : tie.Need-returns
@@ -34,7 +33,7 @@ returns-2 c =
 
 -- src/list.rt:37:34
 enum-told-2 : tie.Need-enum-told-2
-enum-told-2 c = search needs
+enum-told-2 c = omega arith
 
 -- src/list.rt:37:34
 sub-if3 : tie.Need-sub-if3

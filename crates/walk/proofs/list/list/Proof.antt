@@ -15,7 +15,6 @@ use Rattle.pool.specs.declared.Outcome.the-variants.{Accepted}
 use Rattle.walk.specs.Lines.{Line, numbers, linesFrom, lines-bound, Written, writeLines}
 use Rattle.walk.specs.declared.Listed.the-variants.{Lines, Refused}
 use Rattle.walk.specs.Listing.{verify, endFits, linesOf, listing, listLines, listCall, list-misshaped, list-end, list-region, list-unsound, list-sound, list-short, list-written, end-zero, end-high, end-fits, verified-length}
-use borrow.Author.Needs.{needs}
 use Rattle.walk.proofs.list.list.Statement.{statement}
 use Rattle.walk.proofs.list.list.Tie as tie
 use Rattle.walk.proofs.list.list.Reads as reads
@@ -67,7 +66,7 @@ sound c =
 
 -- src/list.rt:162:9
 is-shaped-requires : tie.Need-is-shaped-requires
-is-shaped-requires c κs = search needs
+is-shaped-requires c κs = omega arith
 
 -- src/list.rt:163:9
 returns : tie.Need-returns
@@ -89,15 +88,15 @@ returns-3 c =
 
 -- src/list.rt:171:9
 new-requires : tie.Need-new-requires
-new-requires c κs = search needs
+new-requires c κs = omega arith
 
 -- src/list.rt:172:9
 verify-region-requires : tie.Need-verify-region-requires
-verify-region-requires c κs = search needs
+verify-region-requires c κs = omega arith
 
 -- src/list.rt:173:29
 enum-known-verified : tie.Need-enum-known-verified
-enum-known-verified c = search needs
+enum-known-verified c = omega arith
 
 -- src/list.rt:174:9
 returns-4 : tie.Need-returns-4
@@ -106,7 +105,7 @@ returns-4 c =
     list-region (a .handle) (st (a .words .now) (a .ledger .now)) (a .start) (a .end) (a .list .now) (good (c .before .before .before .before .before .before .before)) (fits (c .before .before .before .before .before)) _ (ap (verify (a .handle)) (sym (c .before .before .before .before .new .ensures)) ∙ sym (c .before .before .before .verify-region .ensures) ∙ c .before .verified .given .1)
 
 enum-told : tie.Need-enum-told
-enum-told c = search needs
+enum-told c = omega arith
 
 -- src/list.rt:176:9
 is-sound-requires : tie.Need-is-sound-requires
@@ -150,7 +149,7 @@ visit-range-requires c κs =
 
 -- src/list.rt:159:1
 same-length : tie.Need-same-length
-same-length c = search needs
+same-length c = omega arith
 
 -- src/list.rt:159:1
 returns-7 : tie.Need-returns-7

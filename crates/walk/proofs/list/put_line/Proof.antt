@@ -9,19 +9,19 @@ use Rattle.walk.proofs.list.put_line.Lts as lts
 
 -- src/list.rt:119:5
 mul-list : tie.Need-mul-list
-mul-list c = search needs
+mul-list c = omega arith
 
 -- src/list.rt:119:5
 slice-write-list : tie.Need-slice-write-list
-slice-write-list c = search needs
+slice-write-list c = omega arith
 
 -- src/list.rt:120:10
 add-list : tie.Need-add-list
-add-list c = search needs
+add-list c = omega arith
 
 -- src/list.rt:120:5
 mul-list-2 : tie.Need-mul-list-2
-mul-list-2 c = search needs
+mul-list-2 c = omega arith
 
 -- src/list.rt:120:5
 slice-write-list-2 : tie.Need-slice-write-list-2
@@ -29,11 +29,11 @@ slice-write-list-2 c = simp length-set (omega arith)
 
 -- src/list.rt:121:10
 add-list-2 : tie.Need-add-list-2
-add-list-2 c = search needs
+add-list-2 c = omega arith
 
 -- src/list.rt:121:5
 mul-list-3 : tie.Need-mul-list-3
-mul-list-3 c = search needs
+mul-list-3 c = omega arith
 
 -- src/list.rt:121:5
 slice-write-list-3 : tie.Need-slice-write-list-3
@@ -41,11 +41,11 @@ slice-write-list-3 c = simp length-set (omega arith)
 
 -- src/list.rt:122:10
 add-list-3 : tie.Need-add-list-3
-add-list-3 c = search needs
+add-list-3 c = omega arith
 
 -- src/list.rt:122:5
 mul-list-4 : tie.Need-mul-list-4
-mul-list-4 c = search needs
+mul-list-4 c = omega arith
 
 -- src/list.rt:122:5
 slice-write-list-4 : tie.Need-slice-write-list-4

@@ -1,7 +1,6 @@
 use mathlib.Core.Path.{_∙_}
 use native.Mathlib.Omega.{arith}
 use Rattle.walk.specs.Listing.{verify-backwards, verify-forwards}
-use borrow.Author.Needs.{needs}
 use Rattle.walk.proofs.list.verify_region.Statement.{statement}
 use Rattle.walk.proofs.list.verify_region.Tie as tie
 use Rattle.walk.proofs.list.verify_region.Reads as reads
@@ -14,7 +13,7 @@ returns c = let a = c .before .before .args in verify-backwards (a .handle) (a .
 
 -- src/list.rt:53:5
 in-range-requires : tie.Need-in-range-requires
-in-range-requires c κs = search needs
+in-range-requires c κs = omega arith
 
 -- src/list.rt:46:1
 returns-2 : tie.Need-returns-2

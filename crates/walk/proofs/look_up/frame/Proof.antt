@@ -5,7 +5,6 @@ use lib.Bits.{bitAnd, and-le-l, and-le-r}
 use Rattle.laws.specs.Size.{sizeAt, size-low, size-high, size-and, size-offset}
 use Rattle.entry.specs.Word.{addressOf, mask-address, address-below}
 use Rattle.walk.specs.Walk.{frame-masks}
-use borrow.Author.Needs.{needs}
 use Rattle.walk.proofs.look_up.frame.Statement.{statement}
 use Rattle.walk.proofs.look_up.frame.Tie as tie
 use Rattle.walk.proofs.look_up.frame.Reads as reads
@@ -14,7 +13,7 @@ use Rattle.address.proofs.granularity_at_level.Reads as granularity-at-level-re
 
 -- src/look_up.rt:45:17
 granularity-at-level-requires : tie.Need-granularity-at-level-requires
-granularity-at-level-requires c κs = search needs
+granularity-at-level-requires c κs = omega arith
 
 -- src/look_up.rt:45:17
 sub-below : tie.Need-sub-below

@@ -7,7 +7,6 @@ use Rattle.laws.specs.Size.{sizeAt, size-high}
 use Rattle.walk.specs.Arm.{lowBit}
 use Rattle.walk.specs.Walk.{size-is}
 use Rattle.walk.specs.LookUp.{spanned, span-lower, span-upper}
-use borrow.Author.Needs.{needs}
 use Rattle.walk.proofs.look_up.is_spanned.Statement.{statement}
 use Rattle.walk.proofs.look_up.is_spanned.Tie as tie
 use Rattle.walk.proofs.look_up.is_spanned.Reads as reads
@@ -16,7 +15,7 @@ use Rattle.address.proofs.granularity_at_level.Reads as granularity-at-level-re
 
 -- src/look_up.rt:34:22
 granularity-at-level-requires : tie.Need-granularity-at-level-requires
-granularity-at-level-requires c κs = search needs
+granularity-at-level-requires c κs = omega arith
 
 -- src/look_up.rt:34:16
 mul-span : tie.Need-mul-span
@@ -24,11 +23,11 @@ mul-span c = omega (arith, c .granularity-at-level .ensures, size-high (c .befor
 
 -- src/look_up.rt:36:27
 enum-told : tie.Need-enum-told
-enum-told c = search needs
+enum-told c = omega arith
 
 -- src/look_up.rt:37:27
 enum-told-2 : tie.Need-enum-told-2
-enum-told-2 c = search needs
+enum-told-2 c = omega arith
 
 -- src/look_up.rt:37:27
 sub-result : tie.Need-sub-result

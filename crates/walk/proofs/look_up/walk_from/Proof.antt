@@ -42,7 +42,7 @@ word c = fetch-is (c .before .before .before .args .words .now) (c .before .befo
 
 -- src/look_up.rt:76:17
 slots-of-requires : tie.Need-slots-of-requires Inv-loop μ-loop
-slots-of-requires c κs = search needs
+slots-of-requires c κs = omega arith
 
 -- src/look_up.rt:79:5
 loop-holds : tie.Need-loop-holds Inv-loop μ-loop
@@ -55,7 +55,7 @@ mul-slot c = omega arith
 
 -- src/look_up.rt:80:20
 array-read-slot : tie.Need-array-read-slot Inv-loop μ-loop
-array-read-slot c = search needs
+array-read-slot c = omega arith
 
 -- src/look_up.rt:80:20
 cast-slot : tie.Need-cast-slot Inv-loop μ-loop
@@ -79,7 +79,7 @@ shared-slice-read-word c = let h = slot (c .before) in omega arith
 
 -- src/look_up.rt:82:13
 subtable-requires : tie.Need-subtable-requires Inv-loop μ-loop
-subtable-requires c κs = search needs
+subtable-requires c κs = omega arith
 
 -- src/look_up.rt:83:24
 enum-known-kind : tie.Need-enum-known-kind Inv-loop μ-loop
@@ -87,7 +87,7 @@ enum-known-kind c = c .match .keys1
 
 -- src/look_up.rt:85:40
 enum-told : tie.Need-enum-told Inv-loop μ-loop
-enum-told c = search needs
+enum-told c = omega arith
 
 -- src/look_up.rt:85:17
 returns : tie.Need-returns Inv-loop μ-loop
@@ -100,7 +100,7 @@ returns c =
 
 -- src/look_up.rt:87:13
 leaf-requires : tie.Need-leaf-requires Inv-loop μ-loop
-leaf-requires c κs = search needs
+leaf-requires c κs = omega arith
 
 -- src/look_up.rt:87:13
 returns-2 : tie.Need-returns-2 Inv-loop μ-loop

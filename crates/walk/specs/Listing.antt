@@ -43,8 +43,12 @@ inRange Upper level r =
     cond (ltb (r .start .0) (2 ^ 63) || ltb (r .start .0) (2 ^ 64 - 512 * 2 ^ lowBit level)) (Refused (AddressRange (r .start))) Accepted
 
 -- `verify_region`: refusals 5, 6 of a rounded region
-unfoldable pub verify : Handle → MemoryRegion → Outcome
-verify h r = cond (ltb (r .end .0) (r .start .0)) (Refused (RegionBackwards r)) (inRange (h .range) (h .level) r)
+unfoldable pub verifyRegion : Handle → MemoryRegion → Outcome
+verifyRegion h r = cond (ltb (r .end .0) (r .start .0)) (Refused (RegionBackwards r)) (inRange (h .range) (h .level) r)
+
+-- refusals 2, 5, 6
+unfoldable pub verifyEnds : Handle → ℕ → ℕ → Outcome
+verifyEnds h start end = cond (endFits end) (verifyRegion h (rounded start end)) (Refused (End end))
 
 -- the answer and the list
 pub record Listing : Type 0 where
@@ -58,23 +62,24 @@ listing a l = record { answer = a; list = l }
 unfoldable pub put : List Line → List ℕ → List ℕ
 put ls list = numbers ls ++ drop (4 * length ls) list
 
--- the lines of a region, in a pool that is sound
-unfoldable pub linesOf : Handle → St → MemoryRegion → List Line
-linesOf h s r = linesFrom (h .base .0) (tables s) (s .words) (3 - h .level) 0 r
-
+-- refusal 11
 unfoldable pub listLines : List Line → List ℕ → Listing
 listLines ls list = cond (leb (4 * length ls) (length list)) (listing (Lines (length ls)) (put ls list)) (listing (refused (Short (4 * length ls))) list)
 
+-- the lines of a region down from the root
+unfoldable pub linesOf : Handle → St → MemoryRegion → List Line
+linesOf h s r = linesFrom (h .base .0) (tables s) (s .words) (3 - h .level) 0 r
+
+-- refusal 8
+unfoldable pub listSound : Handle → St → MemoryRegion → List ℕ → Listing
+listSound h s r list = let ls = listLines (linesOf h s r) list in cond (soundb h s) ls (listing (refused Unsound) list)
+
 unfoldable pub listVerified : Handle → St → MemoryRegion → List ℕ → Outcome → Listing
 listVerified h s r list (Refused x) = listing (refused x) list
-listVerified h s r list Accepted = let ls = listLines (linesOf h s r) list in cond (soundb h s) ls (listing (refused Unsound) list)
+listVerified h s r list Accepted = listSound h s r list
 
 unfoldable pub listCall : Handle → St → ℕ → ℕ → List ℕ → Listing
-listCall h s start end list =
-    let r = rounded start end in
-    cond (shaped h s)
-    (cond (endFits end) (listVerified h s r list (verify h r)) (listing (refused (End end)) list))
-    (listing (refused Shape) list)
+listCall h s start end list = cond (shaped h s) (listVerified h s (rounded start end) list (verifyEnds h start end)) (listing (refused Shape) list)
 
 -- ---- laws: one for each way through the code
 
@@ -83,24 +88,24 @@ module _ (h : Handle) (s : St) (start end : ℕ) (list : List ℕ) where
   unfolding listCall
   list-misshaped e = rw e
 
-  module _ (shape : shaped h s ≡ true) where
-    pub list-end : endFits end ≡ false → listing (refused (End end)) list ≡ listCall h s start end list
+  module _ (shape : shaped h s ≡ true) {x : Outcome} (is : x ≡ verifyEnds h start end) where
+    chosen : (y : Outcome) → x ≡ y → listVerified h s (rounded start end) list y ≡ listCall h s start end list
     unfolding listCall
-    list-end e = rw (shape, e)
+    chosen y e = rw shape (ap (listVerified h s (rounded start end) list) (sym e ∙ is))
 
-    module _ (fits : endFits end ≡ true) where
-      pub list-region : (x : Refusal) → verify h (rounded start end) ≡ Refused x → listing (refused x) list ≡ listCall h s start end list
-      unfolding listCall listVerified
-      list-region x e = rw (shape, fits, e)
+    pub list-region : (r : Refusal) → x ≡ Refused r → listing (refused r) list ≡ listCall h s start end list
+    unfolding listVerified
+    list-region r e = chosen (Refused r) e
 
-      module _ (region : verify h (rounded start end) ≡ Accepted) where
-        pub list-unsound : soundb h s ≡ false → listing (refused Unsound) list ≡ listCall h s start end list
-        unfolding listCall listVerified
-        list-unsound e = rw (shape, fits, region, e)
+    module _ (region : x ≡ Accepted) where
+      pub list-unsound : soundb h s ≡ false → listing (refused Unsound) list ≡ listCall h s start end list
+      unfolding listVerified listSound
+      list-unsound e = rw (← chosen Accepted region, e)
 
-        pub list-sound : soundb h s ≡ true → listLines (linesOf h s (rounded start end)) list ≡ listCall h s start end list
-        unfolding listCall listVerified
-        list-sound e = rw (shape, fits, region, e)
+      pub list-sound : soundb h s ≡ true → {r : MemoryRegion} → r ≡ rounded start end
+          → listLines (linesFrom (h .base .0) (tables s) (s .words) (3 - h .level) 0 r) list ≡ listCall h s start end list
+      unfolding listVerified listSound linesOf
+      list-sound e q = rw (← chosen Accepted region, e, q)
 
 -- `verify_region`, by the size of an entry
 module _ (range : VaRange) (level : ℕ) (r : MemoryRegion) {g : ℕ} (size : g ≡ sizeAt level) where
@@ -133,27 +138,28 @@ module _ (range : VaRange) (level : ℕ) (r : MemoryRegion) {g : ℕ} (size : g 
       let h = size-high level in
       rw (e, ← span, le-ltb (r .start .0) (2 ^ 63) (omega arith), le-ltb (r .start .0) (2 ^ 64 - 512 * g) (omega arith))
 
-pub verify-backwards : (h : Handle) (r : MemoryRegion) → r .end .0 < r .start .0 → Refused (RegionBackwards r) ≡ verify h r
-unfolding verify
+pub verify-backwards : (h : Handle) (r : MemoryRegion) → r .end .0 < r .start .0 → Refused (RegionBackwards r) ≡ verifyRegion h r
+unfolding verifyRegion
 verify-backwards h r l = rw (lt-ltb (r .end .0) (r .start .0) l)
 
-pub verify-forwards : (h : Handle) (r : MemoryRegion) → r .start .0 ≤ r .end .0 → inRange (h .range) (h .level) r ≡ verify h r
-unfolding verify
+pub verify-forwards : (h : Handle) (r : MemoryRegion) → r .start .0 ≤ r .end .0 → inRange (h .range) (h .level) r ≡ verifyRegion h r
+unfolding verifyRegion
 verify-forwards h r l = rw (le-ltb (r .end .0) (r .start .0) l)
 
 -- ---- refusals 2 and 11
 
-pub end-zero : (end : ℕ) → end ≡ 0 → endFits end ≡ false
-unfolding endFits
-end-zero end e = rw e
+module _ (h : Handle) (start end : ℕ) where
+  pub end-zero : end ≡ 0 → Refused (End end) ≡ verifyEnds h start end
+  unfolding verifyEnds endFits
+  end-zero e = rw e
 
-pub end-high : (end : ℕ) → 18446744073709547520 < end → endFits end ≡ false
-unfolding endFits
-end-high end l = rw (le-leb 1 end (omega arith), lt-leb end 18446744073709547520 l)
+  pub end-high : 18446744073709547520 < end → Refused (End end) ≡ verifyEnds h start end
+  unfolding verifyEnds endFits
+  end-high l = rw (le-leb 1 end (omega arith), lt-leb end 18446744073709547520 l)
 
-pub end-fits : (end : ℕ) → (end ≡ 0 → ⊥) → end ≤ 18446744073709547520 → endFits end ≡ true
-unfolding endFits
-end-fits end n l = rw (le-leb 1 end (omega arith), le-leb end 18446744073709547520 l)
+  pub end-fits : (end ≡ 0 → ⊥) → end ≤ 18446744073709547520 → {r : MemoryRegion} → r ≡ rounded start end → verifyRegion h r ≡ verifyEnds h start end
+  unfolding verifyEnds endFits
+  end-fits n l e = rw (le-leb 1 end (omega arith), le-leb end 18446744073709547520 l, e)
 
 pub list-short : (ls : List Line) (list : List ℕ) → length list < 4 * length ls → listing (refused (Short (4 * length ls))) list ≡ listLines ls list
 unfolding listLines
@@ -192,13 +198,17 @@ up-below : (v a : ℕ) → alignUp v a < 2 ^ 64
 unfolding alignUp
 up-below v a = byBool (ltb (up v a) (2 ^ 64)) (λ e. rw e (ltb→lt (up v a) (2 ^ 64) (rw e tt))) (λ e. rw e (omega arith))
 
-pub verified-length : (h : Handle) (start end : ℕ) → verify h (rounded start end) ≡ Accepted → rounded start end .end .0 - rounded start end .start .0 ≤ 2 ^ 48
-unfolding verify rounded
-verified-length h start end e = go (le-or (r .start .0) (r .end .0))
+verified-region : (h : Handle) (r : MemoryRegion) → verifyRegion h r ≡ Accepted → r .end .0 < 2 ^ 64 → r .end .0 - r .start .0 ≤ 2 ^ 48
+unfolding verifyRegion
+verified-region h r e below = go (le-or (r .start .0) (r .end .0))
   where
-    r : MemoryRegion
-    r = rounded start end
-
     go : (r .start .0 ≤ r .end .0) ⊎ (r .end .0 < r .start .0) → r .end .0 - r .start .0 ≤ 2 ^ 48
-    go (inl l) = verified-range (h .range) (h .level) r (rw (le-ltb (r .end .0) (r .start .0) l) at e) (up-below end 4096)
+    go (inl l) = verified-range (h .range) (h .level) r (rw (le-ltb (r .end .0) (r .start .0) l) at e) below
     go (inr l) = omega arith
+
+pub verified-length : (h : Handle) (start end : ℕ) → verifyEnds h start end ≡ Accepted → {r : MemoryRegion} → r ≡ rounded start end → r .end .0 - r .start .0 ≤ 2 ^ 48
+unfolding verifyEnds rounded
+verified-length h start end e q = rw q (byBool (endFits end) (λ f. verified-region h (rounded start end) (rw f at e) (up-below end 4096)) (λ f. absurd (never (rw f at e))))
+  where
+    never : {x : Refusal} → _≡_ {A = Outcome} (Refused x) Accepted → ⊥
+    never q = let z : _≡_ {A = ℕ} 0 1 = cc in omega arith

@@ -17,7 +17,7 @@ ghost use Rattle.region.specs.Chunks.{met};
 ghost use Rattle.pool.specs.State.{st};
 ghost use Rattle.walk.specs.Arm.{index, fetch};
 ghost use Rattle.walk.specs.Lines.{line, numbers, linesFrom, written, writeLines};
-ghost use Rattle.walk.specs.Listing.{verify, inRange, listing, listCall};
+ghost use Rattle.walk.specs.Listing.{inRange, verifyRegion, verifyEnds, listing, listLines, listCall};
 
 // Whether the region lies in the root's span.
 fn in_range(range: VaRange, level: usize, region: MemoryRegion) -> Outcome
@@ -45,13 +45,26 @@ fn in_range(range: VaRange, level: usize, region: MemoryRegion) -> Outcome
 
 // Whether a rounded region can be asked for at all.
 pub fn verify_region(handle: Handle, region: MemoryRegion) -> Outcome
-    ensures { λ r. ⌜ r ≡ verify handle region ⌝ }
+    ensures { λ r. ⌜ r ≡ verifyRegion handle region ⌝ }
 {
     if region.end.0 < region.start.0 {
         return Outcome::Refused(Refusal::RegionBackwards(region));
     }
     let range = handle.range;
     in_range(range, handle.level, region)
+}
+
+// Whether the region that the two numbers touch can be asked for.
+fn verify(handle: Handle, start: u64, end: u64) -> Outcome
+    ensures { λ r. ⌜ r ≡ verifyEnds handle start end ⌝ }
+{
+    if end == 0 {
+        return Outcome::Refused(Refusal::End(end));
+    }
+    if 0xFFFF_FFFF_FFFF_F000 < end {
+        return Outcome::Refused(Refusal::End(end));
+    }
+    verify_region(handle, MemoryRegion::new(start, end))
 }
 
 // The slot of an address in a table of this level.
@@ -155,6 +168,19 @@ fn visit_range(
     }
 }
 
+// The lines of the region down from the root, if the list has room for them.
+fn list_lines(words: &[u64], tables: usize, handle: Handle, region: MemoryRegion, list: &mut [u64]) -> Listed
+    requires { ⌜ (length (now words) ≡ 512 * tables) × (1 ≤ tables) × (handle .level ≤ 3) × (region .end .0 - region .start .0 ≤ 2 ^ 48) ⌝ }
+    ensures { λ r. ⌜ listing r (now (list .exit)) ≡ listLines (linesFrom (handle .base .0) tables (now (words .entry)) (3 - handle .level) 0 region) (now (list .entry)) ⌝ }
+{
+    let count = count_lines(words, tables, handle, 0, handle.level, region);
+    if list.len() / 4 < count {
+        return Listed::Refused(Refusal::Short(4 * (count as u64)));
+    }
+    visit_range(words, tables, handle, 0, handle.level, region, list, 0);
+    Listed::Lines(count)
+}
+
 // Lists the entries that the region meets: start, end, word and level of each.
 pub fn list(words: &[u64], ledger: &[u32], handle: Handle, start: u64, end: u64, list: &mut [u64]) -> Listed
     ensures { λ r. ⌜ listing r (now (list .exit)) ≡ listCall handle (st (now (words .entry)) (now (ledger .entry))) start end (now (list .entry)) ⌝ }
@@ -162,24 +188,12 @@ pub fn list(words: &[u64], ledger: &[u32], handle: Handle, start: u64, end: u64,
     if !pool::shape::is_shaped(words, ledger, handle) {
         return Listed::Refused(Refusal::Shape);
     }
-    if end == 0 {
-        return Listed::Refused(Refusal::End(end));
-    }
-    if 0xFFFF_FFFF_FFFF_F000 < end {
-        return Listed::Refused(Refusal::End(end));
-    }
-    let region = MemoryRegion::new(start, end);
-    let verified = verify_region(handle, region);
+    let verified = verify(handle, start, end);
     if let Outcome::Refused(refusal) = verified {
         return Listed::Refused(refusal);
     }
     if !checker::is_sound(words, ledger, handle) {
         return Listed::Refused(Refusal::Unsound);
     }
-    let count = count_lines(words, ledger.len(), handle, 0, handle.level, region);
-    if list.len() / 4 < count {
-        return Listed::Refused(Refusal::Short(4 * (count as u64)));
-    }
-    visit_range(words, ledger.len(), handle, 0, handle.level, region, list, 0);
-    Listed::Lines(count)
+    list_lines(words, ledger.len(), handle, MemoryRegion::new(start, end), list)
 }

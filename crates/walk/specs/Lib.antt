@@ -5,3 +5,4 @@ pub mod Page
 pub mod LookUp
 pub mod Lines
 pub mod Listing
+pub mod Cover

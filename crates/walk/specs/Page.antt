@@ -93,10 +93,10 @@ same-above va vb above level h l e =
     ap (λ (s : ℕ). va / s) (larger above level h l) ∙ sym (div-div-eq-div-mul va (sizeAt level) entries) ∙ ap (λ (q : ℕ). q / entries) e
     ∙ div-div-eq-div-mul vb (sizeAt level) entries ∙ ap (λ (s : ℕ). vb / s) (sym (larger above level h l))
 
-same-index : (words : List ℕ) (va vb above level k : ℕ) → above ≤ level → level ≤ 3 → va / sizeAt level ≡ vb / sizeAt level
+pub same-fetch : (words : List ℕ) (va vb above level k : ℕ) → above ≤ level → level ≤ 3 → va / sizeAt level ≡ vb / sizeAt level
     → fetch words va above k ≡ fetch words vb above k
 unfolding fetch
-same-index words va vb above level k h l e =
+same-fetch words va vb above level k h l e =
     ap (λ (i : ℕ). getD words (512 * k + i) 0) (index-is above va ∙ ap (λ (q : ℕ). q % 512) (same-above va vb above level h l e) ∙ sym (index-is above vb))
 
 -- what one address of an entry reaches, each does
@@ -106,10 +106,10 @@ module _ (base n : ℕ) (words : List ℕ) (va vb : ℕ) where
   unfolding reachFrom
   reach-same zero k {level} {w} h e q =
       let l : 3 ≡ level = cc in
-      ap (at 3) (sym (same-index words va vb 3 level k (omega arith) (omega arith) e)) ∙ q
+      ap (at 3) (sym (same-fetch words va vb 3 level k (omega arith) (omega arith) e)) ∙ q
   reach-same (suc left) k {level} {w} h e q =
       let d = reach-ended base n words va (suc left) k h q in
-      let same = same-index words va vb (2 - left) level k (omega (arith, d .below)) (d .above) e in
+      let same = same-fetch words va vb (2 - left) level k (omega (arith, d .below)) (d .above) e in
       sym (ap on same) ∙ go (eqb (bits 1 0 x) 3) (leb base (tableAddress x) && ltb (tableAddress x) (base + 4096 * n)) (reach-same left ((tableAddress x - base) / 4096) (omega arith) e) q
     where
       x : ℕ

@@ -61,9 +61,9 @@ module _ (base n : ℕ) (words : List ℕ) where
 
   -- one chunk of table k
   module _ (level k : ℕ) (here : level ≤ 3)
-    (below : (j : ℕ) (r : MemoryRegion) → level < 3 → r .start .0 ≤ r .end .0
+      (below : (j : ℕ) (r : MemoryRegion) → level < 3 → r .start .0 ≤ r .end .0
       → Covers (Meets (3 - (level + 1)) j) (r .end .0) (r .start .0) (linesFrom base n words (3 - (level + 1)) j r))
-    (r : MemoryRegion) (some : r .start .0 < r .end .0) (within : r .end .0 ≤ entryLast level (r .start .0) + 1) where
+      (r : MemoryRegion) (some : r .start .0 < r .end .0) (within : r .end .0 ≤ entryLast level (r .start .0) + 1) where
     abbrev w : ℕ
     w = fetch words (r .start .0) level k
 
@@ -77,9 +77,11 @@ module _ (base n : ℕ) (words : List ℕ) where
     chunk-covers : (x : Sub) → subOf base n level w ≡ x → Covers (Meets (3 - level) k) (r .end .0) (r .start .0) (linesAt base n words level k r)
     chunk-covers (Table j) e =
         rw (lines-table base n words level k r refl refl j e)
-        (covers-map {from = r .start .0} (omega arith) (λ l from to p. record { meets = λ a s u stays.
-          let on = reach-table base n words a level k here (same a (omega arith) (omega arith)) j e in
-          on ∙ p .meets a s u (λ q. stays (on ∙ q)) })
+        (covers-map {from = r .start .0} (omega arith) (λ l from to p. record {
+          meets = λ a s u stays.
+              let on = reach-table base n words a level k here (same a (omega arith) (omega arith)) j e in
+              on ∙ p .meets a s u (λ q. stays (on ∙ q));
+        })
         (below j r (sub-found base n level w j e .high) (omega arith)))
     chunk-covers Outside e =
         rw (lines-other base n words level k r refl refl (inl e))
@@ -90,7 +92,7 @@ module _ (base n : ℕ) (words : List ℕ) where
 
   region-covers : (level k : ℕ) (here : level ≤ 3)
       → ((j : ℕ) (r : MemoryRegion) → level < 3 → r .start .0 ≤ r .end .0
-        → Covers (Meets (3 - (level + 1)) j) (r .end .0) (r .start .0) (linesFrom base n words (3 - (level + 1)) j r))
+      → Covers (Meets (3 - (level + 1)) j) (r .end .0) (r .start .0) (linesFrom base n words (3 - (level + 1)) j r))
       → (r : MemoryRegion) → r .start .0 ≤ r .end .0 → Covers (Meets (3 - level) k) (r .end .0) (r .start .0) (linesFrom base n words (3 - level) k r)
   region-covers level k here below r l =
       rw (lines-each base n words level k r here)

@@ -99,7 +99,14 @@ fn count_pages(region: MemoryRegion) -> usize
 }
 
 // How many lines the region gives in table k. A table of pages is not read for it.
-fn count_lines(words: &[u64], tables: usize, handle: Handle, k: usize, level: usize, region: MemoryRegion) -> usize
+fn count_lines(
+    words: &[u64],
+    tables: usize,
+    handle: Handle,
+    k: usize,
+    level: usize,
+    region: MemoryRegion,
+) -> usize
     requires { ⌜ (length (now words) ≡ 512 * tables) × (k < tables) × (level ≤ 3) × (length (linesFrom (handle .base .0) tables (now words) (3 - level) k region) < 2 ^ 64) ⌝ }
     ensures { λ r. ⌜ r ≡ length (linesFrom (handle .base .0) tables (now (words .entry)) (3 - level) k region) ⌝ }
 {
@@ -169,7 +176,13 @@ fn visit_range(
 }
 
 // The lines of the region down from the root, if the list has room for them.
-fn list_lines(words: &[u64], tables: usize, handle: Handle, region: MemoryRegion, list: &mut [u64]) -> Listed
+fn list_lines(
+    words: &[u64],
+    tables: usize,
+    handle: Handle,
+    region: MemoryRegion,
+    list: &mut [u64],
+) -> Listed
     requires { ⌜ (length (now words) ≡ 512 * tables) × (1 ≤ tables) × (handle .level ≤ 3) × (region .end .0 - region .start .0 ≤ 2 ^ 48) ⌝ }
     ensures { λ r. ⌜ listing r (now (list .exit)) ≡ listLines (linesFrom (handle .base .0) tables (now (words .entry)) (3 - handle .level) 0 region) (now (list .entry)) ⌝ }
 {
@@ -182,7 +195,14 @@ fn list_lines(words: &[u64], tables: usize, handle: Handle, region: MemoryRegion
 }
 
 // Lists the entries that the region meets: start, end, word and level of each.
-pub fn list(words: &[u64], ledger: &[u32], handle: Handle, start: u64, end: u64, list: &mut [u64]) -> Listed
+pub fn list(
+    words: &[u64],
+    ledger: &[u32],
+    handle: Handle,
+    start: u64,
+    end: u64,
+    list: &mut [u64],
+) -> Listed
     ensures { λ r. ⌜ listing r (now (list .exit)) ≡ listCall handle (st (now (words .entry)) (now (ledger .entry))) start end (now (list .entry)) ⌝ }
 {
     if !pool::shape::is_shaped(words, ledger, handle) {
@@ -195,5 +215,11 @@ pub fn list(words: &[u64], ledger: &[u32], handle: Handle, start: u64, end: u64,
     if !checker::is_sound(words, ledger, handle) {
         return Listed::Refused(Refusal::Unsound);
     }
-    list_lines(words, ledger.len(), handle, MemoryRegion::new(start, end), list)
+    list_lines(
+        words,
+        ledger.len(),
+        handle,
+        MemoryRegion::new(start, end),
+        list,
+    )
 }

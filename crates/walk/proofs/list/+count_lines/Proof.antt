@@ -44,7 +44,6 @@ count-lines-Inv-loop words tables handle k level count₀ rest₀ count rest =
 abbrev count-lines-μ-loop : count-lines-lts.MeasureT-loop
 count-lines-μ-loop words tables handle k level count₀ rest₀ count rest = length (chunksOf rest)
 
-
 -- all the lines, by the chunks at entry
 all : {t : ℕ} (c : count-lines-lts.After-split (calls t) (count-lines-at t) count-lines.Post count-lines-Inv-loop count-lines-μ-loop) → let a = c .before .before .before .args in
     length (linesFrom (a .handle .base .0) (a .tables) (a .words .now) (3 - a .level) (a .k) (a .region)) ≡ length (each (linesAt (a .handle .base .0) (a .tables) (a .words .now) (a .level) (a .k)) (chunksOf (c .split .result)))
@@ -59,7 +58,7 @@ count-lines-count-pages-requires t c κs = omega arith
 
 -- src/list.rt:93:9
 count-lines-returns : (t : ℕ) → count-lines-lts.Need-returns (calls t) (count-lines-at t) count-lines.Post count-lines-Inv-loop count-lines-μ-loop
-count-lines-returns t c = 
+count-lines-returns t c =
     let a = c .before .before .before .args in
     c .count-pages .ensures ∙ lines-pages (a .handle .base .0) (a .tables) (a .words .now) (a .level) (a .k) (a .region) (c .before .if1 .taken)
 
@@ -85,7 +84,7 @@ count-lines-enum-told t c = omega arith
 
 -- src/list.rt:100:13
 count-lines-returns-2 : (t : ℕ) → count-lines-lts.Need-returns-2 (calls t) (count-lines-at t) count-lines.Post count-lines-Inv-loop count-lines-μ-loop
-count-lines-returns-2 t c = 
+count-lines-returns-2 t c =
     let at = c .before .before .before in
     let a = at .before .before .before .before .args in
     let none = next-none (at .loop .rest) (c .before .before .next .ensures) (c .enum-told .given .1) in
@@ -107,7 +106,7 @@ count-lines-enum-known-kind t c = c .match2 .keys1
 
 -- src/list.rt:106:13
 count-lines-add-count : (t : ℕ) → count-lines-lts.Need-add-count (calls t) (count-lines-at t) count-lines.Post count-lines-Inv-loop count-lines-μ-loop
-count-lines-add-count t c = 
+count-lines-add-count t c =
     let at = c .before .before .before .before .before .before .before in
     let a = at .before .before .before .before .args in
     let f = linesAt (a .handle .base .0) (a .tables) (a .words .now) (a .level) (a .k) in
@@ -123,7 +122,7 @@ count-lines-loop-less t c = let cut = ap length (next-chunk (c .before .before .
 
 -- src/list.rt:97:5
 count-lines-loop-again : (t : ℕ) → count-lines-lts.Need-loop-again (calls t) (count-lines-at t) count-lines.Post count-lines-Inv-loop count-lines-μ-loop
-count-lines-loop-again t c = 
+count-lines-loop-again t c =
     let at = c .before .before .before .before .before .before .before in
     let a = at .before .before .before .before .args in
     let f = linesAt (a .handle .base .0) (a .tables) (a .words .now) (a .level) (a .k) in
@@ -135,13 +134,13 @@ count-lines-loop-again t c =
 
 -- src/list.rt:109:56
 count-lines-add-count-lines : (t : ℕ) → count-lines-lts.Need-add-count-lines (calls t) (count-lines-at t) count-lines.Post count-lines-Inv-loop count-lines-μ-loop
-count-lines-add-count-lines t c = 
+count-lines-add-count-lines t c =
     let found = sub-found _ _ _ _ _ (sym (c .before .before .before .subtable .ensures) ∙ c .before .kind .given .1) in
     omega (arith, found .high)
 
 -- src/list.rt:109:18
 count-lines-count-lines-requires : (t : ℕ) → count-lines-lts.Need-count-lines-requires (calls t) (count-lines-at t) count-lines.Post count-lines-Inv-loop count-lines-μ-loop
-count-lines-count-lines-requires t c κs = 
+count-lines-count-lines-requires t c κs =
     let at = c .before .before .before .before .before .before .before .before .before in
     let a = at .before .before .before .before .args in
     let f = linesAt (a .handle .base .0) (a .tables) (a .words .now) (a .level) (a .k) in
@@ -155,7 +154,7 @@ count-lines-count-lines-requires t c κs =
 
 -- src/list.rt:109:9
 count-lines-add-count-2 : (t : ℕ) → count-lines-lts.Need-add-count-2 (calls t) (count-lines-at t) count-lines.Post count-lines-Inv-loop count-lines-μ-loop
-count-lines-add-count-2 t c = 
+count-lines-add-count-2 t c =
     let at = c .before .before .before .before .before .before .before .before .before .before in
     let a = at .before .before .before .before .args in
     let f = linesAt (a .handle .base .0) (a .tables) (a .words .now) (a .level) (a .k) in
@@ -171,7 +170,7 @@ count-lines-loop-less-2 t c = let cut = ap length (next-chunk (c .before .before
 
 -- src/list.rt:97:5
 count-lines-loop-again-2 : (t : ℕ) → count-lines-lts.Need-loop-again-2 (calls t) (count-lines-at t) count-lines.Post count-lines-Inv-loop count-lines-μ-loop
-count-lines-loop-again-2 t c = 
+count-lines-loop-again-2 t c =
     let at = c .before .before .before .before .before .before .before .before .before .before in
     let a = at .before .before .before .before .args in
     let f = linesAt (a .handle .base .0) (a .tables) (a .words .now) (a .level) (a .k) in

@@ -47,7 +47,6 @@ visit-range-Inv-loop words tables handle k level list₀ from to₀ rest₀ list
 abbrev visit-range-μ-loop : visit-range-lts.MeasureT-loop
 visit-range-μ-loop words tables handle k level list₀ from to₀ rest₀ list to rest = length (chunksOf rest)
 
-
 -- all the lines, by the chunks at entry
 all : {t : ℕ} (c : visit-range-lts.After-split (calls t) (visit-range-at t) visit-range.Post visit-range-Inv-loop visit-range-μ-loop) → let a = c .before .before .before .args in
     linesFrom (a .handle .base .0) (a .tables) (a .words .now) (3 - a .level) (a .k) (a .region) ≡ each (linesAt (a .handle .base .0) (a .tables) (a .words .now) (a .level) (a .k)) (chunksOf (c .split .result))
@@ -83,7 +82,7 @@ visit-range-same-length t c = c .before .before .before .loop .inv .1
 -- src/list.rt:144:13
 visit-range-returns : (t : ℕ) → visit-range-lts.Need-returns (calls t) (visit-range-at t) visit-range.Post visit-range-Inv-loop visit-range-μ-loop
 unfolding writeLines
-visit-range-returns t c = 
+visit-range-returns t c =
     let at = c .before .before .before in
     let a = at .before .before .before .before .args in
     let f = linesAt (a .handle .base .0) (a .tables) (a .words .now) (a .level) (a .k) in
@@ -107,7 +106,7 @@ visit-range-enum-known-kind t c = c .match2 .keys1
 
 -- src/list.rt:150:13
 visit-range-put-line-requires : (t : ℕ) → visit-range-lts.Need-put-line-requires (calls t) (visit-range-at t) visit-range.Post visit-range-Inv-loop visit-range-μ-loop
-visit-range-put-line-requires t c κs = 
+visit-range-put-line-requires t c κs =
     let at = c .before .before .before .before .before .before .before .before in
     let a = at .before .before .before .before .args in
     let f = linesAt (a .handle .base .0) (a .tables) (a .words .now) (a .level) (a .k) in
@@ -119,7 +118,7 @@ visit-range-put-line-requires t c κs =
 
 -- src/list.rt:151:13
 visit-range-add-to : (t : ℕ) → visit-range-lts.Need-add-to (calls t) (visit-range-at t) visit-range.Post visit-range-Inv-loop visit-range-μ-loop
-visit-range-add-to t c = 
+visit-range-add-to t c =
     let at = c .before .before .before .before .before .before .before .before .before .before .before in
     let a = at .before .before .before .before .args in
     let f = linesAt (a .handle .base .0) (a .tables) (a .words .now) (a .level) (a .k) in
@@ -135,7 +134,7 @@ visit-range-loop-less t c = let cut = ap length (next-chunk (c .before .before .
 
 -- src/list.rt:141:5
 visit-range-loop-again : (t : ℕ) → visit-range-lts.Need-loop-again (calls t) (visit-range-at t) visit-range.Post visit-range-Inv-loop visit-range-μ-loop
-visit-range-loop-again t c = 
+visit-range-loop-again t c =
     let at = c .before .before .before .before .before .before .before .before .before .before .before in
     let a = at .before .before .before .before .args in
     let f = linesAt (a .handle .base .0) (a .tables) (a .words .now) (a .level) (a .k) in
@@ -147,13 +146,13 @@ visit-range-loop-again t c =
 
 -- src/list.rt:154:52
 visit-range-add-visit-range : (t : ℕ) → visit-range-lts.Need-add-visit-range (calls t) (visit-range-at t) visit-range.Post visit-range-Inv-loop visit-range-μ-loop
-visit-range-add-visit-range t c = 
+visit-range-add-visit-range t c =
     let found = sub-found _ _ _ _ _ (sym (c .before .before .before .subtable .ensures) ∙ c .before .kind .given .1) in
     omega (arith, found .high)
 
 -- src/list.rt:154:9
 visit-range-visit-range-requires : (t : ℕ) → visit-range-lts.Need-visit-range-requires (calls t) (visit-range-at t) visit-range.Post visit-range-Inv-loop visit-range-μ-loop
-visit-range-visit-range-requires t c κs = 
+visit-range-visit-range-requires t c κs =
     let at = c .before .before .before .before .before .before .before .before .before .before in
     let a = at .before .before .before .before .args in
     let f = linesAt (a .handle .base .0) (a .tables) (a .words .now) (a .level) (a .k) in
@@ -172,7 +171,7 @@ visit-range-loop-less-2 t c = let cut = ap length (next-chunk (c .before .before
 -- src/list.rt:141:5
 visit-range-loop-again-2 : (t : ℕ) → visit-range-lts.Need-loop-again-2 (calls t) (visit-range-at t) visit-range.Post visit-range-Inv-loop visit-range-μ-loop
 unfolding writeLines
-visit-range-loop-again-2 t c = 
+visit-range-loop-again-2 t c =
     let at = c .before .before .before .before .before .before .before .before .before .before .before .before .before in
     let a = at .before .before .before .before .args in
     let f = linesAt (a .handle .base .0) (a .tables) (a .words .now) (a .level) (a .k) in

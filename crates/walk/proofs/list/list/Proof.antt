@@ -15,7 +15,6 @@ use Rattle.region.proofs.MemoryRegion.new.Reads as new-reads
 use Rattle.walk.proofs.list.list_lines.Reads as list-lines-reads
 use Rattle.walk.proofs.list.verify.Reads as verify-reads
 
-
 -- past the first test the shape is known
 good : (c : tie.Else1) → let a = c .before .before .before .before .before .args in shaped (a .handle) (st (a .words .now) (a .ledger .now)) ≡ true
 good c = sym (c .before .is-shaped .ensures) ∙ not-false _ (c .if1 .left)
@@ -29,7 +28,7 @@ is-shaped-requires c κs = omega arith
 
 -- src/list.rt:189:9
 returns : tie.Need-returns
-returns c = 
+returns c =
     let a = c .before .before .before .before .before .args in
     list-misshaped (a .handle) (st (a .words .now) (a .ledger .now)) (a .start) (a .end) (a .list .now) (sym (c .before .is-shaped .ensures) ∙ not-true _ (c .if1 .taken))
 
@@ -43,7 +42,7 @@ enum-known-verified c = omega arith
 
 -- src/list.rt:193:9
 returns-2 : tie.Need-returns-2
-returns-2 c = 
+returns-2 c =
     let a = c .before .before .before .before .before .before .before .before .before .args in
     list-region (a .handle) (st (a .words .now) (a .ledger .now)) (a .start) (a .end) (a .list .now) (good (c .before .before .before .before)) (c .before .before .before .verify .ensures) _ (c .before .verified .given .1)
 
@@ -56,7 +55,7 @@ is-sound-requires c κs = shape (c .before .before .before)
 
 -- src/list.rt:196:9
 returns-3 : tie.Need-returns-3
-returns-3 c = 
+returns-3 c =
     let a = c .before .before .before .before .before .before .before .before .before .before .args in
     list-unsound (a .handle) (st (a .words .now) (a .ledger .now)) (a .start) (a .end) (a .list .now) (good (c .before .before .before .before .before)) (c .before .before .before .before .verify .ensures) (c .before .before .enum-told .given .1) (sym (c .before .is-sound .ensures) ∙ not-true _ (c .if2 .taken))
 
@@ -66,7 +65,7 @@ new-requires c κs = omega arith
 
 -- src/list.rt:198:5
 list-lines-requires : tie.Need-list-lines-requires
-list-lines-requires c κs = 
+list-lines-requires c κs =
     let a = c .before .before .before .before .before .before .before .before .before .before .before .before .args in
     let p = shape (c .before .before .before .before .before .before .before) in
     (p .sized, p .some, p .level, verified-length (a .handle) (a .start) (a .end) (sym (c .before .before .before .before .before .before .verify .ensures) ∙ c .before .before .before .before .enum-told .given .1) (c .before .new .ensures))
@@ -77,7 +76,7 @@ same-length c = omega arith
 
 -- src/list.rt:185:1
 returns-4 : tie.Need-returns-4
-returns-4 c = 
+returns-4 c =
     let a = c .before .before .before .before .before .before .before .before .before .before .before .before .before .before .before .args in
     c .before .before .list-lines .ensures
     ∙ list-sound (a .handle) (st (a .words .now) (a .ledger .now)) (a .start) (a .end) (a .list .now) (good (c .before .before .before .before .before .before .before .before .before .before)) (c .before .before .before .before .before .before .before .before .before .verify .ensures) (c .before .before .before .before .before .before .before .enum-told .given .1)

@@ -14,7 +14,6 @@ use Rattle.walk.proofs.list.list_lines.Lts as lts
 use Rattle.walk.proofs.list.count_lines.Reads as count-lines-reads
 use Rattle.walk.proofs.list.visit_range.Reads as visit-range-reads
 
-
 -- no more than 2^48 lines
 few : (c : tie.Start) → let a = c .args in length (linesFrom (a .handle .base .0) (a .tables) (a .words .now) (3 - a .handle .level) 0 (a .region)) ≤ 2 ^ 48
 few c =
@@ -32,7 +31,7 @@ mul-t11 c = let f = few (c .before .before .before .before) in omega (arith, c .
 
 -- src/list.rt:178:9
 returns : tie.Need-returns
-returns c = 
+returns c =
     let a = c .before .before .before .before .args in
     ap (λ (x : ℕ). listing (Refused (Short (4 * x))) (a .list .now)) (c .before .count-lines .ensures)
     ∙ list-short (linesFrom (a .handle .base .0) (a .tables) (a .words .now) (3 - a .handle .level) 0 (a .region)) (a .list .now) (omega (arith, c .before .count-lines .ensures))
@@ -48,7 +47,7 @@ same-length c = omega arith
 -- src/list.rt:172:1
 returns-2 : tie.Need-returns-2
 unfolding writeLines
-returns-2 c = 
+returns-2 c =
     let a = c .before .before .before .before .before .before .before .before .args in
     ap₂ (λ (x : ℕ) (l : List ℕ). listing (Lines x) l) (c .before .before .before .before .before .count-lines .ensures) (ap (λ (x : Written). x .list) (c .before .before .visit-range .ensures))
     ∙ list-written (linesFrom (a .handle .base .0) (a .tables) (a .words .now) (3 - a .handle .level) 0 (a .region)) (a .list .now) (omega (arith, c .before .before .before .before .before .count-lines .ensures))

@@ -9,7 +9,6 @@ use Rattle.walk.proofs.list.slot_at.Tie as tie
 use Rattle.walk.proofs.list.slot_at.Reads as reads
 use Rattle.walk.proofs.list.slot_at.Lts as lts
 
-
 -- a level that is none of 0, 1 and 2
 high : (level : ℕ) → (level ≡ 0 → ⊥) → (level ≡ 1 → ⊥) → (level ≡ 2 → ⊥) → 3 ≤ level
 high level a b c = omega arith
@@ -31,7 +30,7 @@ returns-3 c = sym (ap (λ (l : ℕ). index l (c .before .before .args .va .0)) (
 
 -- src/list.rt:57:1
 returns-4 : tie.Need-returns-4
-returns-4 c = 
+returns-4 c =
     let a = c .before .before .args in
     let r = c .before .match .rest in
     ap (λ (x : ℕ). a .va .0 / x % 512) (sym (size-page (a .level) (high (a .level) (r .0 .0 .1) (r .0 .1) (r .1)))) ∙ sym (index-is (a .level) (a .va .0))

@@ -26,7 +26,7 @@ verify-region-requires c κs = omega arith
 
 -- src/list.rt:58:1
 returns-3 : tie.Need-returns-3
-returns-3 c = 
+returns-3 c =
     let a = c .before .before .before .before .args in
     c .verify-region .ensures ∙ end-fits (a .handle) (a .start) (a .end) (c .before .before .before .if1 .left) (omega arith) (c .before .new .ensures)
 

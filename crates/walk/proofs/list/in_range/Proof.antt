@@ -23,13 +23,13 @@ enum-told c = omega arith
 returns : tie.Need-returns
 returns c =
     let a = c .before .before .before .before .before .args in
-    lower-start (a .range) (a .level) (a .region) (c .before .before .before .before .granularity-at-level .ensures) (c .before .before .enum-told .given .1) (c .if1 .taken)
+    lower-start (a .range) (a .level) (a .region) (c .before .before .before .before .granularity-at-level .ensures) (c .before .before .enum-told .given .1) (omega arith)
 
 -- src/list.rt:32:17
 returns-2 : tie.Need-returns-2
 returns-2 c =
     let a = c .before .before .before .before .before .before .before .args in
-    lower-end (a .range) (a .level) (a .region) (c .before .before .before .before .before .before .granularity-at-level .ensures) (c .before .before .before .before .enum-told .given .1) (omega arith) (c .if2 .taken)
+    lower-end (a .range) (a .level) (a .region) (c .before .before .before .before .before .before .granularity-at-level .ensures) (c .before .before .before .before .enum-told .given .1) (omega arith) (omega arith)
 
 -- src/list.rt:37:34
 enum-told-2 : tie.Need-enum-told-2
@@ -43,7 +43,7 @@ sub-if3 c = omega (arith, c .before .before .granularity-at-level .ensures, size
 returns-3 : tie.Need-returns-3
 returns-3 c =
     let a = c .before .before .before .before .before .args in
-    upper-start (a .range) (a .level) (a .region) (c .before .before .before .before .granularity-at-level .ensures) (c .before .before .enum-told2 .given .1) (c .if3 .taken)
+    upper-start (a .range) (a .level) (a .region) (c .before .before .before .before .granularity-at-level .ensures) (c .before .before .enum-told2 .given .1) (omega arith)
 
 -- src/list.rt:22:1
 returns-4 : tie.Need-returns-4

@@ -1,23 +1,23 @@
 -- The lines of a region are the walk: ascending, end to end from the region's start to its end, none empty; and at every address of a line the walk ends in
 -- the line's word, at its level. Leans on `Lines`, `Page`. Assumes nothing.
-use mathlib.Core.Path.{_≡_, refl, sym, ap, _∙_}
+use mathlib.Core.Path.{_≡_, refl, sym, _∙_}
 use mathlib.Core.List.{List, [], _∷_, _++_}
 use mathlib.Core.Logic.{_⊎_, inl, inr, _≢_}
-use Prim.Native.Nat.{ℕ, zero, suc, _+_, _*_, _-_, _/_, _≤_, _<_}
+use Prim.Native.Nat.{ℕ, zero, suc, _+_, _-_, _/_, _≤_, _<_}
 use native.Mathlib.Nat.{le-antisymm, div-eq-of-lt-le, div-add-mod'}
 use native.Mathlib.Omega.{arith}
 use lib.ListN.{length, getD}
-use Rattle.laws.specs.Size.{sizeAt, size-pos, down, down-le, next-multiple}
+use Rattle.laws.specs.Size.{sizeAt, size-pos, down, next-multiple}
 use Rattle.laws.specs.Test.{le-or}
 use Rattle.region.specs.Region.{region, entryLast}
-use Rattle.region.specs.Chunks.{chunks, chunks-tile, Tiles, none, more}
+use Rattle.region.specs.Chunks.{chunks-tile, Tiles, none, more}
 use Rattle.region.specs.declared.MemoryRegion.{MemoryRegion}
 use Rattle.entry.specs.Sub.{subOf, sub-found}
 use Rattle.entry.specs.declared.Sub.{Sub}
 use Rattle.entry.specs.declared.Sub.the-variants.{Table, Outside, Leaf}
 use Rattle.pool.specs.State.{St, tables}
 use Rattle.pool.specs.declared.Handle.{Handle}
-use Rattle.walk.specs.Arm.{Reached, at, away, fetch, reachFrom, reach}
+use Rattle.walk.specs.Arm.{at, away, fetch, reachFrom}
 use Rattle.walk.specs.Walk.{reach-table, reach-outside, reach-leaf}
 use Rattle.walk.specs.Page.{same-fetch}
 use Rattle.walk.specs.Lines.{Line, line, each, linesFrom, linesAt, lines-table, lines-other, lines-each}

@@ -1,6 +1,6 @@
 -- Laws of the Arm walk: it ends within the levels; all addresses of the entry that it ends in reach that entry, with frames that differ as their pages do;
 -- an address's page decides its answer. Leans on `Arm`, `Walk`. Assumes nothing.
-use mathlib.Core.Path.{_≡_, refl, sym, ap, ap₂, _∙_}
+use mathlib.Core.Path.{_≡_, refl, sym, ap, _∙_}
 use mathlib.Core.Bool.{Bool, true, false, cond, _&&_}
 use mathlib.Core.List.{List}
 use mathlib.Core.Logic.{_⊎_, inl, inr, _≢_}
@@ -12,10 +12,10 @@ use lib.ListN.{getD}
 use lib.Pow.{pow-add}
 use Rattle.laws.specs.Size.{sizeAt, size-offset, down, down-rest}
 use Rattle.laws.specs.Test.{eqb-cases}
-use Rattle.entry.specs.Word.{addressOf, kindOf, Says, kind-says}
+use Rattle.entry.specs.Word.{kindOf, Says, kind-says}
 use Rattle.entry.specs.declared.Kind.{Kind}
 use Rattle.entry.specs.declared.Kind.the-variants.{Table as table′, Block as block′, Page as page′, Hole as hole′}
-use Rattle.walk.specs.Arm.{bits, lowBit, index, tableAddress, frameOf, flagsIn, Reached, at, away, fetch, reachFrom, reach, Walked, hole, block, page, outside, says, walk}
+use Rattle.walk.specs.Arm.{bits, lowBit, tableAddress, frameOf, Reached, at, away, fetch, reachFrom, reach, Walked, hole, block, page, outside, says, walk}
 use Rattle.walk.specs.Walk.{index-is, low-bits, frame-is, says-hole, says-block, says-page}
 
 -- ---- within the levels

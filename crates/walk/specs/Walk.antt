@@ -1,24 +1,22 @@
 -- The Arm walk in the terms of the code: a law for each way on from a table, by `subOf` and `kindOf`. Leans on `Arm`. Assumes nothing.
 use mathlib.Core.Path.{_≡_, refl, sym, ap, ap₂, _∙_}
-use mathlib.Core.Bool.{Bool, true, false, cond, _&&_, _||_}
+use mathlib.Core.Bool.{cond, _&&_}
 use mathlib.Core.List.{List, [], _∷_}
 use mathlib.Core.Logic.{_⊎_, inl, inr, _≢_}
 use Prim.Native.Nat.{ℕ, zero, suc, _+_, _*_, _-_, _/_, _%_, _^_, _≤_, _<_}
 use native.Mathlib.Omega.{arith}
-use native.Mathlib.Numerals.{add-one}
 use lib.Bits.{bitAnd}
 use lib.Dec.{eqb, leb, ltb}
 use lib.ListN.{getD}
-use borrow.Author.Tests.{eq-eqb, ne-eqb, le-leb, lt-leb, lt-ltb, le-ltb}
+use borrow.Author.Tests.{ne-eqb, le-leb, lt-leb, lt-ltb, le-ltb}
 use Rattle.laws.specs.Size.{sizeAt, size-page, size-and, size-offset, down, down-rest}
 use Rattle.laws.specs.Test.{eq-or, le-or}
-use Rattle.entry.specs.Word.{addressOf, address-pages, address-and-flags, flagsOf, kindOf, Says, kind-says, kind-once}
+use Rattle.entry.specs.Word.{addressOf, address-pages, address-and-flags, flagsOf, kindOf, Says, kind-says}
 use Rattle.entry.specs.Sub.{subOf, sub-leaf, sub-low, sub-high, sub-in}
-use Rattle.entry.specs.declared.Kind.{Kind}
-use Rattle.entry.specs.declared.Kind.the-variants.{Table as table, Block as block′, Page as page′, Hole as hole′}
+use Rattle.entry.specs.declared.Kind.the-variants.{Block as block′, Hole as hole′}
 use Rattle.entry.specs.declared.Sub.{Sub}
 use Rattle.entry.specs.declared.Sub.the-variants.{Table, Outside, Leaf}
-use Rattle.walk.specs.Arm.{bits, lowBit, index, tableAddress, frameOf, flagsIn, Walked, hole, block, page, outside, Reached, at, away, says, fetch, reachFrom}
+use Rattle.walk.specs.Arm.{bits, lowBit, index, tableAddress, frameOf, flagsIn, hole, block, page, Reached, at, away, says, fetch, reachFrom}
 
 -- the slots of an address, by level
 unfoldable pub slotsOf : ℕ → List ℕ

@@ -1,6 +1,5 @@
-use mathlib.Core.Path.{_≡_, refl, sym, ap, _∙_}
-use mathlib.Core.List.{List, [], _∷_}
-use Prim.Native.Nat.{_+_, _-_, _≤_}
+use mathlib.Core.Path.{_≡_, sym, ap, _∙_}
+use Prim.Native.Nat.{_+_, _-_}
 use native.Mathlib.Nat.{zero-add}
 use native.Mathlib.Omega.{arith}
 use lib.ListN.{length}
@@ -8,7 +7,7 @@ use Rattle.entry.specs.Sub.{sub-found}
 use Rattle.entry.proofs.Tags.{no-table}
 use Rattle.region.specs.Chunks.{chunksOf}
 use Rattle.region.specs.declared.ChunkedIterator.{ChunkedIterator}
-use Rattle.walk.specs.Lines.{Line, line, each, linesFrom, linesAt, lines-table, lines-other, lines-each, lines-pages, next-chunk, next-none, each-none, count-step}
+use Rattle.walk.specs.Lines.{each, linesFrom, linesAt, lines-table, lines-other, lines-each, lines-pages, next-chunk, next-none, each-none, count-step}
 use Prim.Native.Nat.{ℕ, _<_}
 use borrow.Fn.Kinds.{In}
 use borrow.Fn.PlainCycle.{Measures, is, falls, and}

@@ -1,6 +1,6 @@
 use mathlib.Core.Path.{_≡_, refl, sym, ap, ap₂, _∙_}
-use mathlib.Core.List.{List, [], _∷_}
-use Prim.Native.Nat.{_+_, _*_, _-_, _≤_}
+use mathlib.Core.List.{List}
+use Prim.Native.Nat.{_+_, _*_, _-_}
 use native.Mathlib.Omega.{arith}
 use lib.ListN.{length}
 use Rattle.laws.specs.Part.{putPart}
@@ -8,7 +8,7 @@ use Rattle.entry.specs.Sub.{sub-found}
 use Rattle.entry.proofs.Tags.{no-table}
 use Rattle.region.specs.Chunks.{chunksOf}
 use Rattle.region.specs.declared.ChunkedIterator.{ChunkedIterator}
-use Rattle.walk.specs.Lines.{Line, line, each, numbers, linesFrom, linesAt, lines-table, lines-other, lines-each, next-chunk, next-none, each-none, count-step, write-step, write-done, written, writeLines, Written}
+use Rattle.walk.specs.Lines.{Line, each, numbers, linesFrom, linesAt, lines-table, lines-other, lines-each, next-chunk, next-none, each-none, count-step, write-step, write-done, written, writeLines, Written}
 use Prim.Native.Nat.{ℕ, _<_}
 use borrow.Fn.Kinds.{In}
 use borrow.Fn.PlainCycle.{Measures, is, falls, and}

@@ -1,9 +1,9 @@
-use mathlib.Core.Path.{_≡_, ap, ap₂, _∙_}
+use mathlib.Core.Path.{ap, ap₂, _∙_}
 use Prim.Native.Nat.{ℕ, _+_, _-_, _%_}
 use native.Mathlib.Omega.{arith}
 use lib.Bits.{bitAnd, and-le-l, and-le-r}
-use Rattle.laws.specs.Size.{sizeAt, size-low, size-high, size-and, size-offset}
-use Rattle.entry.specs.Word.{addressOf, mask-address, address-below}
+use Rattle.laws.specs.Size.{size-low, size-high, size-and, size-offset}
+use Rattle.entry.specs.Word.{mask-address, address-below}
 use Rattle.walk.specs.Walk.{frame-masks}
 use Rattle.walk.proofs.look_up.frame.Statement.{statement}
 use Rattle.walk.proofs.look_up.frame.Tie as tie

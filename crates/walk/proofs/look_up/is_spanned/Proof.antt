@@ -1,12 +1,6 @@
-use mathlib.Core.Bool.{Bool}
-use mathlib.Core.Path.{_≡_, sym, ap, _∙_}
-use Prim.Native.Nat.{ℕ, _*_, _-_, suc, _^_}
 use native.Mathlib.Omega.{arith}
-use lib.Dec.{leb, ltb}
-use Rattle.laws.specs.Size.{sizeAt, size-high}
-use Rattle.walk.specs.Arm.{lowBit}
-use Rattle.walk.specs.Walk.{size-is}
-use Rattle.walk.specs.LookUp.{spanned, span-lower, span-upper}
+use Rattle.laws.specs.Size.{size-high}
+use Rattle.walk.specs.LookUp.{span-lower, span-upper}
 use Rattle.walk.proofs.look_up.is_spanned.Statement.{statement}
 use Rattle.walk.proofs.look_up.is_spanned.Tie as tie
 use Rattle.walk.proofs.look_up.is_spanned.Reads as reads

@@ -1,8 +1,6 @@
 use Rattle.walk.proofs.Tags.{both-set}
-use mathlib.Core.Path.{_≡_, sym, ap, ap₂, _∙_}
-use Prim.Native.Nat.{ℕ}
-use Rattle.address.specs.declared.PhysicalAddress.{PhysicalAddress}
-use Rattle.walk.specs.LookUp.{answer, leaf-hole, leaf-block, leaf-page}
+use mathlib.Core.Path.{sym, _∙_}
+use Rattle.walk.specs.LookUp.{leaf-hole, leaf-block, leaf-page}
 use borrow.Author.Needs.{needs}
 use Rattle.walk.proofs.look_up.leaf.Statement.{statement}
 use Rattle.walk.proofs.look_up.leaf.Tie as tie

@@ -5,7 +5,7 @@ use mathlib.Core.Path.{_≡_, refl, sym, ap, _∙_}
 use mathlib.Core.List.{List}
 use Prim.Native.Nat.{ℕ, _+_, _*_, _-_, _≤_, _<_}
 use native.Mathlib.Omega.{arith}
-use lib.ListN.{length, getD}
+use lib.ListN.{getD}
 use Rattle.entry.specs.Sub.{sub-found}
 use Rattle.walk.specs.Arm.{reach, reachFrom, says, walk, fetch}
 use Rattle.walk.specs.Walk.{slotsOf, slots-at, slot-below, fetch-is, reach-table, reach-outside, reach-leaf}

@@ -1,8 +1,5 @@
--- The Arm walk, and what the contracts of `walk` cite.
+-- The Arm walk, and what the contracts of look up cite.
 pub mod Arm
 pub mod Walk
 pub mod Page
 pub mod LookUp
-pub mod Lines
-pub mod Listing
-pub mod Cover

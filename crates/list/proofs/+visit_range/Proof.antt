@@ -8,20 +8,20 @@ use Rattle.entry.specs.Sub.{sub-found}
 use Rattle.entry.proofs.Tags.{no-table}
 use Rattle.region.specs.Chunks.{chunksOf}
 use Rattle.region.specs.declared.ChunkedIterator.{ChunkedIterator}
-use Rattle.walk.specs.Lines.{Line, each, numbers, linesFrom, linesAt, lines-table, lines-other, lines-each, next-chunk, next-none, each-none, count-step, write-step, write-done, written, writeLines, Written}
+use Rattle.list.specs.Lines.{Line, each, numbers, linesFrom, linesAt, lines-table, lines-other, lines-each, next-chunk, next-none, each-none, count-step, write-step, write-done, written, writeLines, Written}
 use Prim.Native.Nat.{ℕ, _<_}
 use borrow.Fn.Kinds.{In}
 use borrow.Fn.PlainCycle.{Measures, is, falls, and}
-use Rattle.walk.proofs.list.visit_range.Reads as visit-range
-use Rattle.walk.proofs.list.visit_range.Kinds as visit-range-kinds
-use Rattle.walk.proofs.list.+visit_range.Lts-visit_range as visit-range-lts
+use Rattle.list.proofs.visit_range.Reads as visit-range
+use Rattle.list.proofs.visit_range.Kinds as visit-range-kinds
+use Rattle.list.proofs.+visit_range.Lts-visit_range as visit-range-lts
 use Rattle.entry.proofs.subtable.Reads as subtable-reads
 use Rattle.region.proofs.ChunkedIterator.next.Reads as next-reads
 use Rattle.region.proofs.MemoryRegion.split.Reads as split-reads
-use Rattle.walk.proofs.list.get_entry.Reads as get-entry-reads
-use Rattle.walk.proofs.list.put_line.Reads as put-line-reads
-use Rattle.walk.proofs.list.+visit_range.{statement}
-use Rattle.walk.proofs.list.+visit_range.Tie.{close}
+use Rattle.list.proofs.get_entry.Reads as get-entry-reads
+use Rattle.list.proofs.put_line.Reads as put-line-reads
+use Rattle.list.proofs.+visit_range.{statement}
+use Rattle.list.proofs.+visit_range.Tie.{close}
 
 abbrev μ-visit-range : Measures 2 visit-range-kinds.ps ℕ
 μ-visit-range κs a = 3 - a .1 .1 .1 .1 .0
@@ -55,31 +55,31 @@ all c =
     lines-each (a .handle .base .0) (a .tables) (a .words .now) (a .level) (a .k) (a .region) (omega arith)
     ∙ ap (λ (it : ChunkedIterator). each (linesAt (a .handle .base .0) (a .tables) (a .words .now) (a .level) (a .k)) (chunksOf it)) (sym (c .split .ensures))
 
--- src/list.rt:140:9
+-- src/lib.rt:140:9
 visit-range-split-requires : (t : ℕ) → visit-range-lts.Need-split-requires (calls t) (visit-range-at t) visit-range.Post visit-range-Inv-loop visit-range-μ-loop
 visit-range-split-requires t c κs = omega arith
 
--- src/list.rt:141:5
+-- src/lib.rt:141:5
 visit-range-loop-holds : (t : ℕ) → visit-range-lts.Need-loop-holds (calls t) (visit-range-at t) visit-range.Post visit-range-Inv-loop visit-range-μ-loop
 visit-range-loop-holds t c = (refl, refl, refl)
 
--- src/list.rt:142:13
+-- src/lib.rt:142:13
 visit-range-next-requires : (t : ℕ) → visit-range-lts.Need-next-requires (calls t) (visit-range-at t) visit-range.Post visit-range-Inv-loop visit-range-μ-loop
 visit-range-next-requires t c κs = omega arith
 
--- src/list.rt:143:30
+-- src/lib.rt:143:30
 visit-range-enum-known-next : (t : ℕ) → visit-range-lts.Need-enum-known-next (calls t) (visit-range-at t) visit-range.Post visit-range-Inv-loop visit-range-μ-loop
 visit-range-enum-known-next t c = c .match .keys1
 
--- src/list.rt:144:13
+-- src/lib.rt:144:13
 visit-range-enum-told : (t : ℕ) → visit-range-lts.Need-enum-told (calls t) (visit-range-at t) visit-range.Post visit-range-Inv-loop visit-range-μ-loop
 visit-range-enum-told t c = omega arith
 
--- src/list.rt:144:13
+-- src/lib.rt:144:13
 visit-range-same-length : (t : ℕ) → visit-range-lts.Need-same-length (calls t) (visit-range-at t) visit-range.Post visit-range-Inv-loop visit-range-μ-loop
 visit-range-same-length t c = c .before .before .before .loop .inv .1
 
--- src/list.rt:144:13
+-- src/lib.rt:144:13
 visit-range-returns : (t : ℕ) → visit-range-lts.Need-returns (calls t) (visit-range-at t) visit-range.Post visit-range-Inv-loop visit-range-μ-loop
 unfolding writeLines
 visit-range-returns t c =
@@ -92,19 +92,19 @@ visit-range-returns t c =
     ap₂ written to (sym (write-done f (at .loop .to) (at .loop .list) none) ∙ at .loop .inv .2)
     ∙ ap (λ (ls : List Line). writeLines (a .from) ls (a .list .now)) (sym (all (at .before)))
 
--- src/list.rt:147:13
+-- src/lib.rt:147:13
 visit-range-get-entry-requires : (t : ℕ) → visit-range-lts.Need-get-entry-requires (calls t) (visit-range-at t) visit-range.Post visit-range-Inv-loop visit-range-μ-loop
 visit-range-get-entry-requires t c κs = omega arith
 
--- src/list.rt:148:13
+-- src/lib.rt:148:13
 visit-range-subtable-requires : (t : ℕ) → visit-range-lts.Need-subtable-requires (calls t) (visit-range-at t) visit-range.Post visit-range-Inv-loop visit-range-μ-loop
 visit-range-subtable-requires t c κs = omega arith
 
--- src/list.rt:149:24
+-- src/lib.rt:149:24
 visit-range-enum-known-kind : (t : ℕ) → visit-range-lts.Need-enum-known-kind (calls t) (visit-range-at t) visit-range.Post visit-range-Inv-loop visit-range-μ-loop
 visit-range-enum-known-kind t c = c .match2 .keys1
 
--- src/list.rt:150:13
+-- src/lib.rt:150:13
 visit-range-put-line-requires : (t : ℕ) → visit-range-lts.Need-put-line-requires (calls t) (visit-range-at t) visit-range.Post visit-range-Inv-loop visit-range-μ-loop
 visit-range-put-line-requires t c κs =
     let at = c .before .before .before .before .before .before .before .before in
@@ -116,7 +116,7 @@ visit-range-put-line-requires t c κs =
     let total = ap length (all (at .before)) in
     omega (arith, at .loop .inv .0)
 
--- src/list.rt:151:13
+-- src/lib.rt:151:13
 visit-range-add-to : (t : ℕ) → visit-range-lts.Need-add-to (calls t) (visit-range-at t) visit-range.Post visit-range-Inv-loop visit-range-μ-loop
 visit-range-add-to t c =
     let at = c .before .before .before .before .before .before .before .before .before .before .before in
@@ -128,11 +128,11 @@ visit-range-add-to t c =
     let total = ap length (all (at .before)) in
     omega (arith, at .loop .inv .0, at .loop .inv .1, c .before .before .before .before .before .before .before .before .before .before .before .before .before .before .before .good .1 .1 .1 .1 .1 .1 .0 .0)
 
--- src/list.rt:141:5
+-- src/lib.rt:141:5
 visit-range-loop-less : (t : ℕ) → visit-range-lts.Need-loop-less (calls t) (visit-range-at t) visit-range.Post visit-range-Inv-loop visit-range-μ-loop
 visit-range-loop-less t c = let cut = ap length (next-chunk (c .before .before .before .before .before .before .before .before .before .before .before .loop .rest) _ _ (c .before .before .before .before .before .before .before .before .before .before .next .ensures) (c .before .before .before .before .before .before .before .before .next2 .given .1)) in omega arith
 
--- src/list.rt:141:5
+-- src/lib.rt:141:5
 visit-range-loop-again : (t : ℕ) → visit-range-lts.Need-loop-again (calls t) (visit-range-at t) visit-range.Post visit-range-Inv-loop visit-range-μ-loop
 visit-range-loop-again t c =
     let at = c .before .before .before .before .before .before .before .before .before .before .before in
@@ -144,13 +144,13 @@ visit-range-loop-again t c =
     let total = ap length (all (at .before)) in
     (omega (arith, at .loop .inv .0), omega arith, write-step f _ cut lines (at .loop .to) (at .loop .list) (omega (arith, at .loop .inv .0)) refl (c .before .before .put-line .ensures) ∙ at .loop .inv .2)
 
--- src/list.rt:154:52
+-- src/lib.rt:154:52
 visit-range-add-visit-range : (t : ℕ) → visit-range-lts.Need-add-visit-range (calls t) (visit-range-at t) visit-range.Post visit-range-Inv-loop visit-range-μ-loop
 visit-range-add-visit-range t c =
     let found = sub-found _ _ _ _ _ (sym (c .before .before .before .subtable .ensures) ∙ c .before .kind .given .1) in
     omega (arith, found .high)
 
--- src/list.rt:154:9
+-- src/lib.rt:154:9
 visit-range-visit-range-requires : (t : ℕ) → visit-range-lts.Need-visit-range-requires (calls t) (visit-range-at t) visit-range.Post visit-range-Inv-loop visit-range-μ-loop
 visit-range-visit-range-requires t c κs =
     let at = c .before .before .before .before .before .before .before .before .before .before in
@@ -164,11 +164,11 @@ visit-range-visit-range-requires t c κs =
     let total = ap length (all (at .before)) in
     (omega (arith, found .high), (omega arith, found .below, omega (arith, found .high), omega (arith, at .loop .inv .0)))
 
--- src/list.rt:141:5
+-- src/lib.rt:141:5
 visit-range-loop-less-2 : (t : ℕ) → visit-range-lts.Need-loop-less-2 (calls t) (visit-range-at t) visit-range.Post visit-range-Inv-loop visit-range-μ-loop
 visit-range-loop-less-2 t c = let cut = ap length (next-chunk (c .before .before .before .before .before .before .before .before .before .before .before .before .before .loop .rest) _ _ (c .before .before .before .before .before .before .before .before .before .before .before .before .next .ensures) (c .before .before .before .before .before .before .before .before .before .before .next2 .given .1)) in omega arith
 
--- src/list.rt:141:5
+-- src/lib.rt:141:5
 visit-range-loop-again-2 : (t : ℕ) → visit-range-lts.Need-loop-again-2 (calls t) (visit-range-at t) visit-range.Post visit-range-Inv-loop visit-range-μ-loop
 unfolding writeLines
 visit-range-loop-again-2 t c =

@@ -23,9 +23,9 @@ use Rattle.pool.specs.declared.Refusal.the-variants.{Shape, End, Unsound, Short
 use Rattle.pool.specs.declared.Outcome.{Outcome}
 use Rattle.pool.specs.declared.Outcome.the-variants.{Accepted, Refused}
 use Rattle.verify.specs.Verify.{endFits, verify, verified-span}
-use Rattle.walk.specs.Lines.{Line, numbers, length-numbers, linesFrom}
-use Rattle.walk.specs.declared.Listed.{Listed}
-use Rattle.walk.specs.declared.Listed.the-variants.{Lines, Refused as refused}
+use Rattle.list.specs.Lines.{Line, numbers, length-numbers, linesFrom}
+use Rattle.list.specs.declared.Listed.{Listed}
+use Rattle.list.specs.declared.Listed.the-variants.{Lines, Refused as refused}
 
 -- refusals 2, 5, 6
 unfoldable pub verifyEnds : Handle → ℕ → ℕ → Outcome

@@ -1,5 +1,4 @@
 // Every entry that a region meets, four numbers a line: visit_range of paging.rs (aarch64-paging 0.12.3).
-use crate::Listed;
 use address::VirtualAddress;
 use entry::Sub;
 use pool::Handle;
@@ -14,9 +13,15 @@ ghost use lib.ListN.{length};
 ghost use Rattle.laws.specs.Part.{putPart};
 ghost use Rattle.region.specs.Chunks.{met};
 ghost use Rattle.pool.specs.State.{st};
-ghost use Rattle.walk.specs.Arm.{index, fetch};
-ghost use Rattle.walk.specs.Lines.{line, numbers, linesFrom, written, writeLines};
-ghost use Rattle.walk.specs.Listing.{verifyEnds, listing, listLines, listCall};
+ghost use Rattle.walk.specs.Arm.{fetch};
+ghost use Rattle.list.specs.Lines.{line, numbers, linesFrom, written, writeLines};
+ghost use Rattle.list.specs.Listing.{verifyEnds, listing, listLines, listCall};
+
+// What list answers: the count of its lines.
+pub enum Listed {
+    Lines(usize),
+    Refused(Refusal),
+}
 
 // Whether the region that the two numbers touch can be asked for.
 fn verify_ends(handle: Handle, start: u64, end: u64) -> Outcome
@@ -28,24 +33,12 @@ fn verify_ends(handle: Handle, start: u64, end: u64) -> Outcome
     verify::verify_region(handle, MemoryRegion::new(start, end))
 }
 
-// The slot of an address in a table of this level.
-fn slot_at(level: usize, va: VirtualAddress) -> usize
-    ensures { λ r. ⌜ r ≡ index level (va .0) ⌝ }
-{
-    match level {
-        0 => (va.0 / 0x80_0000_0000 % 512) as usize,
-        1 => (va.0 / 0x4000_0000 % 512) as usize,
-        2 => (va.0 / 0x20_0000 % 512) as usize,
-        _ => (va.0 / 0x1000 % 512) as usize,
-    }
-}
-
 // The word of table k that the address lies in.
 fn get_entry(words: &[u64], tables: usize, k: usize, level: usize, va: VirtualAddress) -> u64
     requires { ⌜ (length (now words) ≡ 512 * tables) × (k < tables) ⌝ }
     ensures { λ r. ⌜ r ≡ fetch (now (words .entry)) (va .0) level k ⌝ }
 {
-    let slot = slot_at(level, va);
+    let slot = region::entry_index(va.0, level);
     words[512 * k + slot]
 }
 

@@ -1,11 +1,11 @@
 use mathlib.Core.Path.{_≡_, sym, _∙_}
 use native.Mathlib.Omega.{arith}
 use borrow.Author.Tests.{not-true, not-false}
-use Rattle.walk.specs.Listing.{ends-past, ends-fit}
-use Rattle.walk.proofs.list.verify_ends.Statement.{statement}
-use Rattle.walk.proofs.list.verify_ends.Tie as tie
-use Rattle.walk.proofs.list.verify_ends.Reads as reads
-use Rattle.walk.proofs.list.verify_ends.Lts as lts
+use Rattle.list.specs.Listing.{ends-past, ends-fit}
+use Rattle.list.proofs.verify_ends.Statement.{statement}
+use Rattle.list.proofs.verify_ends.Tie as tie
+use Rattle.list.proofs.verify_ends.Reads as reads
+use Rattle.list.proofs.verify_ends.Lts as lts
 use Rattle.region.proofs.MemoryRegion.new.Reads as new-reads
 use Rattle.verify.proofs.end_fits.Reads as end-fits-reads
 use Rattle.verify.proofs.verify_region.Reads as verify-region-reads

@@ -1,0 +1,8 @@
+-- The demands on the tree that a sound pool shows.
+pub mod Page
+pub mod Word
+pub mod Fine
+pub mod Walk
+pub mod Visit
+pub mod Slots
+pub mod Count

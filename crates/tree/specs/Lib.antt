@@ -6,3 +6,6 @@ pub mod Walk
 pub mod Visit
 pub mod Slots
 pub mod Count
+pub mod Shown
+pub mod Rules
+pub mod After

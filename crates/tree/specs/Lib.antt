@@ -9,3 +9,4 @@ pub mod Count
 pub mod Shown
 pub mod Rules
 pub mod After
+pub mod Commute

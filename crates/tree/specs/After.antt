@@ -98,16 +98,17 @@ module _ (m : Map) (G : Given m) where
       fine-leaf left (frameAt b m) (m .flags) (G .plain) (frame-at b (y .0) (omega arith)) (x .1) (x .2)
 
   map-good : (left q : ℕ) (t : Tree) → FineTree left t → Good left (mapRule m left (first left q) t)
-  map-good left q t fine = byBool (meets left (first left q) m) (met left t) (λ e. subst (Good left) (sym (rule-off m left (first left q) t e)) tt)
+  map-good left q t fine = byBool (meets left (first left q) m) (met left t fine) (λ e. subst (Good left) (sym (rule-off m left (first left q) t e)) tt)
     where
-      met : (k : ℕ) (u : Tree) → meets k (first k q) m ≡ true → Good k (mapRule m k (first k q) u)
-      met zero u e = subst (Good zero) (sym (rule-page m (first zero q) u e)) (page-good (first zero q) e)
-      met (suc k) (leaf w) e = let b : ℕ = first (suc k) q in byBool (same b m w)
+      met : (k : ℕ) (u : Tree) → FineTree k u → meets k (first k q) m ≡ true → Good k (mapRule m k (first k q) u)
+      met zero (leaf w) fu e = subst (Good zero) (sym (rule-page m (first zero q) w e)) (page-good (first zero q) e)
+      met zero (node g) fu e = absurd fu
+      met (suc k) (leaf w) fu e = let b : ℕ = first (suc k) q in byBool (same b m w)
           (λ s. subst (Good (suc k)) (sym (rule-same m k b w s)) tt)
           (λ s. byBool (fits (suc k) b m)
             (λ f. subst (Good (suc k)) (sym (rule-block m k b w e s f)) (block-good (suc k) b f))
             (λ f. subst (Good (suc k)) (sym (rule-split m k b w e s f)) tt))
-      met (suc k) (node g) e = let b : ℕ = first (suc k) q in byBool (drops (suc k) b m)
+      met (suc k) (node g) fu e = let b : ℕ = first (suc k) q in byBool (drops (suc k) b m)
           (λ d. subst (Good (suc k)) (sym (rule-drop m k b g e d)) (fine-flags (suc k) (m .flags) (G .plain) (drops-yes (suc k) b m d .1)))
           (λ d. subst (Good (suc k)) (sym (rule-down m k b g e d)) tt)
 
@@ -142,14 +143,15 @@ module _ (m : Map) (G : Given m) where
       (λ e. subst (Right (after m) left t page) (sym (rule-off m left (first left q) t e)) (sym (after-out m page (seen left t page) (off-out m left q page at e))))
     where
       met : (k : ℕ) (u : Tree) → FineTree k u → In k q page → meets k (first k q) m ≡ true → Right (after m) k u page (mapRule m k (first k q) u)
-      met zero u fu in0 e =
+      met zero (node g) fu in0 e = absurd fu
+      met zero (leaf w) fu in0 e =
           let b : ℕ = first zero q in
           let x = page-in b m e in
           let y = in-from zero q page in0 in
           let z = span-zero in
-          subst (Right (after m) zero u page) (sym (rule-page m b u e))
+          subst (Right (after m) zero (leaf w) page) (sym (rule-page m b w e))
           (written-seen zero q page in0 (x .0) (frame-at b (x .0) (x .1)) (page-aligned (frameAt b m)) (omega arith)
-          ∙ sym (after-in m page (seen zero u page) (yes-covers m page (omega arith) (omega arith))))
+          ∙ sym (after-in m page (seen zero (leaf w) page) (yes-covers m page (omega arith) (omega arith))))
       met (suc k) (leaf w) fu inq e =
           let b : ℕ = first (suc k) q in
           let old : Seen = seen (suc k) (leaf w) page in

@@ -12,7 +12,7 @@ use Rattle.tree.specs.Word.{valid, frameOf, leafWord, fillWord, pageBit,
 use Rattle.tree.specs.Fine.{Fine, fill-flags, fill-is, fill-below}
 use Rattle.tree.specs.Visit.{opened, visit, visitTable, visit-keep, visit-write, visit-down}
 use Rattle.tree.specs.Slots.{slotAfter, each-node, each-same, each-none, each-both, fillSlot, fill-node, fill-slot}
-use Rattle.tree.specs.Shown.{FineTree, fine-fill-slots}
+use Rattle.tree.specs.Shown.{FineTree, FineTable, fine-fill-slots}
 use Rattle.tree.specs.Rules.{Map, meets, whole, frameAt, same, fits, drops, mapRule, meets-yes, whole-yes, drops-no, fits-no, same-yes, yes-same, page-in, rule-off, rule-page, rule-same, rule-split, rule-down}
 
 -- the regions share no page
@@ -49,7 +49,7 @@ module _ (m : Map) where
         let y = page-in b m e in
         let z = child-first zero q i in
         let frames : m .frame + (b - m .from) ≡ frameOf w + i * span zero = omega arith in
-        visit-write (mapRule m) zero (child q i) old _ (rule-page m b old e) ∙ ap leaf (ap₂ (leafWord zero) frames (sym (x .0)) ∙ sym (fill-is zero w fine i)))
+        visit-write (mapRule m) zero (child q i) old _ (rule-page m b (fillWord zero w i) e) ∙ ap leaf (ap₂ (leafWord zero) frames (sym (x .0)) ∙ sym (fill-is zero w fine i)))
       (λ e. work-off zero (child q i) old e)
   keeps-fill (suc left) q w i v fine s l =
       let b : ℕ = first (suc left) (child q i) in
@@ -177,10 +177,11 @@ module _ (m n : Map) (apart : Apart m n) (vm : valid (m .flags) ≡ true) (vn : 
       (away′ (suc left) q t)
 
   -- .. and in a table
-  pub commute-table : (left q : ℕ) (f : ℕ → Tree) → FineTree (suc left) (node f)
-      → visitTable (mapRule m) left q (visitTable (mapRule n) left q (node f)) ≡ visitTable (mapRule n) left q (visitTable (mapRule m) left q (node f))
+  pub commute-table : (left q : ℕ) (t : Tree) → FineTable left t
+      → visitTable (mapRule m) left q (visitTable (mapRule n) left q t) ≡ visitTable (mapRule n) left q (visitTable (mapRule m) left q t)
   unfolding visitTable
-  commute-table left q f fine =
+  commute-table left q (leaf w) fine = absurd fine
+  commute-table left q (node f) fine =
       each-both (λ i u. work m left (child q i) u) (λ i u. work n left (child q i) u) (node f)
       ∙ each-same (λ i u. work m left (child q i) (work n left (child q i) u)) (λ i u. work n left (child q i) (work m left (child q i) u)) f
         (λ i l. commute left (child q i) (f i) (fine i l))

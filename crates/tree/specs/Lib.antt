@@ -10,3 +10,4 @@ pub mod Shown
 pub mod Rules
 pub mod After
 pub mod Commute
+pub mod Root

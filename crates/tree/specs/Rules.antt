@@ -54,9 +54,10 @@ fits left b m = whole left b m && (eqb (frameAt b m % span left) 0 && (m .blocks
 unfoldable pub drops : ℕ → ℕ → Map → Bool
 drops left b m = whole left b m && not (valid (m .flags))
 
--- the first rule that fits
+-- the first rule that fits; below the lowest level no table stands
 unfoldable pub mapRule : Map → ℕ → ℕ → Tree → Rule
-mapRule m zero b t = cond (meets zero b m) (write (leafWord zero (frameAt b m) (m .flags))) keep
+mapRule m zero b (leaf w) = cond (meets zero b m) (write (leafWord zero (frameAt b m) (m .flags))) keep
+mapRule m zero b (node f) = keep
 mapRule m (suc left) b (leaf w) =
     cond (meets (suc left) b m) (cond (same b m w) keep (cond (fits (suc left) b m) (write (leafWord (suc left) (frameAt b m) (m .flags))) down)) keep
 mapRule m (suc left) b (node f) = cond (meets (suc left) b m) (cond (drops (suc left) b m) (write (m .flags)) down) keep
@@ -130,13 +131,14 @@ module _ (b : ℕ) (m : Map) where
 module _ (m : Map) where
   pub rule-off : (left b : ℕ) (t : Tree) → meets left b m ≡ false → mapRule m left b t ≡ keep
   unfolding mapRule
-  rule-off zero b t e = rw e
+  rule-off zero b (leaf w) e = rw e
+  rule-off zero b (node f) e = refl
   rule-off (suc left) b (leaf w) e = rw e
   rule-off (suc left) b (node f) e = rw e
 
-  pub rule-page : (b : ℕ) (t : Tree) → meets zero b m ≡ true → mapRule m zero b t ≡ write (leafWord zero (frameAt b m) (m .flags))
+  pub rule-page : (b w : ℕ) → meets zero b m ≡ true → mapRule m zero b (leaf w) ≡ write (leafWord zero (frameAt b m) (m .flags))
   unfolding mapRule
-  rule-page b t e = rw e
+  rule-page b w e = rw e
 
   module _ (left b : ℕ) where
     pub rule-same : (w : ℕ) → same b m w ≡ true → mapRule m (suc left) b (leaf w) ≡ keep
@@ -159,3 +161,16 @@ module _ (m : Map) where
     pub rule-down : (f : ℕ → Tree) → meets (suc left) b m ≡ true → drops (suc left) b m ≡ false → mapRule m (suc left) b (node f) ≡ down
     unfolding mapRule
     rule-down f e d = rw (e, d)
+
+  -- a VALID map never writes over a table
+  pub rule-keeps-table : valid (m .flags) ≡ true → (left b : ℕ) (f : ℕ → Tree) (x : ℕ) → mapRule m left b (node f) ≡ write x → ⊥
+  unfolding mapRule
+  rule-keeps-table v zero b f x e = differ e
+    where
+      differ : keep ≡ write x → ⊥
+      differ e = let z : _≡_ {A = ℕ} 0 1 = cc in omega arith
+  rule-keeps-table v (suc left) b f x e = go (meets (suc left) b m) (rw (drops-valid (suc left) b m v) at e)
+    where
+      go : (met : Bool) → cond met down keep ≡ write x → ⊥
+      go true e = let z : _≡_ {A = ℕ} 0 1 = cc in omega arith
+      go false e = let z : _≡_ {A = ℕ} 0 1 = cc in omega arith

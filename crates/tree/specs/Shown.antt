@@ -17,6 +17,11 @@ FineTree left (leaf w) = Fine left w
 FineTree zero (node f) = ⊥
 FineTree (suc left) (node f) = (i : ℕ) → i < 512 → FineTree left (f i)
 
+-- .. of a table whose entries have `left` levels below
+abbrev pub FineTable : ℕ → Tree → Type 0
+FineTable left (leaf w) = ⊥
+FineTable left (node f) = FineTree (suc left) (node f)
+
 -- what is written is fine
 abbrev pub Good : ℕ → Rule → Type 0
 Good left keep = Unit {0}
@@ -70,9 +75,12 @@ module _ {rule : ℕ → ℕ → Tree → Rule} {new : ℕ → Seen → Seen} (S
       obey-fine (suc left) (rule (suc left) (first (suc left) q) (node f)) (node f) _ (S .good (suc left) q (node f) fine) fine
       (each-fine left (λ i u. visit rule left (child q i) u) f (λ i l. fine-visit left (child q i) (f i) (fine i l)))
 
-  pub fine-table : (left q : ℕ) (f : ℕ → Tree) → FineTree (suc left) (node f) → FineTree (suc left) (visitTable rule left q (node f))
+  pub fine-table : (left q : ℕ) (t : Tree) → FineTable left t → FineTable left (visitTable rule left q t)
   unfolding visitTable
-  fine-table left q f fine = each-fine left (λ i u. visit rule left (child q i) u) f (λ i l. fine-visit left (child q i) (f i) (fine i l))
+  fine-table left q (leaf w) fine = absurd fine
+  fine-table left q (node f) fine =
+      subst (FineTable left) (sym (each-node (λ i u. visit rule left (child q i) u) f))
+      (λ i l. subst (FineTree left) (sym (slot-after (λ i u. visit rule left (child q i) u) f i l)) (fine-visit left (child q i) (f i) (fine i l)))
 
   -- a page's slot after the visit of a table
   each-seen : (left : ℕ) (h : ℕ → Tree → Tree) (f : ℕ → Tree) (page : ℕ)
@@ -114,10 +122,11 @@ module _ {rule : ℕ → ℕ → Tree → Rule} {new : ℕ → Seen → Seen} (S
       (each-seen left h f page (seen-visit left (child q i) (f i) page (fine i (slot-lt page left)) (in-child left q page at))
       ∙ ap (new page) (sym (seen-node left f page)))
 
-  pub seen-table : (left q : ℕ) (f : ℕ → Tree) (page : ℕ) → FineTree (suc left) (node f) → In (suc left) q page
-      → seen (suc left) (visitTable rule left q (node f)) page ≡ new page (seen (suc left) (node f) page)
+  pub seen-table : (left q : ℕ) (t : Tree) (page : ℕ) → FineTable left t → In (suc left) q page
+      → seen (suc left) (visitTable rule left q t) page ≡ new page (seen (suc left) t page)
   unfolding visitTable
-  seen-table left q f page fine at =
+  seen-table left q (leaf w) page fine at = absurd fine
+  seen-table left q (node f) page fine at =
       let i : ℕ = slotOf page left in
       each-seen left (λ i u. visit rule left (child q i) u) f page (seen-visit left (child q i) (f i) page (fine i (slot-lt page left)) (in-child left q page at))
       ∙ ap (new page) (sym (seen-node left f page))

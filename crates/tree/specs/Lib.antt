@@ -11,3 +11,4 @@ pub mod Rules
 pub mod After
 pub mod Commute
 pub mod Root
+pub mod Order

@@ -12,3 +12,4 @@ pub mod After
 pub mod Commute
 pub mod Root
 pub mod Order
+pub mod Local

@@ -13,3 +13,5 @@ pub mod Commute
 pub mod Root
 pub mod Order
 pub mod Local
+pub mod Chunks
+pub mod Sweep

@@ -62,6 +62,10 @@ child-in left q i h =
     let m = mul-le-mul-right (span left) h in
     (omega arith, omega arith)
 
+-- entries below stand in the order of their slots
+pub child-order : (left q i j : ℕ) → i < j → first left (child q i) + span left ≤ first left (child q j)
+child-order left q i j h = omega (arith, child-first left q i, child-first left q j, mul-le-mul-right (span left) h)
+
 -- a multiple of an entry's size, and some entries of the next level more, is a multiple of their size
 pub multiple-child : (left a i : ℕ) → a % span (suc left) ≡ 0 → (a + i * span left) % span left ≡ 0
 unfolding first child

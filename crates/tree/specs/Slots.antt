@@ -1,9 +1,9 @@
 -- Something done to each slot of a table: when two such tables are the same, and the slots of a split's fill. Assumes nothing.
 use mathlib.Core.Path.{_≡_, refl, ap, _∙_}
 use mathlib.Core.Bool.{true, false, cond}
-use Prim.Native.Nat.{ℕ, zero, suc, _<_}
+use Prim.Native.Nat.{ℕ, zero, suc, _≤_, _<_}
 use lib.Dec.{ltb}
-use borrow.Author.Tests.{lt-ltb, ltb-true}
+use borrow.Author.Tests.{lt-ltb, le-ltb, ltb-true}
 use Rattle.laws.specs.Test.{byBool}
 use Rattle.forest.specs.Tree.{Tree, leaf, node, node-ext, eachSlot}
 use Rattle.tree.specs.Word.{fillWord}
@@ -24,6 +24,10 @@ each-leaf h w = refl
 pub slot-after : (h : ℕ → Tree → Tree) (f : ℕ → Tree) (i : ℕ) → i < 512 → slotAfter h f i ≡ h i (f i)
 unfolding slotAfter
 slot-after h f i l = rw (lt-ltb i 512 l)
+
+pub slot-past : (h : ℕ → Tree → Tree) (f : ℕ → Tree) (i : ℕ) → 512 ≤ i → slotAfter h f i ≡ f i
+unfolding slotAfter
+slot-past h f i l = rw (le-ltb i 512 l)
 
 -- the same done to each slot
 pub each-same : (h g : ℕ → Tree → Tree) (f : ℕ → Tree) → ((i : ℕ) → i < 512 → h i (f i) ≡ g i (f i)) → eachSlot h (node f) ≡ eachSlot g (node f)

@@ -1,11 +1,10 @@
 -- A call as document 01 runs it: for each chunk of the region, ascending, a rule; the frame rises by the chunk's length after each; where the rule goes
 -- down, the chunk's own chunks below. Over addresses and the chunks of `region`; `Sweep` proves that this is the
 -- visit of `Visit`. Assumes nothing.
-use mathlib.Core.Path.{_≡_, sym, ap, _∙_}
+use mathlib.Core.Path.{_≡_, ap, _∙_}
 use mathlib.Core.Bool.{Bool, cond}
 use mathlib.Core.List.{List, [], _∷_}
 use Prim.Native.Nat.{ℕ, zero, suc, _+_, _*_, _-_, _/_, _%_, _≤_, _<_, min}
-use native.Mathlib.Nat.{div-div-eq-div-mul, mul-comm, mul-assoc}
 use native.Mathlib.Omega.{arith}
 use lib.Dec.{eqb}
 use Rattle.laws.specs.Size.{sizeAt, down, size-pos}
@@ -13,7 +12,7 @@ use Rattle.region.specs.Region.{entryLast, entryIndex, chunkEnd}
 use Rattle.region.specs.Chunks.{chunks, chunk-fits}
 use Rattle.region.specs.declared.MemoryRegion.{MemoryRegion}
 use Rattle.forest.specs.Tree.{Tree, leaf, node}
-use Rattle.tree.specs.Page.{span, span-size, first, child, slotOf, In, in-from, in-of, in-child}
+use Rattle.tree.specs.Page.{span, span-size, entry-number, entry-start, first, child, slotOf, In, in-from, in-of, in-child}
 use Rattle.tree.specs.Visit.{Rule, opened, obey}
 use Rattle.tree.specs.Rules.{Map}
 
@@ -59,19 +58,16 @@ pub record Inside (b n start end frame : ℕ) : Type 0 where
 -- the slot of an address
 pub index-slot : (left a : ℕ) → left ≤ 3 → entryIndex (3 - left) a ≡ slotOf (a / 4096) left
 unfolding entryIndex slotOf
-index-slot left a h =
-    ap (λ (x : ℕ). x % 512) (ap (λ (x : ℕ). a / x) (span-size left h ∙ mul-comm (span left) 4096) ∙ sym (div-div-eq-div-mul a 4096 (span left)))
+index-slot left a h = ap (λ (x : ℕ). x % 512) (entry-number left a h)
 
 -- where the chunk from an address ends
 chunk-end : (left q s e : ℕ) → left ≤ 3 → In left q (s / 4096) → chunkEnd (3 - left) s e ≡ min e ((first left q + span left) * 4096)
-unfolding chunkEnd entryLast down first
+unfolding chunkEnd entryLast down
 chunk-end left q s e h at =
     let size = span-size left h in
     let pos = size-pos (3 - left) in
-    let number : s / sizeAt (3 - left) ≡ q = ap (λ (x : ℕ). s / x) (size ∙ mul-comm (span left) 4096) ∙ sym (div-div-eq-div-mul s 4096 (span left)) ∙ at in
-    let start : s / sizeAt (3 - left) * sizeAt (3 - left) ≡ q * span left * 4096 =
-        ap (λ (x : ℕ). x * sizeAt (3 - left)) number ∙ ap (λ (x : ℕ). q * x) size ∙ sym (mul-assoc q (span left) 4096) in
-    let last : s / sizeAt (3 - left) * sizeAt (3 - left) + (sizeAt (3 - left) - 1) + 1 ≡ (q * span left + span left) * 4096 = omega arith in
+    let start : s / sizeAt (3 - left) * sizeAt (3 - left) ≡ first left q * 4096 = entry-start left s h ∙ ap (λ (x : ℕ). first left x * 4096) at in
+    let last : s / sizeAt (3 - left) * sizeAt (3 - left) + (sizeAt (3 - left) - 1) + 1 ≡ (first left q + span left) * 4096 = omega arith in
     ap (min e) last
 
 -- ---- the first chunk of a region in a table

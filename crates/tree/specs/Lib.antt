@@ -15,3 +15,4 @@ pub mod Order
 pub mod Local
 pub mod Chunks
 pub mod Sweep
+pub mod Document

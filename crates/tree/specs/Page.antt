@@ -46,6 +46,25 @@ span-size (suc left) h =
     let step = span-suc left in
     omega arith
 
+-- an address's entry, by its page
+pub entry-number : (left a : ℕ) → left ≤ 3 → a / sizeAt (3 - left) ≡ a / 4096 / span left
+entry-number left a h = ap (λ (x : ℕ). a / x) (span-size left h ∙ mul-comm (span left) 4096) ∙ sym (div-div-eq-div-mul a 4096 (span left))
+
+pub entry-start : (left a : ℕ) → left ≤ 3 → a / sizeAt (3 - left) * sizeAt (3 - left) ≡ first left (a / 4096 / span left) * 4096
+unfolding first
+entry-start left a h =
+    let q : ℕ = a / 4096 / span left in
+    ap (λ (x : ℕ). x * sizeAt (3 - left)) (entry-number left a h) ∙ ap (λ (x : ℕ). q * x) (span-size left h) ∙ sym (mul-assoc q (span left) 4096)
+
+-- .. and its offset there
+pub entry-rest : (left a : ℕ) → left ≤ 3 → a % 4096 ≡ 0 → a % sizeAt (3 - left) ≡ a / 4096 % span left * 4096
+unfolding first
+entry-rest left a h pages =
+    let whole = div-add-mod' a (sizeAt (3 - left)) in
+    let start = entry-start left a h in
+    let page = div-add-mod' (a / 4096) (span left) in
+    omega arith
+
 -- ---- the entry below
 
 pub child-first : (left q i : ℕ) → first left (child q i) ≡ first (suc left) q + i * span left
@@ -61,6 +80,13 @@ child-in left q i h =
     let s = span-suc left in
     let m = mul-le-mul-right (span left) h in
     (omega arith, omega arith)
+
+-- an entry ends at a multiple of its size
+pub end-rest : (left q : ℕ) → (first left q + span left) % span left ≡ 0
+unfolding first
+end-rest left q =
+    let e : q * span left + span left ≡ (q + 1) * span left = let a = add-mul q 1 (span left) in omega arith in
+    ap (λ (x : ℕ). x % span left) e ∙ mul-mod-left (q + 1) (span left)
 
 -- entries below stand in the order of their slots
 pub child-order : (left q i j : ℕ) → i < j → first left (child q i) + span left ≤ first left (child q j)

@@ -73,6 +73,10 @@ pub frame-and-flags : (w : ℕ) → frameOf w * 4096 + flagsOf w ≡ w
 unfolding frameOf flagsOf
 frame-and-flags w = omega arith
 
+pub address-frame : (w : ℕ) → addressOf w ≡ frameOf w * 4096
+unfolding addressOf frameOf
+address-frame w = refl
+
 frame-address : (w p : ℕ) → addressOf w ≡ p * 4096 → frameOf w ≡ p
 unfolding addressOf frameOf
 frame-address w p e = omega arith

@@ -54,7 +54,7 @@ module _ (flags : ℕ) (blocks : Bool) where
 -- ---- it says what `mapRule` says
 
 -- in frames
-word-frames : (left p f : ℕ) → left ≤ 3 → p % 4096 ≡ 0 → wordAt (3 - left) p f ≡ leafWord left (p / 4096) f
+pub word-frames : (left p f : ℕ) → left ≤ 3 → p % 4096 ≡ 0 → wordAt (3 - left) p f ≡ leafWord left (p / 4096) f
 unfolding wordAt leafWord pageBit
 word-frames zero p f h pages = let e : p + f + 2 ≡ p / 4096 * 4096 + f + 2 = omega arith in ap (λ (x : ℕ). cond (valid f) x f) e
 word-frames (suc left) p f h pages =

@@ -16,3 +16,4 @@ pub mod Local
 pub mod Chunks
 pub mod Sweep
 pub mod Document
+pub mod Split

@@ -57,3 +57,7 @@ fill-node left w = refl
 pub fill-slot : (left w i : ℕ) → i < 512 → fillSlot left w i ≡ leaf (fillWord left w i)
 unfolding fillSlot
 fill-slot left w i l = rw (lt-ltb i 512 l)
+
+pub fill-past : (left w i : ℕ) → 512 ≤ i → fillSlot left w i ≡ leaf 0
+unfolding fillSlot
+fill-past left w i l = rw (le-ltb i 512 l)

@@ -85,6 +85,10 @@ frame-address w p e = omega arith
 pub same-word : (w x : ℕ) → frameOf w ≡ frameOf x → flagsOf w ≡ flagsOf x → w ≡ x
 same-word w x f g = let a = frame-and-flags w in let b = frame-and-flags x in omega arith
 
+pub flags-none : flagsOf 0 ≡ 0
+unfolding flagsOf
+flags-none = refl
+
 pub flags-valid : (w : ℕ) → valid (flagsOf w) ≡ valid w
 unfolding flagsOf
 flags-valid w = valid-same (flagsOf w) w (omega arith)

@@ -17,3 +17,4 @@ pub mod Chunks
 pub mod Sweep
 pub mod Document
 pub mod Split
+pub mod Edit

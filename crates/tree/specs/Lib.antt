@@ -18,3 +18,4 @@ pub mod Sweep
 pub mod Document
 pub mod Split
 pub mod Edit
+pub mod Modify

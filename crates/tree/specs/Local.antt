@@ -67,7 +67,7 @@ module _ {rule : Map → ℕ → ℕ → Tree → Rule} (L : Local rule) where
 -- ---- the rules of a map are such
 
 module _ (left b : ℕ) (m n : Map) (a : Agree left b m n) where
-  agree-meets : meets left b m ≡ meets left b n
+  pub agree-meets : meets left b m ≡ meets left b n
   unfolding meets
   agree-meets = ap₂ ltb (a .starts) (a .stops)
 

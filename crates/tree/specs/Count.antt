@@ -32,7 +32,7 @@ nodes-opened left (leaf w) =
 nodes-opened left (node f) = omega arith
 
 -- slot by slot
-table-balance : (h : ℕ → Tree → Tree) (less more : ℕ → Tree → ℕ) → ((i : ℕ) (u : Tree) → nodes (h i u) + less i u ≡ nodes u + more i u)
+pub table-balance : (h : ℕ → Tree → Tree) (less more : ℕ → Tree → ℕ) → ((i : ℕ) (u : Tree) → nodes (h i u) + less i u ≡ nodes u + more i u)
     → (t : Tree) → nodes (eachSlot h t) + total less t ≡ nodes t + total more t
 unfolding total
 table-balance h less more each (leaf w) = ap (λ (x : ℕ). x + 0) (ap nodes (each-leaf h w))
@@ -43,6 +43,11 @@ table-balance h less more each (node f) =
     let d = sum-add 512 (λ i. nodes (f i)) (λ i. more i (f i)) in
     let e = sum-ext 512 (λ i. nodes (h i (f i)) + less i (f i)) (λ i. nodes (f i) + more i (f i)) (λ i l. each i (f i)) in
     omega arith
+
+pub total-none : (h : ℕ → Tree → ℕ) → ((i : ℕ) (u : Tree) → h i u ≡ 0) → (t : Tree) → total h t ≡ 0
+unfolding total
+total-none h each (leaf w) = refl
+total-none h each (node f) = sum-none 512 (λ i. h i (f i)) (λ i l. each i (f i))
 
 -- a rule obeyed
 obey-balance : (r : Rule) (t u : Tree) (less more : ℕ) → nodes u + less ≡ nodes t + more → nodes (obey r t u) + counted r (nodes t) less ≡ nodes t + counted r 0 more
@@ -78,11 +83,6 @@ module _ (rule : ℕ → ℕ → Tree → Rule) where
   -- ---- a rule that never writes over a table frees nothing
 
   module _ (never : (left b : ℕ) (f : ℕ → Tree) (x : ℕ) → rule left b (node f) ≡ write x → ⊥) where
-    total-none : (h : ℕ → Tree → ℕ) → ((i : ℕ) (u : Tree) → h i u ≡ 0) → (t : Tree) → total h t ≡ 0
-    unfolding total
-    total-none h each (leaf w) = refl
-    total-none h each (node f) = sum-none 512 (λ i. h i (f i)) (λ i l. each i (f i))
-
     counted-below : (left b : ℕ) (t : Tree) (below : ℕ) → below ≡ 0 → counted (rule left b t) (nodes t) below ≡ 0
     unfolding counted
     counted-below left b (leaf w) below z = go (rule left b (leaf w))

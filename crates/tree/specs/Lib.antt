@@ -19,3 +19,4 @@ pub mod Document
 pub mod Split
 pub mod Edit
 pub mod Modify
+pub mod Compact

@@ -14,8 +14,10 @@ use Rattle.forest.specs.Nodes.{nodes}
 use Rattle.tree.specs.Page.{slotOf, slot-lt}
 use Rattle.tree.specs.Word.{plain}
 use Rattle.tree.specs.Walk.{Seen, hole, seen, seenIn, framed, seen-leaf, seen-node}
+use Rattle.tree.specs.Fine.{fine-zero}
 use Rattle.tree.specs.Visit.{total}
 use Rattle.tree.specs.Slots.{slotAfter, each-node, each-none, slot-after}
+use Rattle.tree.specs.Shown.{FineTree, FineTable, table-fine}
 use Rattle.tree.specs.Count.{nodes-leaf, nodes-node, total-none, table-balance}
 
 -- ---- definitions
@@ -177,3 +179,21 @@ tight-same (suc left) (node f) tight =
 
 pub compact-again : (left : ℕ) (t : Tree) → compactTree left (compactTree left t) ≡ compactTree left t
 compact-again left t = tight-same left (compactTree left t) (compact-tight left t)
+
+-- ---- fine words stay fine
+
+slot-fine : (left : ℕ) (u : Tree) → ((f : ℕ → Tree) → FineTable left (node f) → FineTable left (compactTree left (node f))) → FineTree (suc left) u
+    → FineTree (suc left) (squashed left u)
+slot-fine left (leaf w) ih fine = subst (FineTree (suc left)) (sym (slot-leaf left w)) fine
+slot-fine left (node f) ih fine = byBool (emptyTree (compactTree left (node f)))
+    (λ e. subst (FineTree (suc left)) (sym (slot-drops left f e)) (fine-zero (suc left)))
+    (λ e. subst (FineTree (suc left)) (sym (slot-stays left f e)) (table-fine left (compactTree left (node f)) (ih f fine)))
+
+pub compact-fine : (left : ℕ) (t : Tree) → FineTable left t → FineTable left (compactTree left t)
+unfolding compactTree eachSlot
+compact-fine zero t fine = fine
+compact-fine (suc left) (leaf w) fine = absurd fine
+compact-fine (suc left) (node f) fine =
+    subst (FineTable (suc left)) (sym (each-node (λ i u. squashed left u) f))
+    (λ i l. subst (FineTree (suc left)) (sym (slot-after (λ i u. squashed left u) f i l))
+      (slot-fine left (f i) (λ g h. compact-fine left (node g) h) (fine i l)))

@@ -7,7 +7,8 @@ use native.Mathlib.Nat.{div-eq-of-lt, div-eq-of-lt-le}
 use native.Mathlib.Omega.{arith}
 use Rattle.forest.specs.Tree.{Tree, leaf, node}
 use Rattle.forest.specs.Nodes.{nodes}
-use Rattle.tree.specs.Page.{span, In}
+use Rattle.laws.specs.Size.{sizeAt}
+use Rattle.tree.specs.Page.{span, span-size, span-suc, In}
 use Rattle.tree.specs.Word.{valid}
 use Rattle.tree.specs.Walk.{seen}
 use Rattle.tree.specs.Visit.{write, visitTable, madeTable, freedTable}
@@ -24,17 +25,28 @@ lowerRoot = 0
 unfoldable pub upperRoot : ℕ → ℕ
 upperRoot left = 2 ^ 52 / span (suc left) - 1
 
--- the page of an address that the root spans
-pub in-lower : (left page : ℕ) → page < span (suc left) → In (suc left) lowerRoot page
-in-lower left page h = div-eq-of-lt h
+-- the address lies in the root's span
+abbrev pub Spans : ℕ → ℕ → ℕ → Type 0
+Spans left r address = In (suc left) r (address / 4096)
 
-pub in-upper : (left page : ℕ) → left ≤ 3 → 2 ^ 52 - span (suc left) ≤ page → page < 2 ^ 52 → In (suc left) (upperRoot left) page
+-- a root spans 512 entries: the lowest addresses ..
+pub lower-span : (left address : ℕ) → left ≤ 3 → address < 512 * sizeAt (3 - left) → Spans left lowerRoot address
+lower-span left address low h = let s = span-size left low in let n = span-suc left in div-eq-of-lt (omega arith)
+
+-- .. or the highest
+in-upper : (left page : ℕ) → left ≤ 3 → 2 ^ 52 - span (suc left) ≤ page → page < 2 ^ 52 → In (suc left) (upperRoot left) page
 unfolding upperRoot span
 in-upper zero page h l u = omega arith
 in-upper (suc zero) page h l u = omega arith
 in-upper (suc (suc zero)) page h l u = omega arith
 in-upper (suc (suc (suc zero))) page h l u = omega arith
 in-upper (suc (suc (suc (suc left)))) page h l u = absurd (omega arith)
+
+pub upper-span : (left address : ℕ) → left ≤ 3 → 2 ^ 64 - 512 * sizeAt (3 - left) ≤ address → address < 2 ^ 64 → Spans left (upperRoot left) address
+upper-span left address low l u =
+    let s = span-size left low in
+    let n = span-suc left in
+    in-upper left (address / 4096) low (omega arith) (omega arith)
 
 module _ (left r : ℕ) where
   -- the tree after a map, the tables that the map takes, those that it frees

@@ -22,6 +22,10 @@ abbrev pub FineTable : ℕ → Tree → Type 0
 FineTable left (leaf w) = ⊥
 FineTable left (node f) = FineTree (suc left) (node f)
 
+pub table-fine : (left : ℕ) (t : Tree) → FineTable left t → FineTree (suc left) t
+table-fine left (leaf w) fine = absurd fine
+table-fine left (node f) fine = fine
+
 -- what is written is fine
 abbrev pub Good : ℕ → Rule → Type 0
 Good left keep = Unit {0}

@@ -20,3 +20,4 @@ pub mod Split
 pub mod Edit
 pub mod Modify
 pub mod Compact
+pub mod Demands

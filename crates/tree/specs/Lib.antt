@@ -21,3 +21,4 @@ pub mod Edit
 pub mod Modify
 pub mod Compact
 pub mod Demands
+pub mod Cases

@@ -22,3 +22,4 @@ pub mod Modify
 pub mod Compact
 pub mod Demands
 pub mod Cases
+pub mod Needed

@@ -76,7 +76,7 @@ module _ (left q s e p flags : ℕ) (blocks : Bool) (low : left ≤ 3) (some : s
   offset : s % sizeAt (3 - left) ≡ (s / 4096 - b) * 4096
   offset = entry-rest left s low (I .startPage) ∙ (let r = in-rest left q (s / 4096) start-in in let e : s / 4096 % span left * 4096 ≡ (s / 4096 - b) * 4096 = omega arith in e)
 
-  meets-is : meets left b m ≡ true
+  pub meets-is : meets left b m ≡ true
   meets-is = yes-meets left b m (s / 4096) (omega arith) (omega (arith, I .startPage, I .endPage)) (I .low) (omega (arith, I .startPage, I .endPage, I .high))
 
   already-is : (w : ℕ) → already (3 - left) (region s e) p flags w ≡ same b m w
@@ -116,7 +116,7 @@ module _ (left q s e p flags : ℕ) (blocks : Bool) (low : left ≤ 3) (some : s
           let l : b < e / 4096 = omega (arith, I .low, I .startPage, I .endPage) in
           absurd (omega (arith, in-rest left q (e / 4096) (in-of left q (e / 4096) (omega arith) h)))
 
-  whole-is : wholeEntry (3 - left) (region s e) ≡ whole left b m
+  pub whole-is : wholeEntry (3 - left) (region s e) ≡ whole left b m
   unfolding wholeEntry whole
   whole-is = ap₂ _&&_ start-is end-is
 

@@ -23,3 +23,4 @@ pub mod Compact
 pub mod Demands
 pub mod Cases
 pub mod Needed
+pub mod DocumentModify

@@ -1,21 +1,19 @@
 -- Demand 2's walk: what each page shows after a map. Assumes nothing.
-use mathlib.Core.Path.{_≡_, refl, sym, ap, _∙_, subst}
-use mathlib.Core.Bool.{Bool, true, false, cond, _&&_}
-use Prim.Native.Nat.{ℕ, zero, suc, _+_, _*_, _-_, _%_, _^_, _≤_, _<_}
+use mathlib.Core.Path.{_≡_, sym, ap, _∙_, subst}
+use mathlib.Core.Bool.{Bool, true, false, cond, _&&_, true≢false}
+use Prim.Native.Nat.{ℕ, zero, suc, _+_, _-_, _%_, _^_, _≤_, _<_}
 use native.Mathlib.Nat.{mod-one}
 use native.Mathlib.Omega.{arith}
 use lib.Dec.{leb, ltb}
 use borrow.Author.Tests.{leb-true, le-leb, ltb-true, lt-ltb}
-use Rattle.laws.specs.Test.{byBool}
-use Rattle.entry.specs.Word.{flagsOf}
+use Rattle.laws.specs.Test.{byBool, both}
 use Rattle.forest.specs.Tree.{Tree, leaf, node}
 use Rattle.tree.specs.Page.{span, span-zero, span-pos, first, In, in-from, in-rest}
-use Rattle.tree.specs.Word.{valid, frameOf, plain, leafWord, Plain, leaf-hole, flags-valid, plain-flags}
+use Rattle.tree.specs.Word.{valid, frameOf, plain, leafWord, leaf-hole, flags-valid, plain-flags}
 use Rattle.tree.specs.Fine.{Fine, fine-flags, fine-leaf}
 use Rattle.tree.specs.Walk.{Seen, mapped, hole, seen, seenIn, seen-leaf, seen-fine, seen-leaf-word, seen-flags}
-use Rattle.tree.specs.Visit.{Rule, keep, write, down}
 use Rattle.tree.specs.Shown.{FineTree, Good, Right, Shows}
-use Rattle.tree.specs.Rules.{Map, Given, meets, whole, frameAt, same, fits, drops, mapRule, both, yes-meets, whole-yes, drops-yes, fits-yes, same-yes, page-in, rule-off, rule-page, rule-same, rule-block, rule-drop, rule-split, rule-down}
+use Rattle.tree.specs.Rules.{Map, Given, meets, whole, frameAt, same, fits, drops, mapRule, yes-meets, whole-yes, drops-yes, fits-yes, same-yes, page-in, rule-off, rule-page, rule-same, rule-block, rule-drop, rule-split, rule-down}
 
 -- the page is one of the region
 unfoldable pub covers : Map → ℕ → Bool
@@ -61,7 +59,7 @@ module _ (m : Map) (left q page : ℕ) (at : In left q page) where
   pub off-out : meets left (first left q) m ≡ false → covers m page ≡ false
   off-out e = byBool (covers m page)
       (λ c. let x = covers-yes m page c in let y = in-from left q page at in
-        absurd (let z : true ≡ false = sym (yes-meets left (first left q) m page (x .0) (x .1) (y .0) (y .1)) ∙ e in let u : _≡_ {A = ℕ} 0 1 = cc in omega arith))
+      absurd (true≢false (sym (yes-meets left (first left q) m page (x .0) (x .1) (y .0) (y .1)) ∙ e)))
       (λ c. c)
 
   -- of a whole entry it has all
@@ -106,8 +104,8 @@ module _ (m : Map) (G : Given m) where
       met (suc k) (leaf w) fu e = let b : ℕ = first (suc k) q in byBool (same b m w)
           (λ s. subst (Good (suc k)) (sym (rule-same m k b w s)) tt)
           (λ s. byBool (fits (suc k) b m)
-            (λ f. subst (Good (suc k)) (sym (rule-block m k b w e s f)) (block-good (suc k) b f))
-            (λ f. subst (Good (suc k)) (sym (rule-split m k b w e s f)) tt))
+          (λ f. subst (Good (suc k)) (sym (rule-block m k b w e s f)) (block-good (suc k) b f))
+          (λ f. subst (Good (suc k)) (sym (rule-split m k b w e s f)) tt))
       met (suc k) (node g) fu e = let b : ℕ = first (suc k) q in byBool (drops (suc k) b m)
           (λ d. subst (Good (suc k)) (sym (rule-drop m k b g e d)) (fine-flags (suc k) (m .flags) (G .plain) (drops-yes (suc k) b m d .1)))
           (λ d. subst (Good (suc k)) (sym (rule-down m k b g e d)) tt)
@@ -121,9 +119,9 @@ module _ (m : Map) (G : Given m) where
       let p : ℕ = frameAt (first left q) m in
       byBool (valid (m .flags))
       (λ v. seen-leaf-word left p (m .flags) page (G .plain) below aligned low v
-        ∙ ap (mapped (m .flags)) (frame-page m left q page at h) ∙ sym (asked-valid m page v))
+      ∙ ap (mapped (m .flags)) (frame-page m left q page at h) ∙ sym (asked-valid m page v))
       (λ v. ap (λ (x : ℕ). seenIn left x page) (leaf-hole (m .flags) (G .plain) left p v)
-        ∙ seen-flags left (m .flags) page (G .plain) v ∙ sym (asked-hole m page v))
+      ∙ seen-flags left (m .flags) page (G .plain) v ∙ sym (asked-hole m page v))
 
   -- rule 2: what is there shows it already
   same-seen : (left q w page : ℕ) → Fine (suc left) w → In (suc left) q page → same (first (suc left) q) m w ≡ true → covers m page ≡ true
@@ -157,23 +155,23 @@ module _ (m : Map) (G : Given m) where
           let old : Seen = seen (suc k) (leaf w) page in
           byBool (same b m w)
           (λ s. subst (Right (after m) (suc k) (leaf w) page) (sym (rule-same m k b w s)) (byBool (covers m page)
-            (λ c. seen-leaf (suc k) w page ∙ same-seen k q w page fu inq s c ∙ sym (after-in m page old c))
-            (λ c. sym (after-out m page old c))))
+          (λ c. seen-leaf (suc k) w page ∙ same-seen k q w page fu inq s c ∙ sym (after-in m page old c))
+          (λ c. sym (after-out m page old c))))
           (λ s. byBool (fits (suc k) b m)
-            (λ f. let x = fits-yes (suc k) b m f in
-              let y = whole-yes (suc k) b m (x .0) in
-              let z = span-pos (suc k) in
-              subst (Right (after m) (suc k) (leaf w) page) (sym (rule-block m k b w e s f))
-              (written-seen (suc k) q page inq (y .0) (frame-at b (y .0) (omega arith)) (x .1) (x .2)
-              ∙ sym (after-in m page old (whole-in m (suc k) q page inq (x .0)))))
-            (λ f. subst (Right (after m) (suc k) (leaf w) page) (sym (rule-split m k b w e s f)) tt))
+          (λ f. let x = fits-yes (suc k) b m f in
+          let y = whole-yes (suc k) b m (x .0) in
+          let z = span-pos (suc k) in
+          subst (Right (after m) (suc k) (leaf w) page) (sym (rule-block m k b w e s f))
+          (written-seen (suc k) q page inq (y .0) (frame-at b (y .0) (omega arith)) (x .1) (x .2)
+          ∙ sym (after-in m page old (whole-in m (suc k) q page inq (x .0)))))
+          (λ f. subst (Right (after m) (suc k) (leaf w) page) (sym (rule-split m k b w e s f)) tt))
       met (suc k) (node g) fu inq e =
           let b : ℕ = first (suc k) q in
           byBool (drops (suc k) b m)
           (λ d. let x = drops-yes (suc k) b m d in
-            subst (Right (after m) (suc k) (node g) page) (sym (rule-drop m k b g e d))
-            (seen-flags (suc k) (m .flags) page (G .plain) (x .1) ∙ sym (asked-hole m page (x .1))
-            ∙ sym (after-in m page (seen (suc k) (node g) page) (whole-in m (suc k) q page inq (x .0)))))
+          subst (Right (after m) (suc k) (node g) page) (sym (rule-drop m k b g e d))
+          (seen-flags (suc k) (m .flags) page (G .plain) (x .1) ∙ sym (asked-hole m page (x .1))
+          ∙ sym (after-in m page (seen (suc k) (node g) page) (whole-in m (suc k) q page inq (x .0)))))
           (λ d. subst (Right (after m) (suc k) (node g) page) (sym (rule-down m k b g e d)) tt)
 
   -- A MAP BRINGS ABOUT `after`

@@ -1,6 +1,6 @@
 -- Two VALID maps that share no page: both orders leave the same tree. Assumes nothing.
-use mathlib.Core.Path.{_≡_, refl, sym, ap, ap₂, _∙_}
-use mathlib.Core.Bool.{Bool, true, false}
+use mathlib.Core.Path.{_≡_, sym, ap, ap₂, _∙_}
+use mathlib.Core.Bool.{true, false}
 use Prim.Native.Nat.{ℕ, zero, suc, _+_, _*_, _-_, _≤_, _<_, max}
 use native.Mathlib.Nat.{add-zero}
 use native.Mathlib.Omega.{arith}
@@ -11,9 +11,9 @@ use Rattle.tree.specs.Page.{span, span-pos, first, child, child-first}
 use Rattle.tree.specs.Word.{valid, frameOf, leafWord, fillWord, pageBit, flags-valid, leaf-frame, leaf-flags}
 use Rattle.tree.specs.Fine.{Fine, fill-flags, fill-is, fill-below}
 use Rattle.tree.specs.Visit.{opened, visit, visitTable, visit-keep, visit-write, visit-down}
-use Rattle.tree.specs.Slots.{slotAfter, each-node, each-same, each-none, each-both, fillSlot, fill-node, fill-slot}
+use Rattle.tree.specs.Slots.{slotAfter, each-node, each-same, each-both, fillSlot, fill-node, fill-slot}
 use Rattle.tree.specs.Shown.{FineTree, FineTable, fine-fill-slots}
-use Rattle.tree.specs.Rules.{Map, meets, whole, frameAt, same, fits, drops, mapRule, meets-yes, whole-yes, drops-no, fits-no, same-yes, yes-same, page-in, rule-off, rule-page, rule-same, rule-split, rule-down}
+use Rattle.tree.specs.Rules.{Map, meets, whole, frameAt, same, mapRule, meets-yes, whole-yes, drops-no, fits-no, same-yes, yes-same, page-in, rule-off, rule-page, rule-same, rule-split, rule-down}
 
 -- the regions share no page
 abbrev pub Apart : Map → Map → Type 0
@@ -26,7 +26,7 @@ apart-flip m n apart page p q r s = apart page r s p q
 not-whole : (left b : ℕ) (m n : Map) → Apart m n → meets left b m ≡ true → meets left b n ≡ true → whole left b m ≡ false
 not-whole left b m n apart p q = byBool (whole left b m)
     (λ w. let x = whole-yes left b m w in let y = meets-yes left b n q in let z = span-pos left in
-      absurd (apart (max (n .from) b) (omega arith) (omega arith) (omega arith) (omega arith)))
+    absurd (apart (max (n .from) b) (omega arith) (omega arith) (omega arith) (omega arith)))
     (λ w. w)
 
 -- the map's work on an entry
@@ -46,10 +46,10 @@ module _ (m : Map) where
       let old : Tree = leaf (fillWord zero w i) in
       byBool (meets zero b m)
       (λ e. let x = same-yes (first 1 q) m w s in
-        let y = page-in b m e in
-        let z = child-first zero q i in
-        let frames : m .frame + (b - m .from) ≡ frameOf w + i * span zero = omega arith in
-        visit-write (mapRule m) zero (child q i) old _ (rule-page m b (fillWord zero w i) e) ∙ ap leaf (ap₂ (leafWord zero) frames (sym (x .0)) ∙ sym (fill-is zero w fine i)))
+      let y = page-in b m e in
+      let z = child-first zero q i in
+      let frames : m .frame + (b - m .from) ≡ frameOf w + i * span zero = omega arith in
+      visit-write (mapRule m) zero (child q i) old _ (rule-page m b (fillWord zero w i) e) ∙ ap leaf (ap₂ (leafWord zero) frames (sym (x .0)) ∙ sym (fill-is zero w fine i)))
       (λ e. work-off zero (child q i) old e)
   keeps-fill (suc left) q w i v fine s l =
       let b : ℕ = first (suc left) (child q i) in
@@ -110,7 +110,7 @@ module _ (left q : ℕ) (m n : Map) (c : Meet left q m n) where
   both-down f fine =
       work-each m left q (c .one) (c .partOne) (λ i u. work n left (child q i) u) f
       ∙ each-same (λ i u. work m left (child q i) (work n left (child q i) u)) (λ i u. work n left (child q i) (work m left (child q i) u)) f
-        (λ i l. c .below (child q i) (f i) (fine i l))
+      (λ i l. c .below (child q i) (f i) (fine i l))
       ∙ sym (work-each n left q (c .two) (c .partTwo) (λ i u. work m left (child q i) u) f)
 
   -- m keeps the word and n splits it: m keeps what n made
@@ -122,8 +122,8 @@ module _ (left q : ℕ) (m n : Map) (c : Meet left q m n) where
       ap (work m (suc left) q) split
       ∙ work-each m left q (c .one) (c .partOne) (λ i u. work n left (child q i) u) g
       ∙ each-same (λ i u. work m left (child q i) (work n left (child q i) u)) (λ i u. work n left (child q i) u) g
-        (λ i l. c .below (child q i) (g i) (fine-fill-slots left w fine i l)
-          ∙ ap (work n left (child q i)) (ap (work m left (child q i)) (fill-slot left w i l) ∙ keeps-fill m left q w i v fine sm l ∙ sym (fill-slot left w i l)))
+      (λ i l. c .below (child q i) (g i) (fine-fill-slots left w fine i l)
+      ∙ ap (work n left (child q i)) (ap (work m left (child q i)) (fill-slot left w i l) ∙ keeps-fill m left q w i v fine sm l ∙ sym (fill-slot left w i l)))
       ∙ sym split
 
 -- both meet the entry
@@ -133,13 +133,13 @@ inside left q m n c vm vn (leaf w) fine =
     let b : ℕ = first (suc left) q in
     byBool (same b m w)
     (λ sm. let keeps = work-same m left q w sm in byBool (same b n w)
-      (λ sn. let keeps′ = work-same n left q w sn in ap (work m (suc left) q) keeps′ ∙ keeps ∙ sym (ap (work n (suc left) q) keeps ∙ keeps′))
-      (λ sn. one-splits left q m n c vm w fine sm sn ∙ ap (work n (suc left) q) (sym keeps)))
+    (λ sn. let keeps′ = work-same n left q w sn in ap (work m (suc left) q) keeps′ ∙ keeps ∙ sym (ap (work n (suc left) q) keeps ∙ keeps′))
+    (λ sn. one-splits left q m n c vm w fine sm sn ∙ ap (work n (suc left) q) (sym keeps)))
     (λ sm. byBool (same b n w)
-      (λ sn. let keeps′ = work-same n left q w sn in ap (work m (suc left) q) keeps′ ∙ sym (one-splits left q n m (flip c) vn w fine sn sm))
-      (λ sn. ap (work m (suc left) q) (work-split n left q (c .two) (c .partTwo) w sn)
-        ∙ both-down left q m n c (fillSlot left w) (fine-fill-slots left w fine)
-        ∙ ap (work n (suc left) q) (sym (work-split m left q (c .one) (c .partOne) w sm))))
+    (λ sn. let keeps′ = work-same n left q w sn in ap (work m (suc left) q) keeps′ ∙ sym (one-splits left q n m (flip c) vn w fine sn sm))
+    (λ sn. ap (work m (suc left) q) (work-split n left q (c .two) (c .partTwo) w sn)
+    ∙ both-down left q m n c (fillSlot left w) (fine-fill-slots left w fine)
+    ∙ ap (work n (suc left) q) (sym (work-split m left q (c .one) (c .partOne) w sm))))
 inside left q m n c vm vn (node f) fine =
     ap (work m (suc left) q) (work-down n left q (c .two) (c .partTwo) f)
     ∙ both-down left q m n c f fine
@@ -159,21 +159,21 @@ module _ (m n : Map) (apart : Apart m n) (vm : valid (m .flags) ≡ true) (vn : 
       let b : ℕ = first zero q in
       byBool (meets zero b m)
       (λ em. byBool (meets zero b n)
-        (λ en. let x = page-in b m em in let y = page-in b n en in absurd (apart b (x .0) (x .1) (y .0) (y .1)))
-        (away zero q t))
+      (λ en. let x = page-in b m em in let y = page-in b n en in absurd (apart b (x .0) (x .1) (y .0) (y .1)))
+      (away zero q t))
       (away′ zero q t)
   commute (suc left) q t fine =
       let b : ℕ = first (suc left) q in
       byBool (meets (suc left) b m)
       (λ em. byBool (meets (suc left) b n)
-        (λ en. inside left q m n (record {
-          below = λ p u fu. commute left p u fu;
-          one = em;
-          two = en;
-          partOne = not-whole (suc left) b m n apart em en;
-          partTwo = not-whole (suc left) b n m (apart-flip m n apart) en em;
-        }) vm vn t fine)
-        (away (suc left) q t))
+      (λ en. inside left q m n (record {
+        below = λ p u fu. commute left p u fu;
+        one = em;
+        two = en;
+        partOne = not-whole (suc left) b m n apart em en;
+        partTwo = not-whole (suc left) b n m (apart-flip m n apart) en em;
+      }) vm vn t fine)
+      (away (suc left) q t))
       (away′ (suc left) q t)
 
   -- .. and in a table
@@ -184,5 +184,5 @@ module _ (m n : Map) (apart : Apart m n) (vm : valid (m .flags) ≡ true) (vn : 
   commute-table left q (node f) fine =
       each-both (λ i u. work m left (child q i) u) (λ i u. work n left (child q i) u) (node f)
       ∙ each-same (λ i u. work m left (child q i) (work n left (child q i) u)) (λ i u. work n left (child q i) (work m left (child q i) u)) f
-        (λ i l. commute left (child q i) (f i) (fine i l))
+      (λ i l. commute left (child q i) (f i) (fine i l))
       ∙ sym (each-both (λ i u. work n left (child q i) u) (λ i u. work m left (child q i) u) (node f))

@@ -1,8 +1,8 @@
 -- Compact on trees: each page shows what it showed, no empty table is left below the root, a second compact does nothing, and the tables that go are
 -- counted. Leans on `compactTree` of `forest`. Assumes nothing.
 use mathlib.Core.Path.{_≡_, refl, sym, ap, subst, _∙_}
-use mathlib.Core.Bool.{Bool, true, false, cond}
-use Prim.Native.Nat.{ℕ, zero, suc, _+_, _≤_, _<_}
+use mathlib.Core.Bool.{Bool, true, false, true≢false}
+use Prim.Native.Nat.{ℕ, zero, suc, _+_, _<_}
 use native.Mathlib.Omega.{arith}
 use lib.Dec.{T, eqb, eqb→eq}
 use Rattle.laws.specs.Sum.{sum-none, tally}
@@ -13,7 +13,7 @@ use Rattle.forest.specs.Compact.{emptyTree, squash, compactTree}
 use Rattle.forest.specs.Nodes.{nodes}
 use Rattle.tree.specs.Page.{slotOf, slot-lt}
 use Rattle.tree.specs.Word.{plain}
-use Rattle.tree.specs.Walk.{Seen, hole, seen, seenIn, framed, seen-leaf, seen-node}
+use Rattle.tree.specs.Walk.{hole, seen, seenIn, framed, seen-leaf, seen-node}
 use Rattle.tree.specs.Fine.{fine-zero}
 use Rattle.tree.specs.Visit.{total}
 use Rattle.tree.specs.Slots.{slotAfter, each-node, each-none, slot-after}
@@ -67,13 +67,13 @@ unfolding seenIn framed kindOf plain
 zero-seen left page = seen-leaf left 0 page
 
 empty-seen : (left : ℕ) (c : Tree) (page : ℕ) → emptyTree c ≡ true → seen (suc left) c page ≡ hole 0
-empty-seen left (leaf w) page e = absurd (let z : true ≡ false = sym e ∙ not-empty w in let u : _≡_ {A = ℕ} 0 1 = cc in omega arith)
+empty-seen left (leaf w) page e = absurd (true≢false (sym e ∙ not-empty w))
 empty-seen left (node f) page e =
     seen-node left f page ∙ ap (λ (u : Tree). seen left u page) (empty-slot f e (slotOf page left) (slot-lt page left)) ∙ zero-seen left page
 
 -- it is one table
 empty-nodes : (c : Tree) → emptyTree c ≡ true → nodes c ≡ 1
-empty-nodes (leaf w) e = absurd (let z : true ≡ false = sym e ∙ not-empty w in let u : _≡_ {A = ℕ} 0 1 = cc in omega arith)
+empty-nodes (leaf w) e = absurd (true≢false (sym e ∙ not-empty w))
 empty-nodes (node f) e = nodes-node f ∙ ap suc (sum-none 512 (λ i. nodes (f i)) (λ i l. ap nodes (empty-slot f e i l) ∙ nodes-leaf 0))
 
 -- ---- one slot
@@ -106,7 +106,7 @@ compact-seen (suc left) t page = each t (λ u. slot u (λ f. compact-seen left (
     slot (leaf w) ih = ap (λ (v : Tree). seen (suc left) v page) (slot-leaf left w)
     slot (node f) ih = byBool (emptyTree (compactTree left (node f)))
         (λ e. ap (λ (v : Tree). seen (suc left) v page) (slot-drops left f e) ∙ zero-seen (suc left) page
-          ∙ sym (empty-seen left (compactTree left (node f)) page e) ∙ ih f)
+        ∙ sym (empty-seen left (compactTree left (node f)) page e) ∙ ih f)
         (λ e. ap (λ (v : Tree). seen (suc left) v page) (slot-stays left f e) ∙ ih f)
 
     each : (t : Tree) → ((u : Tree) → seen (suc left) (squashed left u) page ≡ seen (suc left) u page)
@@ -129,8 +129,8 @@ slot-count left (node f) ih =
     let b = ih f in
     byBool (emptyTree (compactTree left (node f)))
     (λ e. let one = empty-nodes (compactTree left (node f)) e in
-      let zero = ap nodes (slot-drops left f e) ∙ nodes-leaf 0 in
-      rw e (omega arith))
+    let zero = ap nodes (slot-drops left f e) ∙ nodes-leaf 0 in
+    rw e (omega arith))
     (λ e. let same = ap nodes (slot-stays left f e) in rw e (omega arith))
 
 pub compact-count : (left : ℕ) (t : Tree) → nodes (compactTree left t) + emptied left t ≡ nodes t
@@ -138,8 +138,8 @@ unfolding compactTree emptied
 compact-count zero t = omega arith
 compact-count (suc left) t =
     let balance : nodes (eachSlot (λ i u. squashed left u) t) + total (λ i u. gone (λ v. emptied left v) (λ v. compactTree left v) u) t ≡ nodes t + total (λ i u. 0) t =
-        table-balance (λ i u. squashed left u) (λ i u. gone (λ v. emptied left v) (λ v. compactTree left v) u) (λ i u. 0)
-        (λ i u. slot-count left u (λ f. compact-count left (node f))) t in
+    table-balance (λ i u. squashed left u) (λ i u. gone (λ v. emptied left v) (λ v. compactTree left v) u) (λ i u. 0)
+    (λ i u. slot-count left u (λ f. compact-count left (node f))) t in
     let none = total-none (λ i u. 0) (λ i u. refl) t in
     omega arith
 
@@ -162,7 +162,7 @@ compact-tight (suc left) (leaf w) = tt
 compact-tight (suc left) (node f) =
     subst (Tight (suc left)) (sym (each-node (λ i u. squashed left u) f))
     (λ i l. subst (λ (v : Tree). (emptyTree v ≡ false) × Tight left v) (sym (slot-after (λ i u. squashed left u) f i l))
-      (slot-tight left (f i) (λ g. compact-tight left (node g))))
+    (slot-tight left (f i) (λ g. compact-tight left (node g))))
 
 -- ---- A SECOND COMPACT DOES NOTHING
 
@@ -196,4 +196,4 @@ compact-fine (suc left) (leaf w) fine = absurd fine
 compact-fine (suc left) (node f) fine =
     subst (FineTable (suc left)) (sym (each-node (λ i u. squashed left u) f))
     (λ i l. subst (FineTree (suc left)) (sym (slot-after (λ i u. squashed left u) f i l))
-      (slot-fine left (f i) (λ g h. compact-fine left (node g) h) (fine i l)))
+    (slot-fine left (f i) (λ g h. compact-fine left (node g) h) (fine i l)))

@@ -1,6 +1,6 @@
 -- Tables: after a visit there are as many as before, more by those that it makes and fewer by those that it frees. Assumes nothing.
-use mathlib.Core.Path.{_≡_, refl, sym, ap, _∙_}
-use Prim.Native.Nat.{ℕ, zero, suc, _+_, _<_}
+use mathlib.Core.Path.{_≡_, refl, ap, _∙_}
+use Prim.Native.Nat.{ℕ, zero, suc, _+_}
 use native.Mathlib.Omega.{arith}
 use Rattle.laws.specs.Sum.{sum, sum-ext, sum-none, sum-add}
 use Rattle.forest.specs.Tree.{Tree, leaf, node, eachSlot}
@@ -70,7 +70,7 @@ module _ (rule : ℕ → ℕ → Tree → Rule) where
       obey-balance (rule zero (first zero q) t) t t 0 0 refl ∙ ap (λ (x : ℕ). nodes t + x) (counted-none (rule zero (first zero q) t))
   balance (suc left) q t =
       let table = table-balance (λ i u. visit rule left (child q i) u) (λ i u. freed rule left (child q i) u) (λ i u. made rule left (child q i) u)
-          (λ i u. balance left (child q i) u) (opened left t) in
+      (λ i u. balance left (child q i) u) (opened left t) in
       let new = nodes-opened left t in
       obey-balance (rule (suc left) (first (suc left) q) t) t _ _ _ (omega arith)
 

@@ -2,7 +2,7 @@
 -- its span (`Root`). Pages and frames are addresses / 4096; `In (suc left) r page` says that the root spans the page. `seen` is what a walk
 -- shows of a page, "as before" in the document's sense; `walk` has the level too. Assumes nothing.
 use mathlib.Core.Path.{_≡_, refl, sym, ap, _∙_}
-use mathlib.Core.Bool.{Bool, true, false, cond}
+use mathlib.Core.Bool.{true, false, cond}
 use mathlib.Core.List.{List, [], _∷_, List·Permᴰ·swap, Permᴰ·symm}
 use mathlib.Core.Logic.{_↔_}
 use Prim.Native.Nat.{ℕ, suc, _+_, _-_, _≤_, _<_}
@@ -13,12 +13,12 @@ use Rattle.forest.specs.Nodes.{nodes}
 use Rattle.forest.specs.Compact.{compactTree}
 use Rattle.tree.specs.Page.{In}
 use Rattle.tree.specs.Word.{valid}
-use Rattle.tree.specs.Walk.{Seen, mapped, hole, Answer, walk, seen}
+use Rattle.tree.specs.Walk.{mapped, hole, walk, seen}
 use Rattle.tree.specs.Shown.{FineTable}
 use Rattle.tree.specs.Rules.{Map, Given}
 use Rattle.tree.specs.After.{covers, yes-covers, covers-yes, after-in, after-out, asked-valid, asked-hole}
 use Rattle.tree.specs.Commute.{Apart, apart-flip}
-use Rattle.tree.specs.Root.{mapTree, mapMade, mapFreed, map-fine, map-seen, map-count, valid-frees-none, valid-grows, map-commute}
+use Rattle.tree.specs.Root.{mapTree, mapMade, mapFreed, map-seen, map-count, valid-frees-none, valid-grows, map-commute}
 use Rattle.tree.specs.Order.{Reorders, Each, Pairwise, ValidMap, run, Room, madeAll, each-reorders, pairwise-reorders, run-reorders, room-reorders, seen-reorders, room-enough}
 use Rattle.tree.specs.Edit.{edited}
 use Rattle.tree.specs.Modify.{Modify, GivenModify, pagesOf, changed, afterModify, modifyTree, modifyMade, modify-seen, modify-count}
@@ -49,8 +49,8 @@ module _ (left r : ℕ) (t : Tree) (fine : FineTable left t) where
     others-as-before other =
         map-seen left r m given t fine page spans
         ∙ after-out m page (seen (suc left) t page) (byBool (covers m page)
-          (λ c. let x = covers-yes m page c in absurd (other (record { from = x .0; below = x .1 })))
-          (λ c. c))
+        (λ c. let x = covers-yes m page c in absurd (other (record { from = x .0; below = x .1 })))
+        (λ c. c))
 
   -- tables after = tables before + made - freed; a VALID map frees none
   pub tables-after : (m : Map) → nodes (mapTree left r m t) + mapFreed left r m t ≡ nodes t + mapMade left r m t
@@ -77,16 +77,23 @@ module _ (left r : ℕ) (t : Tree) (fine : FineTable left t) where
     -- equally many made in all;
     pub same-made : mapMade left r m t + mapMade left r n (mapTree left r m t) ≡ mapMade left r n t + mapMade left r m (mapTree left r n t)
     same-made =
-        omega (arith, same-tables, valid-grows left r m vm t, valid-grows left r n vn t,
-          valid-grows left r n vn (mapTree left r m t), valid-grows left r m vm (mapTree left r n t))
+        omega (
+          arith,
+          same-tables,
+          valid-grows left r m vm t,
+          valid-grows left r n vn t,
+          valid-grows left r n vn (mapTree left r m t),
+          valid-grows left r m vm (mapTree left r n t),
+        )
 
     -- both are accepted in one order exactly when in the other, in a pool of k tables
     pub same-room : Given m → Given n → (k : ℕ) → nodes t ≤ k → Room left r k (m ∷ n ∷ []) t ↔ Room left r k (n ∷ m ∷ []) t
     same-room gm gn k room =
         let one : ValidMap m = record { given = gm; valid = vm } in
-        let two : ValidMap n = record { given = gn; valid = vn } in
-        (room-reorders left r k {ms = m ∷ n ∷ []} {ns = n ∷ m ∷ []} (List·Permᴰ·swap refl refl) ((apart, tt), (tt, tt)) (one, (two, tt)) t fine room,
-         room-reorders left r k {ms = n ∷ m ∷ []} {ns = m ∷ n ∷ []} (List·Permᴰ·swap refl refl) ((apart-flip m n apart, tt), (tt, tt)) (two, (one, tt)) t fine room)
+        let two : ValidMap n = record { given = gn; valid = vn } in (
+          room-reorders left r k {ms = m ∷ n ∷ []} {ns = n ∷ m ∷ []} (List·Permᴰ·swap refl refl) ((apart, tt), (tt, tt)) (one, (two, tt)) t fine room,
+          room-reorders left r k {ms = n ∷ m ∷ []} {ns = m ∷ n ∷ []} (List·Permᴰ·swap refl refl) ((apart-flip m n apart, tt), (tt, tt)) (two, (one, tt)) t fine room,
+        )
 
   -- ---- Q-13: any list of maps whose regions share no page pairwise, in any order
 
@@ -100,8 +107,10 @@ module _ (left r : ℕ) (t : Tree) (fine : FineTable left t) where
   any-order k ms ns reorders apart valid room =
       let same = run-reorders left r reorders apart valid t fine in
       record {
-        accepted = (room-reorders left r k reorders apart valid t fine room,
-            room-reorders left r k (Permᴰ·symm reorders) (pairwise-reorders reorders apart) (each-reorders ValidMap reorders valid) t fine room);
+        accepted = (
+          room-reorders left r k reorders apart valid t fine room,
+          room-reorders left r k (Permᴰ·symm reorders) (pairwise-reorders reorders apart) (each-reorders ValidMap reorders valid) t fine room,
+        );
         answers = λ page. ap (λ (u : Tree). walk (suc left) u page) same;
         tables = ap nodes same;
       }
@@ -121,7 +130,7 @@ module _ (left r : ℕ) (t : Tree) (fine : FineTable left t) where
     -- a page of the region that was mapped keeps its frame, with the flags (flags or set) without clear, and is a hole where that clears VALID;
     pub modified : (f p : ℕ) → OfRegion (e .from) (e .upto) page → seen (suc left) t page ≡ mapped f p
         → seen (suc left) (modifyTree left r e t) page
-          ≡ cond (valid (edited (e .set) (e .clear) f)) (mapped (edited (e .set) (e .clear) f) p) (hole (edited (e .set) (e .clear) f))
+        ≡ cond (valid (edited (e .set) (e .clear) f)) (mapped (edited (e .set) (e .clear) f) p) (hole (edited (e .set) (e .clear) f))
     unfolding afterModify changed
     modified f p of old =
         modify-seen left r e given t fine page spans
@@ -138,8 +147,8 @@ module _ (left r : ℕ) (t : Tree) (fine : FineTable left t) where
     modify-others other =
         modify-seen left r e given t fine page spans
         ∙ rw (byBool {A = covers (pagesOf e) page ≡ false} (covers (pagesOf e) page)
-          (λ c. let x = covers-yes (pagesOf e) page c in absurd (other (record { from = x .0; below = x .1 })))
-          (λ c. c))
+        (λ c. let x = covers-yes (pagesOf e) page c in absurd (other (record { from = x .0; below = x .1 })))
+        (λ c. c))
 
   -- tables after = tables before + made: modify frees none
   pub modify-tables : (e : Modify) → nodes (modifyTree left r e t) ≡ nodes t + modifyMade left r e t

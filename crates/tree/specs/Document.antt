@@ -1,26 +1,25 @@
 -- "Putting down a map" word for word, over addresses: the first rule that fits a chunk. Run chunk by chunk as `Chunks` has it, it is the map of `Root`.
 -- Assumes nothing.
-use mathlib.Core.Path.{_≡_, refl, sym, ap, ap₂, _∙_}
+use mathlib.Core.Path.{_≡_, refl, ap, ap₂, _∙_}
 use mathlib.Core.Bool.{Bool, true, false, not, cond, _&&_}
-use mathlib.Core.Logic.{_⊎_, inl, inr, _≢_}
+use mathlib.Core.Logic.{_⊎_, inl, inr}
 use Prim.Native.Nat.{ℕ, zero, suc, _+_, _*_, _-_, _/_, _%_, _≤_, _<_}
-use native.Mathlib.Nat.{mod-eq-of-lt, mul-mod-left}
 use native.Mathlib.Omega.{arith}
 use lib.Dec.{eqb, eqb→eq, leb, leb→le, le→leb, ltb, ltb→lt, lt→ltb}
 use borrow.Author.Tests.{lt-leb}
 use Rattle.laws.specs.Size.{sizeAt}
-use Rattle.laws.specs.Test.{byBool, same-test, eq→eqb, and-l, and-r, and-i, le-or, is-true}
+use Rattle.laws.specs.Test.{byBool, same-test, eq→eqb, and-l, and-r, and-i, le-or}
 use Rattle.entry.specs.Word.{addressOf, flagsOf}
 use Rattle.region.specs.Region.{region}
 use Rattle.region.specs.declared.MemoryRegion.{MemoryRegion}
 use Rattle.forest.specs.Tree.{Tree, leaf, node}
-use Rattle.tree.specs.Page.{span, span-pos, span-zero, first, In, in-of, in-rest, entry-rest, end-rest}
+use Rattle.tree.specs.Page.{span, span-zero, first, In, in-of, in-rest, entry-rest, end-rest}
 use Rattle.tree.specs.Word.{valid, frameOf, leafWord, pageBit, address-frame}
 use Rattle.tree.specs.Visit.{Rule, keep, write, down}
 use Rattle.tree.specs.Rules.{Map, meets, whole, frameAt, same, fits, drops, mapRule, yes-meets, whole-yes, fits-yes}
 use Rattle.tree.specs.Local.{map-local}
 use Rattle.tree.specs.Chunks.{inPages, Inside, chunkedTable}
-use Rattle.tree.specs.Sweep.{Says, chunked-is, table-is}
+use Rattle.tree.specs.Sweep.{Says, table-is}
 use Rattle.tree.specs.Root.{mapTree}
 
 -- "a VALID map writes frame + flags + 2" at level 3, above it the block without bit 1; "otherwise the flags alone"
@@ -90,10 +89,10 @@ module _ (left q s e p flags : ℕ) (blocks : Bool) (low : left ≤ 3) (some : s
       let equal : Bool = eqb (p - s % sizeAt (3 - left)) (addressOf w) in
       ap (λ (x : Bool). eqb (flagsOf w) flags && x) (same-test (fits && equal) (eqb (p / 4096 + b) (frameOf w + s / 4096))
       (λ t. let x = leb→le (s % sizeAt (3 - left)) p (and-l fits equal t) in
-        let y = eqb→eq (p - s % sizeAt (3 - left)) (addressOf w) (and-r fits equal t) in
-        eq→eqb (p / 4096 + b) (frameOf w + s / 4096) (omega arith))
+      let y = eqb→eq (p - s % sizeAt (3 - left)) (addressOf w) (and-r fits equal t) in
+      eq→eqb (p / 4096 + b) (frameOf w + s / 4096) (omega arith))
       (λ t. let x = eqb→eq (p / 4096 + b) (frameOf w + s / 4096) t in
-        and-i fits equal (le→leb (s % sizeAt (3 - left)) p (omega arith)) (eq→eqb (p - s % sizeAt (3 - left)) (addressOf w) (omega arith))))
+      and-i fits equal (le→leb (s % sizeAt (3 - left)) p (omega arith)) (eq→eqb (p - s % sizeAt (3 - left)) (addressOf w) (omega arith))))
 
   -- it begins with the entry
   start-is : eqb (s % sizeAt (3 - left)) 0 ≡ leb (s / 4096) b
@@ -106,9 +105,9 @@ module _ (left q s e p flags : ℕ) (blocks : Bool) (low : left ≤ 3) (some : s
   end-is = let r = entry-rest left e low (I .endPage) in same-test (eqb (e % sizeAt (3 - left)) 0) (leb (b + span left) (e / 4096))
       (λ t. let x = eqb→eq (e % sizeAt (3 - left)) 0 t in le→leb (b + span left) (e / 4096) (ends (omega arith) (le-or (b + span left) (e / 4096))))
       (λ t. let x = leb→le (b + span left) (e / 4096) t in
-        let y : e / 4096 ≡ b + span left = omega (arith, I .high) in
-        let z : e / 4096 % span left ≡ 0 = ap (λ (x : ℕ). x % span left) y ∙ end-rest left q in
-        eq→eqb (e % sizeAt (3 - left)) 0 (omega arith))
+      let y : e / 4096 ≡ b + span left = omega (arith, I .high) in
+      let z : e / 4096 % span left ≡ 0 = ap (λ (x : ℕ). x % span left) y ∙ end-rest left q in
+      eq→eqb (e % sizeAt (3 - left)) 0 (omega arith))
     where
       ends : e / 4096 % span left ≡ 0 → (b + span left ≤ e / 4096) ⊎ (e / 4096 < b + span left) → b + span left ≤ e / 4096
       ends z (inl h) = h
@@ -169,9 +168,9 @@ module _ (flags : ℕ) (blocks : Bool) where
       byBool (same b m w)
       (λ k. rw (two, k, am))
       (λ k. byBool (fits (suc left) b m)
-        (λ f. rw (two, k, three, f, am)
-          (ap write (word-is (suc left) q s e p flags blocks low some I (whole-yes (suc left) b m (fits-yes (suc left) b m f .0) .0))))
-        (λ f. rw (two, k, three, f, am)))
+      (λ f. rw (two, k, three, f, am)
+      (ap write (word-is (suc left) q s e p flags blocks low some I (whole-yes (suc left) b m (fits-yes (suc left) b m f .0) .0))))
+      (λ f. rw (two, k, three, f, am)))
   document-says (suc left) q s e p (node f) low some I =
       rw (meets-is (suc left) q s e p flags blocks low some I, drops-is (suc left) q s e p flags blocks low some I)
 

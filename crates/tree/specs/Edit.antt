@@ -1,12 +1,12 @@
 -- An edit of a word by bits to set and bits to clear, both flags that a call may give: the frame and bit 1 stay, the flags are edited.
 -- Assumes nothing.
 use mathlib.Core.Path.{_≡_, refl, sym, ap, ap₂, _∙_}
-use mathlib.Core.Bool.{true, false}
-use Prim.Native.Nat.{ℕ, zero, suc, _+_, _*_, _-_, _/_, _%_, _^_, _≤_, _<_}
+use mathlib.Core.Bool.{true}
+use Prim.Native.Nat.{ℕ, _+_, _*_, _-_, _/_, _%_, _^_, _<_}
 use native.Mathlib.Omega.{arith}
 use lib.Bits.{bitAnd, bitOr, and-comm, and-high, and-mask, and-le-r, and-zero-r, or-zero-r}
-use Rattle.laws.specs.Bit.{and-assoc, and-or, and-swap, and-add, and-sub, sub-not}
-use Rattle.entry.specs.Word.{addressOf, mask-address}
+use Rattle.laws.specs.Bit.{and-assoc, and-or, and-swap, and-add, sub-not}
+use Rattle.entry.specs.Word.{mask-address}
 use Rattle.tree.specs.Page.{span}
 use Rattle.tree.specs.Word.{valid, frameOf, plain, Plain, address-frame, flags-frame, flags-shown, valid-same, valid-yes}
 use Rattle.tree.specs.Fine.{Fine}

@@ -1,21 +1,19 @@
 -- A rule that looks at an entry's own part of the region alone: two calls that agree on an entry do the same to it. Map and modify have such rules.
 -- Assumes nothing.
 use mathlib.Core.Path.{_≡_, refl, sym, ap, ap₂, _∙_}
-use mathlib.Core.Bool.{Bool, true, false, not, cond, _&&_}
-use Prim.Native.Nat.{ℕ, zero, suc, _+_, _-_, _%_, _≤_, _<_, min, max}
+use mathlib.Core.Bool.{Bool, false, not, _&&_}
+use Prim.Native.Nat.{ℕ, zero, suc, _+_, _-_, _≤_, _<_, min, max}
 use native.Mathlib.Omega.{arith}
 use lib.Dec.{eqb, eqb→eq, leb, ltb}
 use borrow.Author.Tests.{le-ltb, leb-true, leb-false, le-leb, lt-leb}
 use Rattle.laws.specs.Test.{byBool, same-test, eq→eqb}
-use Rattle.laws.specs.Sum.{sum, sum-ext}
 use Rattle.entry.specs.Word.{flagsOf}
 use Rattle.forest.specs.Tree.{Tree, leaf, node, eachSlot}
-use Rattle.forest.specs.Nodes.{nodes}
 use Rattle.tree.specs.Page.{span, first, child, child-in}
 use Rattle.tree.specs.Word.{valid, frameOf, leafWord}
-use Rattle.tree.specs.Visit.{Rule, keep, write, down, opened, splits, total, obey, counted, visit, made, visit-keep}
+use Rattle.tree.specs.Visit.{Rule, keep, opened, obey, visit, visit-keep}
 use Rattle.tree.specs.Slots.{each-same, fill-node, fillSlot}
-use Rattle.tree.specs.Rules.{Map, meets, whole, frameAt, same, fits, drops, mapRule, meets-yes, whole-yes, same-yes, yes-same, page-in, fits-yes, rule-off}
+use Rattle.tree.specs.Rules.{Map, meets, whole, frameAt, same, fits, drops, mapRule, whole-yes, page-in, fits-yes, rule-off}
 
 -- two calls agree on an entry: the same part of it, the same frames there, flags and blocks
 pub record Agree (left b : ℕ) (m n : Map) : Type 0 where
@@ -57,12 +55,12 @@ module _ {rule : Map → ℕ → ℕ → Tree → Rule} (L : Local rule) where
       ap₂ (λ (x : Rule) (u : Tree). obey x (leaf w) u) (L .agree m n (suc left) (first (suc left) q) (leaf w) a)
       (ap (eachSlot (λ i u. visit (rule m) left (child q i) u)) (fill-node left w)
       ∙ each-same (λ i u. visit (rule m) left (child q i) u) (λ i u. visit (rule n) left (child q i) u) (fillSlot left w)
-        (λ i l. visit-agree m n left (child q i) (fillSlot left w i) (agree-child left q i m n l a))
+      (λ i l. visit-agree m n left (child q i) (fillSlot left w i) (agree-child left q i m n l a))
       ∙ ap (eachSlot (λ i u. visit (rule n) left (child q i) u)) (sym (fill-node left w)))
   visit-agree m n (suc left) q (node f) a =
       ap₂ (λ (x : Rule) (u : Tree). obey x (node f) u) (L .agree m n (suc left) (first (suc left) q) (node f) a)
       (each-same (λ i u. visit (rule m) left (child q i) u) (λ i u. visit (rule n) left (child q i) u) f
-        (λ i l. visit-agree m n left (child q i) (f i) (agree-child left q i m n l a)))
+      (λ i l. visit-agree m n left (child q i) (f i) (agree-child left q i m n l a)))
 
 -- ---- the rules of a map are such
 
@@ -116,8 +114,13 @@ map-agree m n zero b (leaf w) a = byBool (meets zero b m)
     (λ e. rw (← agree-meets zero b m n a, e))
 map-agree m n zero b (node f) a = refl
 map-agree m n (suc left) b (leaf w) a = byBool (fits (suc left) b m)
-    (λ k. rw (← agree-fits (suc left) b m n a, k, agree-meets (suc left) b m n a, agree-same (suc left) b m n a w,
-      agree-word (suc left) b m n a (whole-yes (suc left) b m (fits-yes (suc left) b m k .0) .0)))
+    (λ k. rw (
+      ← agree-fits (suc left) b m n a,
+      k,
+      agree-meets (suc left) b m n a,
+      agree-same (suc left) b m n a w,
+      agree-word (suc left) b m n a (whole-yes (suc left) b m (fits-yes (suc left) b m k .0) .0),
+    ))
     (λ k. rw (← agree-fits (suc left) b m n a, k, agree-meets (suc left) b m n a, agree-same (suc left) b m n a w))
 map-agree m n (suc left) b (node f) a =
     rw (agree-meets (suc left) b m n a, agree-drops (suc left) b m n a, a .sameFlags)

@@ -1,17 +1,17 @@
 -- Modify on trees (document 01, "Putting down a map", Modify): valid blocks and pages of the region get their flags edited, a table's word never; a partly
 -- covered entry is split first, hole or not. Assumes nothing.
-use mathlib.Core.Path.{_≡_, refl, sym, ap, subst, _∙_}
-use mathlib.Core.Bool.{Bool, true, false, cond}
-use Prim.Native.Nat.{ℕ, zero, suc, _+_, _≤_, _<_}
+use mathlib.Core.Path.{_≡_, refl, sym, ap, _∙_}
+use mathlib.Core.Bool.{true, false, cond}
+use Prim.Native.Nat.{ℕ, zero, suc, _+_}
 use native.Mathlib.Omega.{arith}
 use Rattle.laws.specs.Test.{byBool}
 use Rattle.forest.specs.Tree.{Tree, leaf, node}
 use Rattle.forest.specs.Nodes.{nodes}
-use Rattle.tree.specs.Page.{span, span-zero, first, In, in-from}
-use Rattle.tree.specs.Word.{valid, plain, frameOf, Plain}
+use Rattle.tree.specs.Page.{span-zero, first, In, in-from}
+use Rattle.tree.specs.Word.{valid, Plain}
 use Rattle.tree.specs.Fine.{Fine}
 use Rattle.tree.specs.Walk.{Seen, mapped, hole, seen, seenIn, seen-leaf, seen-fine}
-use Rattle.tree.specs.Visit.{Rule, keep, write, down, visitTable, madeTable, freedTable}
+use Rattle.tree.specs.Visit.{Rule, keep, write, down, no-write, visitTable, madeTable}
 use Rattle.tree.specs.Count.{table-count, table-frees-none}
 use Rattle.tree.specs.Shown.{FineTree, FineTable, Good, Right, Shows, fine-table, seen-table}
 use Rattle.tree.specs.Rules.{Map, meets, whole, page-in}
@@ -76,15 +76,8 @@ module _ (set clear : ℕ) where
   -- it never writes over a table
   modify-keeps-table : (m : Map) (left b : ℕ) (f : ℕ → Tree) (x : ℕ) → modifyRule m left b (node f) ≡ write x → ⊥
   unfolding modifyRule
-  modify-keeps-table m zero b f x e = differ e
-    where
-      differ : keep ≡ write x → ⊥
-      differ e = let z : _≡_ {A = ℕ} 0 1 = cc in omega arith
-  modify-keeps-table m (suc left) b f x e = go (meets (suc left) b m) e
-    where
-      go : (met : Bool) → cond met down keep ≡ write x → ⊥
-      go true e = let z : _≡_ {A = ℕ} 0 1 = cc in omega arith
-      go false e = let z : _≡_ {A = ℕ} 0 1 = cc in omega arith
+  modify-keeps-table m zero b f x e = no-write false x e
+  modify-keeps-table m (suc left) b f x e = no-write (meets (suc left) b m) x e
 
   -- ---- what is written, and what is seen
 
@@ -97,8 +90,13 @@ module _ (set clear : ℕ) where
     unfolding changed
     edit-seen left w page fine v =
         seen-fine left (edited set clear w) page (fine-edited set clear S C left w fine v)
-        ∙ rw (seen-fine left w page fine, v, edited-plain set clear S C w (fine .wide), edited-frame set clear S C w (fine .wide),
-          ← edited-valid set clear S C w (fine .wide))
+        ∙ rw (
+          seen-fine left w page fine,
+          v,
+          edited-plain set clear S C w (fine .wide),
+          edited-frame set clear S C w (fine .wide),
+          ← edited-valid set clear S C w (fine .wide),
+        )
 
     hole-seen : (left w page : ℕ) → Fine left w → valid w ≡ false → seenIn left w page ≡ changed (seenIn left w page)
     unfolding changed
@@ -137,15 +135,15 @@ module _ (set clear : ℕ) where
           let b : ℕ = first zero q in
           byBool (meets zero b m)
           (λ e. let x = page-in b m e in let y = in-from zero q page at in let z = span-zero in
-            rw e (edit-right zero w page fine (yes-covers m page (omega arith) (omega arith))))
+          rw e (edit-right zero w page fine (yes-covers m page (omega arith) (omega arith))))
           (λ e. rw e (out-of-region zero page (leaf w) (off-out m zero q page at e)))
       modify-right zero q (node f) page fine at = absurd fine
       modify-right (suc left) q (leaf w) page fine at =
           let b : ℕ = first (suc left) q in
           byBool (meets (suc left) b m)
           (λ e. byBool (whole (suc left) b m)
-            (λ k. rw (e, k) (edit-right (suc left) w page fine (whole-in m (suc left) q page at k)))
-            (λ k. rw (e, k) tt))
+          (λ k. rw (e, k) (edit-right (suc left) w page fine (whole-in m (suc left) q page at k)))
+          (λ k. rw (e, k) tt))
           (λ e. rw e (out-of-region (suc left) page (leaf w) (off-out m (suc left) q page at e)))
       modify-right (suc left) q (node f) page fine at = byBool (meets (suc left) (first (suc left) q) m)
           (λ e. rw e tt)

@@ -67,12 +67,12 @@ module _ {rule : Map → ℕ → ℕ → Tree → Rule} (L : Local rule) where
       ap₂ (λ (x : Rule) (k : ℕ). counted x 0 (splits (leaf w) + k)) (L .agree m n (suc left) (first (suc left) q) (leaf w) a)
       (ap (total (λ i u. made (rule m) left (child q i) u)) (fill-node left w)
       ∙ sum-ext 512 (λ i. made (rule m) left (child q i) (fillSlot left w i)) (λ i. made (rule n) left (child q i) (fillSlot left w i))
-        (λ i l. made-agree m n left (child q i) (fillSlot left w i) (agree-child left q i m n l a))
+      (λ i l. made-agree m n left (child q i) (fillSlot left w i) (agree-child left q i m n l a))
       ∙ ap (total (λ i u. made (rule n) left (child q i) u)) (sym (fill-node left w)))
   made-agree m n (suc left) q (node f) a =
       ap₂ (λ (x : Rule) (k : ℕ). counted x 0 (splits (node f) + k)) (L .agree m n (suc left) (first (suc left) q) (node f) a)
       (sum-ext 512 (λ i. made (rule m) left (child q i) (f i)) (λ i. made (rule n) left (child q i) (f i))
-        (λ i l. made-agree m n left (child q i) (f i) (agree-child left q i m n l a)))
+      (λ i l. made-agree m n left (child q i) (f i) (agree-child left q i m n l a)))
 
 module _ {rule : Map → ℕ → ℕ → Tree → Rule} (L : Local rule) (rules : ℕ → MemoryRegion → ℕ → Tree → Rule) (flags : ℕ) (blocks : Bool) where
   abbrev call : ℕ → ℕ → ℕ → Map
@@ -99,9 +99,12 @@ module _ {rule : Map → ℕ → ℕ → Tree → Rule} (L : Local rule) (rules 
         let o = child-order left q j i l in
         let k = c .chunk .low in
         let m = c .more in
-        omega (arith, none j (λ h. omega arith),
+        omega (
+          arith,
+          none j (λ h. omega arith),
           made-off L (call z e (p + (z - s))) left (child q j) (f j) (meets-no left b (call z e (p + (z - s))) (omega arith)),
-          made-off L (call s e p) left (child q j) (f j) (meets-no left b (call s e p) (omega arith)))
+          made-off L (call s e p) left (child q j) (f j) (meets-no left b (call s e p) (omega arith)),
+        )
 
     here : Slot i
     here =
@@ -109,10 +112,14 @@ module _ {rule : Map → ℕ → ℕ → Tree → Rule} (L : Local rule) (rules 
         let n = c .ends in
         let w = c .within in
         let one : only i ≡ needed rules left (region s z) p (f i) = rw (eq-eqb i i refl) in
-        omega (arith, one, counts (child q i) s z p (f i) low (c .more) (c .chunk),
+        omega (
+          arith,
+          one,
+          counts (child q i) s z p (f i) low (c .more) (c .chunk),
           made-off L (call z e (p + (z - s))) left (child q i) (f i) (meets-no left b (call z e (p + (z - s))) (omega arith)),
           made-agree L (call s z p) (call s e p) left (child q i) (f i)
-            (record { starts = refl; stops = omega arith; frames = refl; sameFlags = refl; sameBlocks = refl }))
+              (record { starts = refl; stops = omega arith; frames = refl; sameFlags = refl; sameBlocks = refl }),
+        )
 
     later : (j : ℕ) → i < j → Slot j
     later j l =
@@ -122,9 +129,12 @@ module _ {rule : Map → ℕ → ℕ → Tree → Rule} (L : Local rule) (rules 
         let k = c .chunk .startPage in
         let k′ = c .chunk .endPage in
         let k″ = c .chunk .framePage in
-        omega (arith, none j (λ h. omega arith),
+        omega (
+          arith,
+          none j (λ h. omega arith),
           made-agree L (call z e (p + (z - s))) (call s e p) left (child q j) (f j)
-            (record { starts = omega arith; stops = refl; frames = omega arith; sameFlags = refl; sameBlocks = refl }))
+              (record { starts = omega arith; stops = refl; frames = omega arith; sameFlags = refl; sameBlocks = refl }),
+        )
 
     slot : (j : ℕ) → Slot j
     slot j = go (eq-or j i) (le-or i j)
@@ -140,7 +150,7 @@ module _ {rule : Map → ℕ → ℕ → Tree → Rule} (L : Local rule) (rules 
         sum-ext 512 (λ j. made (rule (call s e p)) left (child q j) (f j)) (λ j. only j + made (rule (call z e (p + (z - s)))) left (child q j) (f j)) (λ j h. slot j)
         ∙ sum-add 512 only (λ j. made (rule (call z e (p + (z - s)))) left (child q j) (f j))
         ∙ ap (λ (x : ℕ). x + sum 512 (λ j. made (rule (call z e (p + (z - s)))) left (child q j) (f j)))
-          (sum-only 512 only i l none ∙ (let one : only i ≡ needed rules left (region s z) p (f i) = rw (eq-eqb i i refl) in one))
+        (sum-only 512 only i l none ∙ (let one : only i ≡ needed rules left (region s z) p (f i) = rw (eq-eqb i i refl) in one))
 
   table-none : (left q s e p : ℕ) (f : ℕ → Tree) → e ≤ s → madeTable (rule (call s e p)) left q (node f) ≡ 0
   unfolding madeTable total
@@ -164,7 +174,7 @@ module _ {rule : Map → ℕ → ℕ → Tree → Rule} (L : Local rule) (rules 
 
       go : (e ≤ s) ⊎ (s < e)
           → ((z : ℕ) → met (3 - left) z e ≡ n → Inside (first (suc left) q) (span (suc left)) z e (p + (z - s))
-            → tallied left each (chunks (3 - left) z e) (p + (z - s)) (node f) ≡ madeTable (rule (call z e (p + (z - s)))) left q (node f))
+          → tallied left each (chunks (3 - left) z e) (p + (z - s)) (node f) ≡ madeTable (rule (call z e (p + (z - s)))) left q (node f))
           → tallied left each (chunks (3 - left) s e) p (node f) ≡ madeTable (rule (call s e p)) left q (node f)
       go (inl h) ih = ap (λ (cs : List MemoryRegion). tallied left each cs p (node f)) (chunks-none (3 - left) s e h) ∙ sym (table-none left q s e p f h)
       go (inr h) ih =

@@ -1,6 +1,6 @@
 -- Any number of maps in any order (Q-13); demand 3 is the case of two. Assumes nothing.
 use mathlib.Core.Path.{_≡_, refl, sym, ap, ap₂, subst, subst₂, _∙_}
-use mathlib.Core.Bool.{Bool, true, false}
+use mathlib.Core.Bool.{true}
 use mathlib.Core.List.{List, [], _∷_, List·Permᴰ, List·Permᴰ·nil, List·Permᴰ·cons, List·Permᴰ·swap, List·Permᴰ·trans}
 use mathlib.Core.Logic.{_↔_}
 use Prim.Native.Nat.{ℕ, suc, _+_, _-_, _≤_}
@@ -51,6 +51,30 @@ pairwise-reorders (List·Permᴰ·swap {a = a} {b = b} {l = k} p q) h =
     ((subst₂ Apart q p (apart-flip a b (h .0 .0)), subst (λ (m : Map). Each (Apart m) k) q (h .1 .0)), (subst (λ (m : Map). Each (Apart m) k) p (h .0 .1), h .1 .1))
 pairwise-reorders (List·Permᴰ·trans c d) h = pairwise-reorders d (pairwise-reorders c h)
 
+-- ---- what a page shows after the maps of a list
+
+unfoldable pub afters : List Map → ℕ → Seen → Seen
+afters [] page old = old
+afters (m ∷ ms) page old = afters ms page (after m page old)
+
+after-swap : (m n : Map) → Apart m n → (page : ℕ) (old : Seen) → after m page (after n page old) ≡ after n page (after m page old)
+after-swap m n apart page old = byBool (covers m page)
+    (λ p. byBool (covers n page)
+    (λ q. let x = covers-yes m page p in let y = covers-yes n page q in absurd (apart page (x .0) (x .1) (y .0) (y .1)))
+    (λ q. after-in m page (after n page old) p ∙ sym (after-out n page (after m page old) q ∙ after-in m page old p)))
+    (λ p. after-out m page (after n page old) p ∙ ap (after n page) (sym (after-out m page old p)))
+
+afters-reorders : {ms ns : List Map} → Reorders ms ns → Pairwise ms → (page : ℕ) (old : Seen) → afters ms page old ≡ afters ns page old
+unfolding afters
+afters-reorders List·Permᴰ·nil h page old = refl
+afters-reorders (List·Permᴰ·cons {a = a} {l₂ = k} e d) h page old =
+    afters-reorders d (h .1) page (after a page old) ∙ ap (λ (m : Map). afters k page (after m page old)) e
+afters-reorders (List·Permᴰ·swap {a = a} {b = b} {l = k} p q) h page old =
+    ap (afters k page) (after-swap b a (apart-flip a b (h .0 .0)) page old) ∙ ap₂ (λ (m n : Map). afters k page (after m page (after n page old))) p q
+afters-reorders (List·Permᴰ·trans c d) h page old = afters-reorders c h page old ∙ afters-reorders d (pairwise-reorders c h) page old
+
+-- ---- a list of calls on a root's tree
+
 module _ (left r : ℕ) where
   -- the maps of a list, one after the other
   unfoldable pub run : List Map → Tree → Tree
@@ -89,10 +113,13 @@ module _ (left r : ℕ) where
   pub room-if : (n : ℕ) (ms : List Map) → Each ValidMap ms → (t : Tree) → nodes t ≤ n → Room n ms t ↔ (nodes (run ms t) ≤ n)
   unfolding run
   room-if n [] v t h = (λ room. h, λ fits. tt)
-  room-if n (m ∷ ms) v t h =
-      (λ room. room-if n ms (v .1) (mapTree left r m t) (omega (arith, valid-grows left r m (v .0 .valid) t, room .0)) .0 (room .1),
-       λ fits. (omega (arith, valid-grows left r m (v .0 .valid) t, run-grows ms (v .1) (mapTree left r m t)),
-           room-if n ms (v .1) (mapTree left r m t) (omega (arith, run-grows ms (v .1) (mapTree left r m t))) .1 fits))
+  room-if n (m ∷ ms) v t h = (
+    λ room. room-if n ms (v .1) (mapTree left r m t) (omega (arith, valid-grows left r m (v .0 .valid) t, room .0)) .0 (room .1),
+    λ fits. (
+      omega (arith, valid-grows left r m (v .0 .valid) t, run-grows ms (v .1) (mapTree left r m t)),
+      room-if n ms (v .1) (mapTree left r m t) (omega (arith, run-grows ms (v .1) (mapTree left r m t))) .1 fits,
+    ),
+  )
 
   pub room-reorders : (n : ℕ) {ms ns : List Map} → Reorders ms ns → Pairwise ms → Each ValidMap ms → (t : Tree) → FineTable left t → nodes t ≤ n
       → Room n ms t → Room n ns t
@@ -101,32 +128,12 @@ module _ (left r : ℕ) where
 
   -- ---- with and without VALID: what each page shows in the end, in any order
 
-  unfoldable pub afters : List Map → ℕ → Seen → Seen
-  afters [] page old = old
-  afters (m ∷ ms) page old = afters ms page (after m page old)
-
   pub run-seen : (ms : List Map) → Each Given ms → (t : Tree) → FineTable left t → (page : ℕ) → In (suc left) r page
       → seen (suc left) (run ms t) page ≡ afters ms page (seen (suc left) t page)
   unfolding run afters
   run-seen [] g t fine page at = refl
   run-seen (m ∷ ms) g t fine page at =
       run-seen ms (g .1) (mapTree left r m t) (map-fine left r m (g .0) t fine) page at ∙ ap (afters ms page) (map-seen left r m (g .0) t fine page at)
-
-  after-swap : (m n : Map) → Apart m n → (page : ℕ) (old : Seen) → after m page (after n page old) ≡ after n page (after m page old)
-  after-swap m n apart page old = byBool (covers m page)
-      (λ p. byBool (covers n page)
-        (λ q. let x = covers-yes m page p in let y = covers-yes n page q in absurd (apart page (x .0) (x .1) (y .0) (y .1)))
-        (λ q. after-in m page (after n page old) p ∙ sym (after-out n page (after m page old) q ∙ after-in m page old p)))
-      (λ p. after-out m page (after n page old) p ∙ ap (after n page) (sym (after-out m page old p)))
-
-  afters-reorders : {ms ns : List Map} → Reorders ms ns → Pairwise ms → (page : ℕ) (old : Seen) → afters ms page old ≡ afters ns page old
-  unfolding afters
-  afters-reorders List·Permᴰ·nil h page old = refl
-  afters-reorders (List·Permᴰ·cons {a = a} {l₂ = k} e d) h page old =
-      afters-reorders d (h .1) page (after a page old) ∙ ap (λ (m : Map). afters k page (after m page old)) e
-  afters-reorders (List·Permᴰ·swap {a = a} {b = b} {l = k} p q) h page old =
-      ap (afters k page) (after-swap b a (apart-flip a b (h .0 .0)) page old) ∙ ap₂ (λ (m n : Map). afters k page (after m page (after n page old))) p q
-  afters-reorders (List·Permᴰ·trans c d) h page old = afters-reorders c h page old ∙ afters-reorders d (pairwise-reorders c h) page old
 
   pub seen-reorders : {ms ns : List Map} → Reorders ms ns → Pairwise ms → Each Given ms → (t : Tree) → FineTable left t → (page : ℕ) → In (suc left) r page
       → seen (suc left) (run ms t) page ≡ seen (suc left) (run ns t) page

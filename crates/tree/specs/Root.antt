@@ -1,17 +1,17 @@
 -- Calls on a whole tree: the root's table, whose entries have `left` = 3 - (root level) levels below. The root is the r-th table of its span: 0 in the
 -- lower range, the last below 2^64 in the upper. Assumes nothing.
-use mathlib.Core.Path.{_≡_, refl, sym, ap, _∙_}
-use mathlib.Core.Bool.{Bool, true, false}
+use mathlib.Core.Path.{_≡_}
+use mathlib.Core.Bool.{true}
 use Prim.Native.Nat.{ℕ, zero, suc, _+_, _*_, _-_, _/_, _^_, _≤_, _<_}
-use native.Mathlib.Nat.{div-eq-of-lt, div-eq-of-lt-le}
+use native.Mathlib.Nat.{div-eq-of-lt}
 use native.Mathlib.Omega.{arith}
-use Rattle.forest.specs.Tree.{Tree, leaf, node}
+use Rattle.forest.specs.Tree.{Tree}
 use Rattle.forest.specs.Nodes.{nodes}
 use Rattle.laws.specs.Size.{sizeAt}
 use Rattle.tree.specs.Page.{span, span-size, span-suc, In}
 use Rattle.tree.specs.Word.{valid}
 use Rattle.tree.specs.Walk.{seen}
-use Rattle.tree.specs.Visit.{write, visitTable, madeTable, freedTable}
+use Rattle.tree.specs.Visit.{visitTable, madeTable, freedTable}
 use Rattle.tree.specs.Count.{table-count, table-frees-none}
 use Rattle.tree.specs.Shown.{FineTable, fine-table, seen-table}
 use Rattle.tree.specs.Rules.{Map, Given, mapRule, rule-keeps-table}

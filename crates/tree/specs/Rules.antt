@@ -1,18 +1,17 @@
 -- Document 01, "Putting down a map", on trees: the five rules for an entry. A map stays whole on the way down, no chunk is cut and no frame rises;
 -- `Document` proves that this is the document's loop. Assumes nothing.
-use mathlib.Core.Path.{_≡_, refl, ap, ap₂, _∙_}
+use mathlib.Core.Path.{_≡_, refl}
 use mathlib.Core.Bool.{Bool, true, false, not, cond, _&&_, and-false}
-use mathlib.Core.Logic.{_≢_}
 use Prim.Native.Nat.{ℕ, zero, suc, _+_, _-_, _%_, _^_, _≤_, _<_, min, max}
 use native.Mathlib.Omega.{arith}
 use lib.Dec.{eqb, leb, ltb}
 use borrow.Author.Tests.{ltb-true, lt-ltb, leb-true, le-leb, eqb-true, eq-eqb, not-true}
-use Rattle.laws.specs.Test.{byBool}
+use Rattle.laws.specs.Test.{byBool, both}
 use Rattle.entry.specs.Word.{flagsOf}
 use Rattle.forest.specs.Tree.{Tree, leaf, node}
 use Rattle.tree.specs.Page.{span, span-zero}
 use Rattle.tree.specs.Word.{valid, frameOf, leafWord, Plain}
-use Rattle.tree.specs.Visit.{Rule, keep, write, down}
+use Rattle.tree.specs.Visit.{Rule, keep, write, down, no-write}
 
 -- A call of map: the pages from `from` up to `upto`, to the frames from `frame` on, with the flags; `blocks` says that NO_BLOCK_MAPPINGS is unset.
 -- Pages and frames are addresses / 4096.
@@ -63,10 +62,6 @@ mapRule m (suc left) b (leaf w) =
 mapRule m (suc left) b (node f) = cond (meets (suc left) b m) (cond (drops (suc left) b m) (write (m .flags)) down) keep
 
 -- ---- what the tests say
-
-pub both : (a b : Bool) → (a && b) ≡ true → (a ≡ true) × (b ≡ true)
-both true b e = (refl, e)
-both false b e = absurd (let z : _≡_ {A = ℕ} 0 1 = cc in omega arith)
 
 module _ (left b : ℕ) (m : Map) where
   pub meets-yes : meets left b m ≡ true → (m .from < b + span left) × (b < m .upto) × (m .from < m .upto)
@@ -165,12 +160,5 @@ module _ (m : Map) where
   -- a VALID map never writes over a table
   pub rule-keeps-table : valid (m .flags) ≡ true → (left b : ℕ) (f : ℕ → Tree) (x : ℕ) → mapRule m left b (node f) ≡ write x → ⊥
   unfolding mapRule
-  rule-keeps-table v zero b f x e = differ e
-    where
-      differ : keep ≡ write x → ⊥
-      differ e = let z : _≡_ {A = ℕ} 0 1 = cc in omega arith
-  rule-keeps-table v (suc left) b f x e = go (meets (suc left) b m) (rw (drops-valid (suc left) b m v) at e)
-    where
-      go : (met : Bool) → cond met down keep ≡ write x → ⊥
-      go true e = let z : _≡_ {A = ℕ} 0 1 = cc in omega arith
-      go false e = let z : _≡_ {A = ℕ} 0 1 = cc in omega arith
+  rule-keeps-table v zero b f x e = no-write false x e
+  rule-keeps-table v (suc left) b f x e = no-write (meets (suc left) b m) x (rw (drops-valid (suc left) b m v) at e)

@@ -1,14 +1,13 @@
 -- What a page shows after a visit, from what each rule does to its own entry; and that a visit leaves fine words where it writes fine words.
 -- Assumes nothing.
-use mathlib.Core.Path.{_≡_, refl, sym, ap, subst, _∙_}
+use mathlib.Core.Path.{_≡_, sym, ap, subst, _∙_}
 use Prim.Native.Nat.{ℕ, zero, suc, _<_}
-use native.Mathlib.Omega.{arith}
 use Rattle.forest.specs.Tree.{Tree, leaf, node, eachSlot}
 use Rattle.tree.specs.Page.{first, child, In, slotOf, slot-lt, in-child}
 use Rattle.tree.specs.Word.{fillWord}
 use Rattle.tree.specs.Fine.{Fine, fine-fill}
 use Rattle.tree.specs.Walk.{Seen, seen, seenIn, seen-leaf, seen-node, fill-seen}
-use Rattle.tree.specs.Visit.{Rule, keep, write, down, fillTree, opened, obey, visit, visitTable}
+use Rattle.tree.specs.Visit.{Rule, keep, write, down, opened, obey, visit, visitTable}
 use Rattle.tree.specs.Slots.{slotAfter, each-node, slot-after, fillSlot, fill-node, fill-slot}
 
 -- every word of the tree is fine where it stands, and no table stands below the lowest level
@@ -117,7 +116,7 @@ module _ {rule : ℕ → ℕ → Tree → Rule} {new : ℕ → Seen → Seen} (S
       obey-seen left (rule (suc left) (first (suc left) q) (leaf w)) (leaf w) _ page (S .right (suc left) q (leaf w) page fine at)
       (ap (λ (t : Tree). seen (suc left) (eachSlot h t) page) (fill-node left w)
       ∙ each-seen left h (fillSlot left w) page
-        (seen-visit left (child q i) (fillSlot left w i) page (fine-fill-slots left w fine i (slot-lt page left)) (in-child left q page at))
+      (seen-visit left (child q i) (fillSlot left w i) page (fine-fill-slots left w fine i (slot-lt page left)) (in-child left q page at))
       ∙ ap (new page) (fill-slot-seen left w page fine))
   seen-visit (suc left) q (node f) page fine at =
       let i : ℕ = slotOf page left in

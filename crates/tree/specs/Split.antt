@@ -1,13 +1,12 @@
 -- The crate's split runs its own map over a new table of zeros: the whole entry, to the old address, with the old flags, blocks allowed. That is the
 -- fill of rule 5, of a hole too. And the fill in addresses. Assumes nothing.
-use mathlib.Core.Path.{_≡_, refl, sym, ap, ap₂, _∙_}
-use mathlib.Core.Bool.{Bool, true, false, cond}
+use mathlib.Core.Path.{_≡_, sym, ap, _∙_}
+use mathlib.Core.Bool.{true, cond}
 use mathlib.Core.Logic.{_⊎_, inl, inr}
 use Prim.Native.Nat.{ℕ, zero, suc, _+_, _*_, _-_, _/_, _%_, _≤_, _<_}
 use native.Mathlib.Nat.{mul-assoc}
 use native.Mathlib.Omega.{arith}
-use lib.Dec.{eqb, ltb}
-use borrow.Author.Tests.{eq-eqb, lt-ltb, le-ltb}
+use borrow.Author.Tests.{lt-ltb}
 use Rattle.laws.specs.Size.{sizeAt, down}
 use Rattle.laws.specs.Test.{byBool, le-or}
 use Rattle.entry.specs.Word.{addressOf, flagsOf, address-pages}
@@ -18,8 +17,8 @@ use Rattle.tree.specs.Word.{valid, frameOf, leafWord, fillWord, pageBit,
 use Rattle.tree.specs.Fine.{Fine, fill-flags, fill-is, fill-aligned}
 use Rattle.tree.specs.Visit.{fillTree, visit, visitTable, visit-keep, visit-write}
 use Rattle.tree.specs.Slots.{slotAfter, each-node, slot-after, slot-past, fillSlot, fill-node, fill-slot, fill-past}
-use Rattle.tree.specs.Rules.{Map, meets, whole, frameAt, same, fits, mapRule, yes-meets, yes-whole, same-yes, rule-page, rule-same, rule-block}
-use Rattle.tree.specs.Chunks.{inPages, Inside, chunkedTable}
+use Rattle.tree.specs.Rules.{Map, meets, frameAt, same, fits, mapRule, yes-meets, yes-whole, same-yes, rule-page, rule-same, rule-block}
+use Rattle.tree.specs.Chunks.{Inside, chunkedTable}
 use Rattle.tree.specs.Document.{wordAt, word-frames, documentRule, document-is}
 use Rattle.tree.specs.Root.{mapTree}
 
@@ -67,11 +66,11 @@ slot-fill (suc left) q w fine low i l =
     let b : ℕ = first (suc left) (child q i) in
     byBool (same b m 0)
     (λ s. let x = same-yes b m 0 s in
-      visit-keep (mapRule m) (suc left) (child q i) (leaf 0) (rule-same m left b 0 s)
-      ∙ ap leaf (sym (bare (suc left) w i fine (sym (x .0) ∙ flags-zero))))
+    visit-keep (mapRule m) (suc left) (child q i) (leaf 0) (rule-same m left b 0 s)
+    ∙ ap leaf (sym (bare (suc left) w i fine (sym (x .0) ∙ flags-zero))))
     (λ s. visit-write (mapRule m) (suc left) (child q i) (leaf 0) _
-        (rule-block m left b 0 (slot-meets (suc left) q w fine low i l) s (slot-fits (suc left) q w fine low i l))
-      ∙ ap leaf (word-is (suc left) q w fine low i l))
+    (rule-block m left b 0 (slot-meets (suc left) q w fine low i l) s (slot-fits (suc left) q w fine low i l))
+    ∙ ap leaf (word-is (suc left) q w fine low i l))
   where
     flags-zero : flagsOf 0 ≡ 0
     flags-zero = flags-none
@@ -93,14 +92,14 @@ table-fill left q w fine low = each-node each zeros ∙ node-ext (λ i. go i (le
 -- THE CRATE'S SPLIT of the word w in the q-th entry is the fill
 pub crate-split : (left q w : ℕ) → Fine (suc left) w → suc left ≤ 3
     → chunkedTable (documentRule (flagsOf w) true) left (region (first (suc left) q * 4096) ((first (suc left) q + span (suc left)) * 4096)) (addressOf w)
-        (node (λ i. leaf 0))
-      ≡ fillTree left w
+    (node (λ i. leaf 0))
+    ≡ fillTree left w
 unfolding zeros
 crate-split left q w fine low =
     let b : ℕ = first (suc left) q in
     let n : ℕ = span (suc left) in
     let inside : Inside b n (b * 4096) ((b + n) * 4096) (addressOf w) =
-        record { startPage = omega arith; endPage = omega arith; framePage = address-pages w; low = omega arith; high = omega arith } in
+    record { startPage = omega arith; endPage = omega arith; framePage = address-pages w; low = omega arith; high = omega arith } in
     let start : b * 4096 / 4096 ≡ b = omega arith in
     let end : (b + n) * 4096 / 4096 ≡ b + n = omega arith in
     let frame : addressOf w / 4096 ≡ frameOf w = omega (arith, address-frame w) in
@@ -116,12 +115,12 @@ fill-address left w i low =
     let size = span-size left (omega arith) in
     let frame : addressOf w / 4096 ≡ frameOf w = omega (arith, address-frame w) in
     let start : addressOf w / sizeAt (3 - suc left) * sizeAt (3 - suc left) ≡ f * 4096 =
-        entry-start (suc left) (addressOf w) low ∙ ap (λ (x : ℕ). x / span (suc left) * span (suc left) * 4096) frame in
+    entry-start (suc left) (addressOf w) low ∙ ap (λ (x : ℕ). x / span (suc left) * span (suc left) * 4096) frame in
     let pages : f * 4096 / 4096 ≡ f = omega arith in
     let word = word-frames left (f * 4096) (flagsOf w) (omega arith) (omega arith) ∙ ap (λ (x : ℕ). leafWord left x (flagsOf w)) pages in
     byBool (valid w)
     (λ v. rw (start, word, flags-valid w, v) (steps f (i * span left) (flagsOf w) (pageBit left) (i * sizeAt (3 - left))
-      (ap (λ (x : ℕ). i * x) size ∙ sym (mul-assoc i (span left) 4096))))
+    (ap (λ (x : ℕ). i * x) size ∙ sym (mul-assoc i (span left) 4096))))
     (λ v. rw (flags-valid w, v))
   where
     steps : (f k g c n : ℕ) → n ≡ k * 4096 → (f + k) * 4096 + g + c ≡ f * 4096 + g + c + n

@@ -64,7 +64,7 @@ module _ {rule : Map → ℕ → ℕ → Tree → Rule} (L : Local rule) (rules 
         ∙ visit-off L (call z e (p + (z - s))) left (child q i) _ (meets-no left b (call z e (p + (z - s))) (omega arith))
         ∙ does (child q i) s z p (f i) low (c .more) (c .chunk)
         ∙ visit-agree L (call s z p) (call s e p) left (child q i) (f i)
-          (record { starts = refl; stops = omega arith; frames = refl; sameFlags = refl; sameBlocks = refl })
+        (record { starts = refl; stops = omega arith; frames = refl; sameFlags = refl; sameBlocks = refl })
 
     later : (j : ℕ) → i < j → Slot j
     later j l =
@@ -77,7 +77,7 @@ module _ {rule : Map → ℕ → ℕ → Tree → Rule} (L : Local rule) (rules 
         let k″ = c .chunk .framePage in
         ap (visit (rule (call z e (p + (z - s)))) left (child q j)) (g-other j (λ h. omega arith))
         ∙ visit-agree L (call z e (p + (z - s))) (call s e p) left (child q j) (f j)
-          (record { starts = omega arith; stops = refl; frames = omega arith; sameFlags = refl; sameBlocks = refl })
+        (record { starts = omega arith; stops = refl; frames = omega arith; sameFlags = refl; sameBlocks = refl })
 
     slot : (j : ℕ) → Slot j
     slot j = go (eq-or j i) (le-or i j)
@@ -132,7 +132,7 @@ module _ {rule : Map → ℕ → ℕ → Tree → Rule} (L : Local rule) (rules 
 
       go : (e ≤ s) ⊎ (s < e)
           → ((z : ℕ) (y : ℕ → Tree) → met (3 - left) z e ≡ n → Inside (first (suc left) q) (span (suc left)) z e (p + (z - s))
-            → sweep left each (chunks (3 - left) z e) (p + (z - s)) (node y) ≡ visitTable (rule (call z e (p + (z - s)))) left q (node y))
+          → sweep left each (chunks (3 - left) z e) (p + (z - s)) (node y) ≡ visitTable (rule (call z e (p + (z - s)))) left q (node y))
           → Goal
       go (inl h) ih = ap (λ (cs : List MemoryRegion). sweep left each cs p (node f)) (chunks-none (3 - left) s e h) ∙ sym (table-none left q s e p f h)
       go (inr h) ih =
@@ -159,7 +159,7 @@ module _ {rule : Map → ℕ → ℕ → Tree → Rule} (L : Local rule) (rules 
     chunked-is (suc left) q s e p (node f) low some I =
         ap₂ (λ (x : Rule) (u : Tree). obey x (node f) u) (says (suc left) q s e p (node f) low some I)
         (sweep-is left (omega arith) (chunked-is left) (met (3 - left) s e) q s e p f refl I ∙ table-visit left q s e p (node f))
-      
+
     -- a call on a table, a region with no page too
     pub table-is : (left q s e p : ℕ) (f : ℕ → Tree) → left ≤ 3 → Inside (first (suc left) q) (span (suc left)) s e p
         → chunkedTable rules left (region s e) p (node f) ≡ visitTable (rule (call s e p)) left q (node f)

@@ -1,8 +1,9 @@
 -- A visit of a tree: a rule says for each entry that it meets whether the entry is kept, written, or gone down into, where a split comes first if there
 -- is no table. Map and modify are visits. Assumes nothing.
 use mathlib.Core.Path.{_≡_}
-use mathlib.Core.Bool.{cond}
+use mathlib.Core.Bool.{Bool, true, false, cond}
 use Prim.Native.Nat.{ℕ, zero, suc, _+_}
+use native.Mathlib.Omega.{arith}
 use lib.Dec.{ltb}
 use Rattle.laws.specs.Sum.{sum}
 use Rattle.forest.specs.Tree.{Tree, leaf, node, eachSlot}
@@ -15,6 +16,11 @@ pub data Rule : Type 0 where
   keep : Rule
   write : ℕ → Rule
   down : Rule
+
+-- neither of the other two writes
+pub no-write : (met : Bool) (x : ℕ) → cond met down keep ≡ write x → ⊥
+no-write true x e = let z : _≡_ {A = ℕ} 0 1 = cc in omega arith
+no-write false x e = let z : _≡_ {A = ℕ} 0 1 = cc in omega arith
 
 -- ---- the table below an entry
 

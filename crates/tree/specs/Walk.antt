@@ -3,7 +3,7 @@
 use mathlib.Core.Path.{_≡_, refl, sym, ap, _∙_}
 use mathlib.Core.Bool.{Bool, true, false, cond}
 use mathlib.Core.Logic.{_⊎_, inl, inr, _≢_}
-use Prim.Native.Nat.{ℕ, zero, suc, _+_, _*_, _-_, _/_, _%_, _^_, _≤_, _<_}
+use Prim.Native.Nat.{ℕ, zero, suc, _+_, _*_, _-_, _/_, _%_, _^_, _<_}
 use native.Mathlib.Nat.{div-add-mod'}
 use native.Mathlib.Omega.{arith}
 use Rattle.laws.specs.Test.{byBool, eq-or}
@@ -11,9 +11,9 @@ use Rattle.entry.specs.Word.{kindOf, flagsOf, kind-page, kind-block, kind-clear
 use Rattle.entry.specs.declared.Kind.{Kind}
 use Rattle.entry.specs.declared.Kind.the-variants.{Table, Block, Page, Hole}
 use Rattle.forest.specs.Tree.{Tree, leaf, node}
-use Rattle.forest.specs.Walk.{Ends, walkTree}
+use Rattle.forest.specs.Walk.{walkTree}
 use Rattle.tree.specs.Page.{span, slotOf, slot-lt, rest-child}
-use Rattle.tree.specs.Word.{valid, frameOf, plain, leafWord, fillWord, Plain, valid-yes, valid-no, valid-same, flags-valid, flags-shown, plain-flags, leaf-hole, leaf-valid, leaf-frame, leaf-plain, leaf-true, valid-of, valid-none}
+use Rattle.tree.specs.Word.{valid, frameOf, plain, leafWord, fillWord, Plain, flags-valid, flags-shown, plain-flags, leaf-hole, leaf-frame, leaf-plain, leaf-true, valid-of, valid-none}
 use Rattle.tree.specs.Fine.{Fine, fine-flags, fine-leaf, fine-low, fill-flags, fill-is, fill-below, fill-aligned}
 
 -- what a page shows, which is what "as before" compares: flags without bit 1 and frame (its address / 4096), or a hole with its flags
@@ -110,11 +110,11 @@ fill-seen left w page fine =
     let clear = plain-flags w (fine .clear (omega arith)) in
     ap (λ (x : ℕ). seenIn left x page) (fill-is left w fine i)
     ∙ byBool (valid w)
-      (λ v. seen-leaf-word left (frameOf w + i * span left) (flagsOf w) page F (fill-below left w fine i (slot-lt page left) v)
-          (fill-aligned left w fine i) (let l = fine-low left w fine v in omega arith) (flags-valid w ∙ v)
-        ∙ ap (mapped (flagsOf w)) sum
-        ∙ sym (seen-fine (suc left) w page fine ∙ rw (v, clear)))
-      (λ v. let o = flags-valid w ∙ v in
-        ap (λ (x : ℕ). seenIn left x page) (leaf-hole (flagsOf w) F left (frameOf w + i * span left) o)
-        ∙ seen-flags left (flagsOf w) page F o
-        ∙ sym (seen-fine (suc left) w page fine ∙ rw (v, clear)))
+    (λ v. seen-leaf-word left (frameOf w + i * span left) (flagsOf w) page F (fill-below left w fine i (slot-lt page left) v)
+    (fill-aligned left w fine i) (let l = fine-low left w fine v in omega arith) (flags-valid w ∙ v)
+    ∙ ap (mapped (flagsOf w)) sum
+    ∙ sym (seen-fine (suc left) w page fine ∙ rw (v, clear)))
+    (λ v. let o = flags-valid w ∙ v in
+    ap (λ (x : ℕ). seenIn left x page) (leaf-hole (flagsOf w) F left (frameOf w + i * span left) o)
+    ∙ seen-flags left (flagsOf w) page F o
+    ∙ sym (seen-fine (suc left) w page fine ∙ rw (v, clear)))

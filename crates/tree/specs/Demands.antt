@@ -16,9 +16,9 @@ use Rattle.tree.specs.Word.{valid}
 use Rattle.tree.specs.Walk.{mapped, hole, walk, seen}
 use Rattle.tree.specs.Shown.{FineTable}
 use Rattle.tree.specs.Rules.{Map, Given}
-use Rattle.tree.specs.After.{covers, yes-covers, covers-yes, after-in, after-out, asked-valid, asked-hole}
+use Rattle.tree.specs.After.{covers, after, yes-covers, covers-yes, after-in, after-out, asked-valid, asked-hole}
 use Rattle.tree.specs.Commute.{Apart, apart-flip}
-use Rattle.tree.specs.Root.{mapTree, mapMade, mapFreed, map-seen, map-count, valid-frees-none, valid-grows, map-commute}
+use Rattle.tree.specs.Root.{mapTree, mapMade, mapFreed, map-fine, map-seen, map-count, valid-frees-none, valid-grows, map-commute}
 use Rattle.tree.specs.Order.{Reorders, Each, Pairwise, ValidMap, run, Room, madeAll, each-reorders, pairwise-reorders, run-reorders, room-reorders, seen-reorders, room-enough}
 use Rattle.tree.specs.Edit.{edited}
 use Rattle.tree.specs.Modify.{Modify, GivenModify, pagesOf, changed, afterModify, modifyTree, modifyMade, modify-seen, modify-count}
@@ -52,13 +52,6 @@ module _ (left r : ℕ) (t : Tree) (fine : FineTable left t) where
         (λ c. let x = covers-yes m page c in absurd (other (record { from = x .0; below = x .1 })))
         (λ c. c))
 
-  -- tables after = tables before + made - freed; a VALID map frees none
-  pub tables-after : (m : Map) → nodes (mapTree left r m t) + mapFreed left r m t ≡ nodes t + mapMade left r m t
-  tables-after m = map-count left r m t
-
-  pub valid-map-frees-none : (m : Map) → valid (m .flags) ≡ true → mapFreed left r m t ≡ 0
-  valid-map-frees-none m v = valid-frees-none left r m v t
-
   -- ---- DEMAND 3: two VALID maps that share no page
 
   module _ (m n : Map) (apart : Apart m n) (vm : valid (m .flags) ≡ true) (vn : valid (n .flags) ≡ true) where
@@ -85,6 +78,12 @@ module _ (left r : ℕ) (t : Tree) (fine : FineTable left t) where
           valid-grows left r n vn (mapTree left r m t),
           valid-grows left r m vm (mapTree left r n t),
         )
+
+    -- it is the one that demand 2 gives, map by map;
+    pub both-seen : Given m → Given n → (page : ℕ) → In (suc left) r page
+        → seen (suc left) (mapTree left r n (mapTree left r m t)) page ≡ after n page (after m page (seen (suc left) t page))
+    both-seen gm gn page spans =
+        map-seen left r n gn (mapTree left r m t) (map-fine left r m gm t fine) page spans ∙ ap (after n page) (map-seen left r m gm t fine page spans)
 
     -- both are accepted in one order exactly when in the other, in a pool of k tables
     pub same-room : Given m → Given n → (k : ℕ) → nodes t ≤ k → Room left r k (m ∷ n ∷ []) t ↔ Room left r k (n ∷ m ∷ []) t
@@ -115,14 +114,10 @@ module _ (left r : ℕ) (t : Tree) (fine : FineTable left t) where
         tables = ap nodes same;
       }
 
-  -- with and without VALID frame and flags agree in every order,
+  -- with and without VALID frame and flags agree in every order
   pub any-order-seen : (ms ns : List Map) → Reorders ms ns → Pairwise ms → Each Given ms → (page : ℕ) → In (suc left) r page
       → seen (suc left) (run left r ms t) page ≡ seen (suc left) (run left r ns t) page
   any-order-seen ms ns reorders apart given page spans = seen-reorders left r reorders apart given t fine page spans
-
-  -- and an order whose new tables are all free at entry is not refused 9
-  pub enough-room : (k : ℕ) (ms : List Map) → nodes t + madeAll left r ms t ≤ k → Room left r k ms t
-  enough-room k ms room = room-enough left r k ms t room
 
   -- ---- MODIFY
 
@@ -150,9 +145,23 @@ module _ (left r : ℕ) (t : Tree) (fine : FineTable left t) where
         (λ c. let x = covers-yes (pagesOf e) page c in absurd (other (record { from = x .0; below = x .1 })))
         (λ c. c))
 
+-- ---- TABLES, of any tree
+
+module _ (left r : ℕ) (t : Tree) where
+  -- tables after = tables before + made - freed; a VALID map frees none
+  pub tables-after : (m : Map) → nodes (mapTree left r m t) + mapFreed left r m t ≡ nodes t + mapMade left r m t
+  tables-after m = map-count left r m t
+
+  pub valid-map-frees-none : (m : Map) → valid (m .flags) ≡ true → mapFreed left r m t ≡ 0
+  valid-map-frees-none m v = valid-frees-none left r m v t
+
   -- tables after = tables before + made: modify frees none
   pub modify-tables : (e : Modify) → nodes (modifyTree left r e t) ≡ nodes t + modifyMade left r e t
   modify-tables e = modify-count left r e t
+
+  -- a list of maps whose new tables are all free at entry is not refused 9 (Q-13, with and without VALID)
+  pub enough-room : (k : ℕ) (ms : List Map) → nodes t + madeAll left r ms t ≤ k → Room left r k ms t
+  enough-room k ms room = room-enough left r k ms t room
 
 -- ---- COMPACT, of any tree
 

@@ -23,8 +23,8 @@ use Rattle.tree.specs.Sweep.{Says, table-is}
 use Rattle.tree.specs.Root.{mapTree}
 
 -- "a VALID map writes frame + flags + 2" at level 3, above it the block without bit 1; "otherwise the flags alone"
-unfoldable pub wordAt : ℕ → ℕ → ℕ → ℕ
-wordAt level frame flags = cond (valid flags) (cond (leb 3 level) (frame + flags + 2) (frame + flags)) flags
+unfoldable pub written : ℕ → ℕ → ℕ → ℕ
+written level frame flags = cond (valid flags) (cond (leb 3 level) (frame + flags + 2) (frame + flags)) flags
 
 -- the chunk is the whole entry
 unfoldable pub wholeEntry : ℕ → MemoryRegion → Bool
@@ -39,12 +39,12 @@ already level c frame flags w =
 -- the first rule that fits the chunk c, with its frame, of an entry with `left` levels below
 module _ (flags : ℕ) (blocks : Bool) where
   unfoldable pub documentRule : ℕ → MemoryRegion → ℕ → Tree → Rule
-  documentRule zero c frame (leaf w) = write (wordAt 3 frame flags)
+  documentRule zero c frame (leaf w) = write (written 3 frame flags)
   documentRule zero c frame (node f) = keep
   documentRule (suc left) c frame (leaf w) =
       let level = 3 - suc left in
       cond (already level c frame flags w) keep
-      (cond (wholeEntry level c && (eqb (frame % sizeAt level) 0 && (blocks && ltb 0 level))) (write (wordAt level frame flags))
+      (cond (wholeEntry level c && (eqb (frame % sizeAt level) 0 && (blocks && ltb 0 level))) (write (written level frame flags))
       down)
   documentRule (suc left) c frame (node f) =
       let level = 3 - suc left in
@@ -53,8 +53,8 @@ module _ (flags : ℕ) (blocks : Bool) where
 -- ---- it says what `mapRule` says
 
 -- in frames
-pub word-frames : (left p f : ℕ) → left ≤ 3 → p % 4096 ≡ 0 → wordAt (3 - left) p f ≡ leafWord left (p / 4096) f
-unfolding wordAt leafWord pageBit
+pub word-frames : (left p f : ℕ) → left ≤ 3 → p % 4096 ≡ 0 → written (3 - left) p f ≡ leafWord left (p / 4096) f
+unfolding written leafWord pageBit
 word-frames zero p f h pages = let e : p + f + 2 ≡ p / 4096 * 4096 + f + 2 = omega arith in ap (λ (x : ℕ). cond (valid f) x f) e
 word-frames (suc left) p f h pages =
     let low : leb 3 (3 - suc left) ≡ false = lt-leb 3 (3 - suc left) (omega arith) in
@@ -144,7 +144,7 @@ module _ (left q s e p flags : ℕ) (blocks : Bool) (low : left ≤ 3) (some : s
   unfolding drops
   drops-is = rw whole-is
 
-  word-is : m .from ≤ b → wordAt (3 - left) p flags ≡ leafWord left (frameAt b m) flags
+  word-is : m .from ≤ b → written (3 - left) p flags ≡ leafWord left (frameAt b m) flags
   unfolding frameAt
   word-is h =
       let l = I .low in

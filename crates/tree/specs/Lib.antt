@@ -9,6 +9,7 @@ pub mod Visit
 pub mod Slots
 pub mod Count
 pub mod Shown
+pub mod Forest
 -- the map
 pub mod Rules
 pub mod After

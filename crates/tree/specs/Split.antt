@@ -19,7 +19,7 @@ use Rattle.tree.specs.Visit.{fillTree, visit, visitTable, visit-keep, vi
 use Rattle.tree.specs.Slots.{slotAfter, each-node, slot-after, slot-past, fillSlot, fill-node, fill-slot, fill-past}
 use Rattle.tree.specs.Rules.{Map, meets, frameAt, same, fits, mapRule, yes-meets, yes-whole, same-yes, rule-page, rule-same, rule-block}
 use Rattle.tree.specs.Chunks.{Inside, chunkedTable}
-use Rattle.tree.specs.Document.{wordAt, word-frames, documentRule, document-is}
+use Rattle.tree.specs.Document.{written, word-frames, documentRule, document-is}
 use Rattle.tree.specs.Root.{mapTree}
 
 -- the map that the split of the q-th entry runs, in pages
@@ -108,7 +108,7 @@ crate-split left q w fine low =
 
 -- ---- the fill in addresses: the old address, cleared below the entry's size, in steps of the child's size; the flags alone if it wasn't valid
 pub fill-address : (left w i : ℕ) → suc left ≤ 3
-    → fillWord left w i ≡ cond (valid w) (wordAt (3 - left) (down (addressOf w) (sizeAt (3 - suc left))) (flagsOf w) + i * sizeAt (3 - left)) (flagsOf w)
+    → fillWord left w i ≡ cond (valid w) (written (3 - left) (down (addressOf w) (sizeAt (3 - suc left))) (flagsOf w) + i * sizeAt (3 - left)) (flagsOf w)
 unfolding down fillWord leafWord first
 fill-address left w i low =
     let f : ℕ = frameOf w / span (suc left) * span (suc left) in

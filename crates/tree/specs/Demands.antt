@@ -1,6 +1,7 @@
 -- THE DEMANDS, over the tree t that a sound pool's root shows: its entries have `left` = 3 - (root level) levels below, the root is the r-th table of
 -- its span (`Root`). Pages and frames are addresses / 4096; `In (suc left) r page` says that the root spans the page. `seen` is what a walk
--- shows of a page, "as before" in the document's sense; `walk` has the level too. Assumes nothing.
+-- shows of a page, "as before" in the document's sense; `walk` has the level too. `FineTable` says that each word is fine where it stands: `Forest`
+-- gives it for the trees of a sound pool, and each call keeps it (`map-fine`, `modify-fine`, `compact-fine`). Assumes nothing.
 use mathlib.Core.Path.{_≡_, refl, sym, ap, _∙_}
 use mathlib.Core.Bool.{true, false, cond}
 use mathlib.Core.List.{List, [], _∷_, List·Permᴰ·swap, Permᴰ·symm}

@@ -1,7 +1,4 @@
 // Putting a map down in one table and the tables below it: split_entry and map_range of PageTableWithLevel.
-use crate::Map;
-use crate::Rule;
-use crate::rules;
 use address::PhysicalAddress;
 use address::VirtualAddress;
 use entry::Sub;
@@ -9,17 +6,26 @@ use pool::Found;
 use pool::Handle;
 use pool::table;
 use region::MemoryRegion;
+use rules::Map;
+use rules::Rule;
 ghost use mathlib.Core.Path.{_≡_};
 ghost use Prim.Native.Nat.{_+_, _*_, _-_, _%_, _≤_, _<_};
 ghost use lib.ListN.{length, getD};
 ghost use Rattle.pool.specs.State.{st};
 ghost use Rattle.pool.specs.Refuse.{Shaped};
 ghost use Rattle.pool.specs.Table.{taken};
-ghost use Rattle.map.specs.Rules.{splitEntry, below, dropEntry, mapRange};
-ghost use Rattle.map.specs.Fit.{Fit};
+ghost use Rattle.map.specs.Put.{splitEntry, below, dropEntry, mapRange};
+ghost use Rattle.rules.specs.Fit.{Fit};
 
 // A new table for an entry that is no table, filled with the old entry.
-pub fn split_entry(words: &mut [u64], ledger: &mut [u32], handle: Handle, level: usize, k: usize, i: usize) -> Found
+pub fn split_entry(
+    words: &mut [u64],
+    ledger: &mut [u32],
+    handle: Handle,
+    level: usize,
+    k: usize,
+    i: usize,
+) -> Found
     requires { ⌜ Shaped handle (st (now words) (now ledger)) × (level < 3) × (k < length (now ledger)) × (i < 512) × (getD (now words) (512 * k + i) 0 % 4 ≡ 3 → ⊥) ⌝ }
     ensures { λ r. ⌜ taken r (st (now (words .exit)) (now (ledger .exit))) ≡ splitEntry handle level k i (st (now (words .entry)) (now (ledger .entry))) ⌝ }
 {
@@ -35,7 +41,14 @@ pub fn split_entry(words: &mut [u64], ledger: &mut [u32], handle: Handle, level:
 }
 
 // The table below a slot: the one that is there, or a new one.
-fn descend(words: &mut [u64], ledger: &mut [u32], handle: Handle, level: usize, k: usize, i: usize) -> Found
+fn descend(
+    words: &mut [u64],
+    ledger: &mut [u32],
+    handle: Handle,
+    level: usize,
+    k: usize,
+    i: usize,
+) -> Found
     requires { ⌜ Shaped handle (st (now words) (now ledger)) × (level < 3) × (k < length (now ledger)) × (i < 512) ⌝ }
     ensures { λ r. ⌜ taken r (st (now (words .exit)) (now (ledger .exit))) ≡ below handle level k i (st (now (words .entry)) (now (ledger .entry))) ⌝ }
 {
@@ -63,7 +76,14 @@ fn drop_entry(words: &mut [u64], ledger: &mut [u32], handle: Handle, level: usiz
 }
 
 // Every chunk of the map in table k, ascending.
-pub fn map_range(words: &mut [u64], ledger: &mut [u32], handle: Handle, k: usize, level: usize, map: Map)
+pub fn map_range(
+    words: &mut [u64],
+    ledger: &mut [u32],
+    handle: Handle,
+    k: usize,
+    level: usize,
+    map: Map,
+)
     requires { ⌜ Shaped handle (st (now words) (now ledger)) × (k < length (now ledger)) × (level ≤ 3) × Fit map ⌝ }
     ensures { λ _. ⌜ st (now (words .exit)) (now (ledger .exit)) ≡ mapRange (3 - level) handle k map (st (now (words .entry)) (now (ledger .entry))) ⌝ }
 {

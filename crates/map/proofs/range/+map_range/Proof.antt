@@ -7,10 +7,12 @@ use Rattle.region.specs.Region.{region, chunkEnd, entryIndex}
 use Rattle.region.specs.Chunks.{chunk-fits}
 use Rattle.pool.specs.State.{St, st, tables, wordAt}
 use Rattle.pool.specs.Refuse.{Shaped}
-use Rattle.map.specs.declared.Map.{Map}
-use Rattle.map.specs.Rules.{chunkMap, eachChunk}
-use Rattle.map.specs.Fit.{Fit}
-use Rattle.map.specs.Range.{stepAt, map-open, each-done, each-step, chunk-paged, chunk-fit, rest-paged, drop-high, down-high, chunk-write, chunk-keep, chunk-drop, chunk-none, chunk-into, below-inside, shaped-keep}
+use Rattle.rules.specs.declared.Map.{Map}
+use Rattle.rules.specs.Rules.{chunkMap}
+use Rattle.rules.specs.Fit.{Fit, chunk-paged, chunk-fit, rest-paged}
+use Rattle.rules.specs.Laws.{drop-high, down-high}
+use Rattle.map.specs.Put.{eachChunk}
+use Rattle.map.specs.Range.{stepAt, map-open, each-done, each-step, chunk-write, chunk-keep, chunk-drop, chunk-none, chunk-into, below-inside, shaped-keep}
 use Prim.Native.Nat.{ℕ, _<_}
 use borrow.Fn.Kinds.{In}
 use borrow.Fn.PlainCycle.{Measures, is, falls, and}
@@ -19,7 +21,7 @@ use Rattle.map.proofs.range.map_range.Kinds as map-range-kinds
 use Rattle.map.proofs.range.+map_range.Lts-map_range as map-range-lts
 use Rattle.map.proofs.range.descend.Reads as descend-reads
 use Rattle.map.proofs.range.drop_entry.Reads as drop-entry-reads
-use Rattle.map.proofs.rules.rule_of.Reads as rule-of-reads
+use Rattle.rules.proofs.rule_of.Reads as rule-of-reads
 use Rattle.region.proofs.chunk_end.Reads as chunk-end-reads
 use Rattle.region.proofs.entry_index.Reads as entry-index-reads
 use Rattle.map.proofs.range.+map_range.{statement}
@@ -39,7 +41,7 @@ abbrev calls : ℕ → map-range-lts.Claims
 calls t = (chunk-end-reads.Asked, chunk-end-reads.Learnt, entry-index-reads.Asked, entry-index-reads.Learnt, rule-of-reads.Asked, rule-of-reads.Learnt, drop-entry-reads.Asked, drop-entry-reads.Learnt, descend-reads.Asked, descend-reads.Learnt, map-range-below t, map-range.Post)
 
 abbrev map-range-Inv-loop : map-range-lts.InvT-loop
-map-range-Inv-loop words₀ ledger₀ handle k level map end at₀ frame₀ words ledger at frame = 
+map-range-Inv-loop words₀ ledger₀ handle k level map end at₀ frame₀ words ledger at frame =
     (at ≤ map .region .end .0) × (at % 4096 ≡ 0) × (frame % 4096 ≡ 0) × (frame + (map .region .end .0 - at) ≤ 2 ^ 48)
     × (length words ≡ length words₀) × (length ledger ≡ length ledger₀)
     × (eachChunk level (stepAt level handle k) (chunkMap map (region at (map .region .end .0)) frame) (st words ledger) ≡ eachChunk level (stepAt level handle k) map (st words₀ ledger₀))
@@ -100,7 +102,7 @@ facts t c =
       fit = subst⁻¹ (λ (x : ℕ). Fit (chunkMap (a .map) (region (at .loop .at) x) (at .loop .frame))) stop part;
       next =
           ap (λ (x : ℕ). let f = stepAt (a .level) (a .handle) (a .k) in
-              eachChunk (a .level) f (chunkMap (a .map) (region x (a .map .region .end .0)) (at .loop .frame + (x - at .loop .at))) (f (chunkMap (a .map) (region (at .loop .at) x) (at .loop .frame)) s)) stop
+          eachChunk (a .level) f (chunkMap (a .map) (region x (a .map .region .end .0)) (at .loop .frame + (x - at .loop .at))) (f (chunkMap (a .map) (region (at .loop .at) x) (at .loop .frame)) s)) stop
           ∙ sym (each-step (a .level) (stepAt (a .level) (a .handle) (a .k)) (a .map) (at .loop .at) (a .map .region .end .0) (at .loop .frame) s low) ∙ inv .6;
     }
 
@@ -311,7 +313,7 @@ map-range-map-range-requires t c κs =
     let high = down-high (a .level) (chunkOf t place) _ (c .before .before .before .before .before .before .before .before .before .before .before .before .before .before .rule-of .ensures) (c .before .before .before .before .before .before .before .before .before .before .before .before .enum-told2 .given .1) in
     let found = below-inside (a .handle) (a .level) (a .k) (place .entry-index .result) s _ (under .descend .ensures) (c .before .before .before .under .given .1) in (
       omega (arith, high, c .before .before .before .before .before .before .before .before .before .before .before .before .before .before .before .before .before .before .before .before .before .before .pre .0),
-      (shaped-keep (a .handle) s (st (under .descend .last .0) (under .descend .last .1 .0)) (f .shape) (under .descend .kept .0) (under .descend .kept .1 .0), omega (arith, found, under .descend .kept .1 .0), omega (arith, high), f .fit)
+      (shaped-keep (a .handle) s (st (under .descend .last .0) (under .descend .last .1 .0)) (f .shape) (under .descend .kept .0) (under .descend .kept .1 .0), omega (arith, found, under .descend .kept .1 .0), omega (arith, high), f .fit),
     )
 
 -- src/range.rt:73:5

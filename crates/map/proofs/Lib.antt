@@ -1,2 +1,0 @@
--- Lemmas that several proofs of `map` share.
-pub mod Tags

@@ -1,2 +1,3 @@
 -- Document 01, "Bench cases": the starred ones, proved about the definitions.
 pub mod Bench
+pub mod Listed

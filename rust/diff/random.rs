@@ -178,7 +178,7 @@ impl Maker<'_> {
     }
 
     fn map(&mut self) -> Map {
-        let (start, end) = self.region();
+        let (start, mut end) = self.region();
         let rounded = start / 4096 * 4096;
         let constraints = self.random.pick(&[0, 0, 0, 0, 0, 0, 1, 1, 2, 3]);
         let (mut frame, mut flags) = (self.frame(rounded), self.flags());
@@ -187,6 +187,11 @@ impl Maker<'_> {
             let (from, to, with) = self.earlier[self.random.below(self.earlier.len() as u64) as usize];
             frame = to.wrapping_add(rounded.wrapping_sub(from)) % (1 << 48);
             flags = if self.random.one_in(4) { flags } else { with };
+        }
+        // The model counts the tables of a long region that takes no blocks one by one: few of these.
+        let in_blocks = constraints & 1 == 0 && frame.wrapping_sub(rounded) % size(2) == 0;
+        if !in_blocks && end.wrapping_sub(start) > size(1) * 32 && !self.random.one_in(100) {
+            end = start.wrapping_add(end.wrapping_sub(start) % (2 * size(1)));
         }
         self.earlier.push((rounded, frame, flags));
         Map { start, end, frame, flags, constraints }

@@ -185,6 +185,7 @@ impl Run {
     // The call on a copy with flipped bits, most often unsound. The check says so too.
     fn damaged(&self, call: &Call, damage: &Damage, counts: &mut Counts) -> Result<Answer, String> {
         let mut model = self.model.clone();
+        model.trusted = false;
         if damage.ledger {
             let place = damage.place as usize % model.ledger.len();
             model.ledger[place] ^= damage.flip as u32 | (damage.flip >> 32) as u32;

@@ -30,99 +30,53 @@ fn make(what: &[u8], words: &mut [u64], ledger: &mut [u32], base: u64, level: u6
     say(what, refusal);
 }
 
-fn put(words: &mut [u64], at: usize, word: u64) {
-    if at < words.len() {
-        words[at] = word;
-    }
-}
-
-fn enter(ledger: &mut [u32], table: usize, number: u32) {
-    if table < ledger.len() {
-        ledger[table] = number;
-    }
-}
-
-// Case B: 0x1000..0x3000 mapped to 0x9000, by two tables under the root.
-fn put_case_b(words: &mut [u64], ledger: &mut [u32]) {
-    put(words, 0, 0x8000_1003);
-    put(words, 512, 0x8000_2003);
-    put(words, 1025, 0x9403);
-    put(words, 1026, 0xA403);
-    enter(ledger, 1, 14);
-    enter(ledger, 2, 4111);
-}
-
-fn sound_pools(words: &mut [u64], ledger: &mut [u32]) {
+// A pool made, then case B: 0x1000..0x3000 mapped to 0x9000, by two tables under the root.
+fn sound_pools(words: &mut [u64; 4096], ledger: &mut [u32; 8]) {
     check(b"before make", words, ledger);
     make(b"make", words, ledger, BASE, LEVEL);
     check(b"a fresh pool", words, ledger);
-    put_case_b(words, ledger);
+    words[0] = 0x8000_1003;
+    words[512] = 0x8000_2003;
+    words[1025] = 0x9403;
+    words[1026] = 0xA403;
+    ledger[1] = 14;
+    ledger[2] = 4111;
     check(b"case B", words, ledger);
 }
 
-// Case B with one word changed; then the word as it was.
-fn damaged(what: &[u8], words: &mut [u64], ledger: &[u32], at: usize, word: u64, old: u64) {
-    put(words, at, word);
-    check(what, words, ledger);
-    put(words, at, old);
-}
-
 // Links and ledger numbers that do not name each other.
-fn damaged_links(words: &mut [u64], ledger: &mut [u32]) {
-    damaged(
-        b"a link to a table that is free",
-        words,
-        ledger,
-        517,
-        0x8000_3003,
-        0,
-    );
-    damaged(
-        b"two links to one table",
-        words,
-        ledger,
-        519,
-        0x8000_2003,
-        0,
-    );
-    damaged(
-        b"a link out of the pool",
-        words,
-        ledger,
-        521,
-        0x8000_8003,
-        0,
-    );
-    enter(ledger, 2, 4119);
+fn damaged_links(words: &mut [u64; 4096], ledger: &mut [u32; 8]) {
+    words[517] = 0x8000_3003;
+    check(b"a link to a table that is free", words, ledger);
+    words[517] = 0x8000_2003;
+    check(b"two links to one table", words, ledger);
+    words[517] = 0x8000_8003;
+    check(b"a link out of the pool", words, ledger);
+    words[517] = 0;
+    ledger[2] = 4119;
     check(b"a ledger number that names another slot", words, ledger);
-    enter(ledger, 2, 4111);
+    ledger[2] = 4111;
 }
 
 // Words that their table does not allow.
-fn damaged_leaves(words: &mut [u64], ledger: &[u32]) {
-    damaged(b"a word in a free table", words, ledger, 2660, 0x9403, 0);
-    damaged(
-        b"a flag outside the set, bit 48",
-        words,
-        ledger,
-        1025,
-        0x1_0000_0000_9403,
-        0x9403,
-    );
-    damaged(
-        b"a block at level 1, not aligned",
-        words,
-        ledger,
-        5,
-        0x2000_0401,
-        0,
-    );
-    damaged(b"the reserved word 1 at level 3", words, ledger, 1027, 1, 0);
+fn damaged_leaves(words: &mut [u64; 4096], ledger: &[u32; 8]) {
+    words[2660] = 0x9403;
+    check(b"a word in a free table", words, ledger);
+    words[2660] = 0;
+    words[1025] = 0x1_0000_0000_9403;
+    check(b"a flag outside the set, bit 48", words, ledger);
+    words[1025] = 0x9403;
+    words[5] = 0x2000_0401;
+    check(b"a block at level 1, not aligned", words, ledger);
+    words[5] = 0;
+    words[1027] = 1;
+    check(b"the reserved word 1 at level 3", words, ledger);
+    words[1027] = 0;
     check(b"case B again", words, ledger);
 }
 
 // Refusal 1, for the handle and for a length: nothing changes.
-fn misshapen(words: &mut [u64], ledger: &mut [u32]) {
+fn misshapen(words: &mut [u64; 4096], ledger: &mut [u32; 8]) {
     let mut few = [0u64; 511];
     make(b"make, level 4", words, ledger, BASE, 4);
     make(
@@ -169,7 +123,7 @@ fn show(page: &[u8]) {
     }
 }
 
-fn images(words: &[u64], ledger: &[u32]) {
+fn images(words: &[u64; 4096], ledger: &[u32; 8]) {
     let mut page = [0u8; 4096];
     let mut short = [0u8; 4095];
     image(b"page image of table 2", words, ledger, 2, &mut page);

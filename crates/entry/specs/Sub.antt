@@ -108,3 +108,15 @@ sub-link base n level k h pages below l =
     let a = link-address base k pages (omega arith) in
     let place : (addressOf (linkOf base k) - base) / 4096 ≡ k = omega arith in
     sym (sub-in base n level (linkOf base k) h (link-low base k pages (omega arith)) (omega arith) (omega arith)) ∙ ap Table place
+
+-- a table word never leads nowhere
+pub sub-some : (base n level w : ℕ) → level < 3 → w % 4 ≡ 3 → subOf base n level w ≡ Leaf → ⊥
+sub-some base n level w h e q = go (le-or base (addressOf w)) (le-or n ((addressOf w - base) / 4096))
+  where
+    never : {x : Sub} → x ≡ subOf base n level w → (x ≡ Leaf → ⊥) → ⊥
+    never p r = r (p ∙ q)
+
+    go : (base ≤ addressOf w) ⊎ (addressOf w < base) → (n ≤ (addressOf w - base) / 4096) ⊎ ((addressOf w - base) / 4096 < n) → ⊥
+    go (inr l) m = never (sub-low base n level w h e l) (λ r. let z : _≡_ {A = ℕ} 0 1 = cc in omega arith)
+    go (inl l) (inl m) = never (sub-high base n level w h e l m) (λ r. let z : _≡_ {A = ℕ} 0 1 = cc in omega arith)
+    go (inl l) (inr m) = never (sub-in base n level w h e l m) (λ r. let z : _≡_ {A = ℕ} 0 1 = cc in omega arith)

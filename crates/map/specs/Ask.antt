@@ -14,6 +14,7 @@ use Rattle.laws.specs.Size.{down, up}
 use Rattle.laws.specs.Test.{byBool, eq-or, le-or}
 use Rattle.address.specs.Address.{alignUp}
 use Rattle.region.specs.Region.{rounded}
+use Rattle.region.specs.declared.MemoryRegion.{MemoryRegion}
 use Rattle.pool.specs.Sound.{flagSet}
 use Rattle.pool.specs.declared.Handle.{Handle}
 use Rattle.pool.specs.declared.Refusal.{Refusal}
@@ -21,12 +22,19 @@ use Rattle.pool.specs.declared.Refusal.the-variants.{End, InvalidFlags, FlagSet
 use Rattle.pool.specs.declared.Outcome.{Outcome}
 use Rattle.pool.specs.declared.Outcome.the-variants.{Accepted, Refused}
 use Rattle.verify.specs.Verify.{endFits, verify, verified-forwards}
-use Rattle.map.specs.declared.Map.{Map}
-use Rattle.map.specs.Fit.{Plain, Fit}
+use Rattle.rules.specs.declared.Map.{Map}
+use Rattle.rules.specs.Fit.{Plain, Fit}
 
 -- the map that a call asks for: "start is rounded down and end up to 4096"; "blocks allowed" is NO_BLOCK_MAPPINGS unset, the constraints' bit 0
 unfoldable pub asked : ℕ → ℕ → ℕ → ℕ → ℕ → Map
 asked start end frame flags constraints = record { region = rounded start end; frame = record { 0 = frame }; flags = flags; blocks = eqb (constraints % 2) 0 }
+
+-- with the region that was rounded for it
+pub asked-is : (start end frame flags constraints : ℕ) {r : MemoryRegion} → r ≡ rounded start end
+    → _≡_ {A = Map} (record { region = r; frame = record { 0 = frame }; flags = flags; blocks = eqb (constraints % 2) 0 }) (asked start end frame flags constraints)
+unfolding asked
+asked-is start end frame flags constraints e =
+    ap (λ (x : MemoryRegion). record { region = x; frame = record { 0 = frame }; flags = flags; blocks = eqb (constraints % 2) 0 }) e
 
 -- refusal 7: frame not a multiple of 4096, or frame + length above 2^48
 unfoldable pub frameAsked : ℕ → ℕ → Outcome

@@ -16,9 +16,9 @@ use Rattle.pool.specs.declared.Outcome.{Outcome}
 use Rattle.pool.specs.declared.Outcome.the-variants.{Accepted, Refused}
 use Rattle.pool.specs.declared.Counted.{Counted}
 use Rattle.pool.specs.declared.Counted.the-variants as counted
-use Rattle.map.specs.declared.Map.{Map}
-use Rattle.map.specs.Rules.{mapRange}
-use Rattle.map.specs.Needed.{needed}
+use Rattle.rules.specs.declared.Map.{Map}
+use Rattle.map.specs.Put.{mapRange}
+use Rattle.need.specs.Needed.{needed}
 use Rattle.map.specs.Ask.{asked, verifyMap}
 
 -- a refusal leaves the state as it was

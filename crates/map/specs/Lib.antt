@@ -1,12 +1,6 @@
--- Map: the five rules on lists, and the call.
-pub mod Rules
-pub mod Fit
-pub mod Ask
+-- Map: what the rules do on lists, one table after the other, and the call.
+pub mod Put
 pub mod Laws
 pub mod Range
-pub mod Needed
-pub mod Closed
-pub mod Missed
-pub mod Count
-pub mod SoundCount
+pub mod Ask
 pub mod Call

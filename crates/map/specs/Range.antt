@@ -1,4 +1,4 @@
--- The loop over a table's chunks: one step after the other, and what each step needs. Leans on `Rules`, `Fit` and `Laws`. Assumes nothing.
+-- The loop over a table's chunks: one step after the other, and what each step needs. Leans on `Put`. Assumes nothing.
 use mathlib.Core.Path.{_≡_, refl, sym, ap, _∙_}
 use mathlib.Core.Bool.{true, false, cond}
 use mathlib.Core.List.{List, [], _∷_}
@@ -24,12 +24,11 @@ use Rattle.pool.specs.Table.{Taken, taken, takeTable, takeFound}
 use Rattle.pool.specs.declared.Handle.{Handle}
 use Rattle.pool.specs.declared.Found.{Found}
 use Rattle.pool.specs.declared.Found.the-variants.{At, Nothing}
-use Rattle.map.specs.declared.Map.{Map}
-use Rattle.map.specs.declared.Rule.{Rule}
-use Rattle.map.specs.declared.Rule.the-variants.{Write, Keep, Drop, Down}
-use Rattle.map.specs.Rules.{ruleOf, fillOf, splitEntry, belowOf, below, inFound, into, dropEntry, byRule, mapChunk, eachOf, chunkMap, eachChunk, mapRange}
-use Rattle.map.specs.Fit.{Fit}
-use Rattle.map.specs.Laws.{rule-page}
+use Rattle.rules.specs.declared.Map.{Map}
+use Rattle.rules.specs.declared.Rule.{Rule}
+use Rattle.rules.specs.declared.Rule.the-variants.{Write, Keep, Drop, Down}
+use Rattle.rules.specs.Rules.{ruleOf, fillOf, chunkMap}
+use Rattle.map.specs.Put.{splitEntry, belowOf, below, inFound, into, dropEntry, byRule, mapChunk, eachOf, eachChunk, mapRange}
 
 -- ---- one level down
 
@@ -71,38 +70,7 @@ module _ (level : ℕ) (f : Map → St → St) (m : Map) (at end frame : ℕ) (s
   unfolding eachChunk eachOf
   each-step h = rw (chunks-step level at end h)
 
--- a chunk ends at a whole page
-pub chunk-paged : (level s e : ℕ) → e % 4096 ≡ 0 → chunkEnd level s e % 4096 ≡ 0
-unfolding chunkEnd entryLast
-chunk-paged level s e h =
-    let p = size-pos level in
-    let d = down-paged level s in
-    let z : sizeAt level % 4096 ≡ 0 = ap (λ (g : ℕ). g % 4096) (size-pages level) ∙ mul-mod-left (2 ^ (9 * (3 - level))) 4096 in
-    omega arith
-
--- the chunk's own map fits, and so does what remains
-module _ (level at end frame : ℕ) (m : Map) (fit : Fit m) (low : at < end) (from : at % 4096 ≡ 0) (to : end % 4096 ≡ 0)
-    (paged : frame % 4096 ≡ 0) (room : frame + (end - at) ≤ 2 ^ 48) where
-  pub chunk-fit : Fit (chunkMap m (region at (chunkEnd level at end)) frame)
-  chunk-fit =
-      let c = chunk-fits level at end low in
-      record { from = from; to = chunk-paged level at end to; some = omega (arith, c .0); frame = paged; room = omega (arith, c .0, c .1); flags = fit .flags }
-
-  pub rest-paged : (frame + (chunkEnd level at end - at)) % 4096 ≡ 0
-  rest-paged = let c = chunk-fits level at end low in let z = chunk-paged level at end to in omega (arith, c .0)
-
 -- ---- one chunk, by its rule
-
--- only above level 3 is there something below
-module _ (level : ℕ) (m : Map) (w : ℕ) {r : Rule} (is : r ≡ ruleOf level m w) where
-  rule-high : ((x : ℕ) → r ≡ Write x → ⊥) → level < 3
-  rule-high other = ⊎-elim (λ h. absurd (other _ (is ∙ sym (rule-page level m w h)))) (λ h. h) (le-or 3 level)
-
-  pub drop-high : (x : ℕ) → r ≡ Drop x → level < 3
-  drop-high x e = rule-high (λ y q. let z : _≡_ {A = ℕ} 0 1 = cc in omega arith)
-
-  pub down-high : r ≡ Down → level < 3
-  down-high e = rule-high (λ y q. let z : _≡_ {A = ℕ} 0 1 = cc in omega arith)
 
 module _ (h : Handle) (level k : ℕ) (m : Map) (s : St) {i : ℕ} (index : i ≡ entryIndex level (m .region .start .0)) {r : Rule} (is : r ≡ ruleOf level m (wordAt s k i)) where
   chosen : (q : Rule) → r ≡ q → byRule (λ j t. recAt level h j m t) h level k i q s ≡ stepAt level h k m s

@@ -1,10 +1,10 @@
 // What map asks of its arguments: refusals 2 to 7, in their order.
-use crate::Map;
 use address::PhysicalAddress;
 use pool::Handle;
 use pool::Outcome;
 use pool::Refusal;
 use pool::shape;
+use rules::Map;
 ghost use mathlib.Core.Path.{_≡_};
 ghost use Rattle.map.specs.Ask.{frameAsked, verifyMap};
 

@@ -1,7 +1,4 @@
 // Putting a map down in one table and the tables below it: split_entry and map_range of PageTableWithLevel.
-use crate::Map;
-use crate::Rule;
-use crate::rules;
 use address::PhysicalAddress;
 use address::VirtualAddress;
 use entry::Sub;
@@ -9,14 +6,16 @@ use pool::Found;
 use pool::Handle;
 use pool::table;
 use region::MemoryRegion;
+use rules::Map;
+use rules::Rule;
 ghost use mathlib.Core.Path.{_≡_};
 ghost use Prim.Native.Nat.{_+_, _*_, _-_, _%_, _≤_, _<_};
 ghost use lib.ListN.{length, getD};
 ghost use Rattle.pool.specs.State.{st};
 ghost use Rattle.pool.specs.Refuse.{Shaped};
 ghost use Rattle.pool.specs.Table.{taken};
-ghost use Rattle.map.specs.Rules.{splitEntry, below, dropEntry, mapRange};
-ghost use Rattle.map.specs.Fit.{Fit};
+ghost use Rattle.map.specs.Put.{splitEntry, below, dropEntry, mapRange};
+ghost use Rattle.rules.specs.Fit.{Fit};
 
 // A new table for an entry that is no table, filled with the old entry.
 pub fn split_entry(words: &mut [u64], ledger: &mut [u32], handle: Handle, level: usize, k: usize, i: usize) -> Found

@@ -1,6 +1,6 @@
 -- The calls with numbers alone: a handle made of three numbers, and each call's answer and lent state for every input.
 -- A call is a definition and two laws, one for each way through its code. Assumes nothing.
-use mathlib.Core.Path.{_≡_}
+use mathlib.Core.Path.{_≡_, ap, _∙_}
 use mathlib.Core.Bool.{cond}
 use mathlib.Core.List.{List}
 use Prim.Native.Nat.{ℕ, _≤_, _<_}
@@ -8,7 +8,7 @@ use lib.Dec.{eqb, leb}
 use borrow.Author.Tests.{le-leb, lt-leb}
 use Rattle.pool.specs.State.{St}
 use Rattle.pool.specs.Refuse.{Out, out}
-use Rattle.pool.specs.Calls.{makeCall, imageCall, imaged}
+use Rattle.pool.specs.Calls.{makeCall, imageCall, Imaged, imaged}
 use Rattle.pool.specs.declared.Handle.{Handle}
 use Rattle.pool.specs.declared.VaRange.{VaRange}
 use Rattle.pool.specs.declared.VaRange.the-variants.{Lower, Upper}
@@ -27,10 +27,12 @@ handleOf base level range = record { base = record { 0 = base }; level = level; 
 
 -- ---- make
 
+-- the answer told, and the state that it leaves
+abbrev pub toldOut : List ℕ → Out Outcome → Out Slip
+toldOut old made = out (told (made .answer) old) (made .state)
+
 unfoldable pub makeFace : ℕ → ℕ → ℕ → St → List ℕ → Out Slip
-makeFace base level range s old =
-    let made = makeCall (handleOf base level range) s in
-    cond (leb range 1) (out (told (made .answer) old) (made .state)) (out (refused Shape old) s)
+makeFace base level range s old = cond (leb range 1) (toldOut old (makeCall (handleOf base level range) s)) (out (refused Shape old) s)
 
 module _ (base level range : ℕ) (s : St) (old : List ℕ) where
   pub make-no-range : 1 < range → out (slip 1 old) s ≡ makeFace base level range s old
@@ -40,7 +42,8 @@ module _ (base level range : ℕ) (s : St) (old : List ℕ) where
   pub make-told : {h : Handle} {o : Outcome} {s′ : St} {x : Slip} → range ≤ 1 → h ≡ handleOf base level range → out o s′ ≡ makeCall h s → x ≡ told o old
       → out x s′ ≡ makeFace base level range s old
   unfolding makeFace
-  make-told l e m t = rw (t, le-leb range 1 l, ← e, ← m)
+  make-told {s′ = s′} l e m t =
+      rw (le-leb range 1 l) (ap (λ (y : Slip). out y s′) t ∙ ap (toldOut old) (m ∙ ap (λ (g : Handle). makeCall g s) e))
 
 -- ---- check
 
@@ -55,7 +58,7 @@ module _ (base level range : ℕ) (s : St) (old : List ℕ) where
   pub check-told : {h : Handle} {o : Outcome} {x : Slip} → range ≤ 1 → h ≡ handleOf base level range → o ≡ checkCall h s → x ≡ told o old
       → x ≡ checkFace base level range s old
   unfolding checkFace
-  check-told l e m t = rw (t, le-leb range 1 l, ← e, ← m)
+  check-told l e m t = rw (le-leb range 1 l) (t ∙ ap (λ (o : Outcome). told o old) (m ∙ ap (λ (g : Handle). checkCall g s) e))
 
 -- ---- page image
 
@@ -67,10 +70,12 @@ pub record Filled : Type 0 where
 abbrev pub filled : Slip → List ℕ → Filled
 filled a b = record { answer = a; buffer = b }
 
+-- the answer told, and the page that it leaves
+abbrev pub toldImage : List ℕ → Imaged → Filled
+toldImage old image = filled (told (image .answer) old) (image .page)
+
 unfoldable pub imageFace : ℕ → ℕ → ℕ → St → ℕ → List ℕ → List ℕ → Filled
-imageFace base level range s table page old =
-    let image = imageCall (handleOf base level range) s table page in
-    cond (leb range 1) (filled (told (image .answer) old) (image .page)) (filled (refused Shape old) page)
+imageFace base level range s table page old = cond (leb range 1) (toldImage old (imageCall (handleOf base level range) s table page)) (filled (refused Shape old) page)
 
 module _ (base level range : ℕ) (s : St) (table : ℕ) (page old : List ℕ) where
   pub image-no-range : 1 < range → filled (slip 1 old) page ≡ imageFace base level range s table page old
@@ -80,4 +85,5 @@ module _ (base level range : ℕ) (s : St) (table : ℕ) (page old : List ℕ) w
   pub image-told : {h : Handle} {o : Outcome} {page′ : List ℕ} {x : Slip} → range ≤ 1 → h ≡ handleOf base level range
       → imaged o page′ ≡ imageCall h s table page → x ≡ told o old → filled x page′ ≡ imageFace base level range s table page old
   unfolding imageFace
-  image-told l e m t = rw (t, le-leb range 1 l, ← e, ← m)
+  image-told {page′ = page′} l e m t =
+      rw (le-leb range 1 l) (ap (λ (y : Slip). filled y page′) t ∙ ap (toldImage old) (m ∙ ap (λ (g : Handle). imageCall g s table page) e))

@@ -1,7 +1,8 @@
 use Rattle.entry.proofs.Tags.{is-outside}
 use mathlib.Core.Path.{sym, _∙_}
 use Rattle.pool.specs.State.{st}
-use Rattle.map.specs.Laws.{sub-some, below-table, below-outside, below-split}
+use Rattle.entry.specs.Sub.{sub-some}
+use Rattle.map.specs.Laws.{below-table, below-outside, below-split}
 use borrow.Author.Needs.{needs}
 use Rattle.map.proofs.range.descend.Statement.{statement}
 use Rattle.map.proofs.range.descend.Tie as tie

@@ -7,9 +7,10 @@ use Rattle.laws.specs.Size.{sizeAt, size-pos, size-low, size-step, size-room, s
 use Rattle.entry.specs.Word.{addressOf, flagsOf, address-below, mask-address}
 use Rattle.pool.specs.State.{st, wordAt}
 use Rattle.pool.specs.Table.{rising}
-use Rattle.map.specs.Rules.{leafWord}
-use Rattle.map.specs.Fit.{Plain, flags-plain, leaf-most, steps-fit}
-use Rattle.map.specs.Laws.{fill-hole, fill-leaf, split-is}
+use Rattle.rules.specs.Rules.{leafWord}
+use Rattle.rules.specs.Fit.{Plain, flags-plain, leaf-most, steps-fit}
+use Rattle.rules.specs.Laws.{fill-hole, fill-leaf}
+use Rattle.map.specs.Laws.{split-is}
 use borrow.Author.Needs.{needs}
 use Rattle.map.proofs.range.split_entry.Statement.{statement}
 use Rattle.map.proofs.range.split_entry.Tie as tie
@@ -17,7 +18,7 @@ use Rattle.map.proofs.range.split_entry.Reads as reads
 use Rattle.map.proofs.range.split_entry.Lts as lts
 use Rattle.address.proofs.granularity_at_level.Reads as granularity-at-level-reads
 use Rattle.entry.proofs.flags.Reads as flags-reads
-use Rattle.map.proofs.rules.leaf_word.Reads as leaf-word-reads
+use Rattle.rules.proofs.leaf_word.Reads as leaf-word-reads
 use Rattle.pool.proofs.table.take_table.Reads as take-table-reads
 
 -- the old word, valid

@@ -1,0 +1,2 @@
+-- Lemmas that several proofs of the count share.
+pub mod Tags

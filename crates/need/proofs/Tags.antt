@@ -1,0 +1,17 @@
+-- A match on `Rule` that takes the other arms: what stands there makes no table. Assumes nothing.
+use mathlib.Core.Logic.{_⊎_, inl, inr}
+use mathlib.Core.Path.{_≡_, refl}
+use native.Mathlib.Omega.{arith}
+use denote.Enum.Declared.{tagOf, declared}
+use Rattle.rules.specs.declared.Rule.{Rule}
+use Rattle.rules.specs.declared.Rule.the-variants.{Write, Keep, Drop, Down}
+use Rattle.need.specs.CountLaws.{Other, other-write, other-keep, other-drop}
+use Rattle.rules.proofs.Rule.{enum}
+
+pub no-down : (r : Rule) → (tagOf (declared enum) r ≡ 0) ⊎ ((tagOf (declared enum) r ≡ 1) ⊎ (tagOf (declared enum) r ≡ 2)) → Other r
+no-down (Write x) e = other-write x refl
+no-down Keep e = other-keep refl
+no-down (Drop x) e = other-drop x refl
+no-down Down (inl e) = absurd (omega arith)
+no-down Down (inr (inl e)) = absurd (omega arith)
+no-down Down (inr (inr e)) = absurd (omega arith)

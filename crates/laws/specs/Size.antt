@@ -8,7 +8,7 @@ use native.Mathlib.Nat.{add-mul, mul-assoc, mul-mod-left, mul-le-mul-right, div-
 use native.Mathlib.Omega.{arith}
 use lib.Bits.{bitAnd, bitOr, and-mask}
 use lib.Dec.{eqb}
-use lib.Pow.{pow-add, pow-pos, pow-mono}
+use lib.Pow.{pow-add, pow-pos, pow-mono, mod-mod-pow}
 use Rattle.laws.specs.Bit.{or-ones, or-aligned, and-not}
 use Rattle.laws.specs.Test.{eq-or}
 
@@ -208,3 +208,14 @@ size-next level x h e = multiple-of 512 (sizeAt (level + 1)) x (ap (λ (a : ℕ)
 -- the offset in an entry: its slot in a table of the next level, and the offset there
 pub size-parts : (level x : ℕ) → level < 3 → x % sizeAt level ≡ x / sizeAt (level + 1) % 512 * sizeAt (level + 1) + x % sizeAt (level + 1)
 size-parts level x h = ap (λ (a : ℕ). x % a) (size-step level h) ∙ mod-parts 512 (sizeAt (level + 1)) x (size-pos (level + 1)) (omega arith)
+
+-- the place in an entry, and in a page
+pub size-and : (level a : ℕ) → bitAnd a (sizeAt level - 1) ≡ a % sizeAt level
+unfolding sizeAt
+size-and level a = and-mask a (12 + 9 * (3 - level))
+
+pub size-offset : (level a : ℕ) → a % sizeAt level % 4096 ≡ a % 4096
+unfolding sizeAt
+size-offset level a =
+    let e : 12 + 9 * (3 - level) ≡ 9 * (3 - level) + 12 = omega arith in
+    ap (λ (k : ℕ). a % 2 ^ k % 4096) e ∙ mod-mod-pow a (9 * (3 - level)) 12

@@ -1,7 +1,7 @@
 -- Refusals 2, 5 and 6 (document 01, "The refusal slip"), and a law for each way through the code. Assumes nothing.
 use mathlib.Core.Path.{_≡_, refl, sym, ap, _∙_}
 use mathlib.Core.Bool.{Bool, true, false, cond, _&&_, _||_}
-use mathlib.Core.Logic.{⊎-elim}
+use mathlib.Core.Logic.{_⊎_, inl, inr, ⊎-elim}
 use Prim.Native.Nat.{ℕ, _+_, _*_, _-_, _^_, _≤_, _<_}
 use native.Mathlib.Omega.{arith}
 use lib.Dec.{leb, ltb}
@@ -12,6 +12,7 @@ use Rattle.region.specs.declared.MemoryRegion.{MemoryRegion}
 use Rattle.pool.specs.declared.Handle.{Handle}
 use Rattle.pool.specs.declared.VaRange.{VaRange}
 use Rattle.pool.specs.declared.VaRange.the-variants.{Lower, Upper}
+use Rattle.pool.specs.declared.Refusal.{Refusal}
 use Rattle.pool.specs.declared.Refusal.the-variants.{RegionBackwards, AddressRange}
 use Rattle.pool.specs.declared.Outcome.{Outcome}
 use Rattle.pool.specs.declared.Outcome.the-variants.{Accepted, Refused}
@@ -89,3 +90,33 @@ verify-forwards h r l = rw (le-ltb (r .end .0) (r .start .0) l)
 
 pub verified-forwards : (h : Handle) (r : MemoryRegion) → verify h r ≡ Accepted → r .start .0 ≤ r .end .0
 verified-forwards h r e = ⊎-elim (λ h. h) (λ l. let z : _≡_ {A = Outcome} (Refused (RegionBackwards r)) Accepted = verify-backwards h r l ∙ e in let q : _≡_ {A = ℕ} 0 1 = cc in absurd (omega arith)) (le-or (r .start .0) (r .end .0))
+
+-- it is no longer than the largest span
+verified-range : (range : VaRange) (level : ℕ) (r : MemoryRegion) → inRange range level r ≡ Accepted → r .end .0 < 2 ^ 64 → r .end .0 - r .start .0 ≤ 2 ^ 48
+unfolding inRange span
+verified-range Lower level r e h = go (le-or (2 ^ 63) (r .start .0)) (le-or (r .end .0) (span level))
+  where
+    never : {x : Refusal} → _≡_ {A = Outcome} (Refused x) Accepted → ⊥
+    never q = let z : _≡_ {A = ℕ} 0 1 = cc in omega arith
+
+    go : (2 ^ 63 ≤ r .start .0) ⊎ (r .start .0 < 2 ^ 63) → (r .end .0 ≤ span level) ⊎ (span level < r .end .0) → r .end .0 - r .start .0 ≤ 2 ^ 48
+    go (inl l) m = absurd (never (rw (le-leb (2 ^ 63) (r .start .0) l) at e))
+    go (inr l) (inr m) = absurd (never (rw (lt-leb (2 ^ 63) (r .start .0) l, lt-ltb (span level) (r .end .0) m) at e))
+    go (inr l) (inl m) = let b = size-high level in omega arith
+verified-range Upper level r e h = go (le-or (2 ^ 64 - span level) (r .start .0))
+  where
+    either : (b : Bool) → cond (b || true) (Refused (AddressRange (r .start))) Accepted ≡ Accepted → ⊥
+    either true q = let z : _≡_ {A = ℕ} 0 1 = cc in omega arith
+    either false q = let z : _≡_ {A = ℕ} 0 1 = cc in omega arith
+
+    go : (2 ^ 64 - span level ≤ r .start .0) ⊎ (r .start .0 < 2 ^ 64 - span level) → r .end .0 - r .start .0 ≤ 2 ^ 48
+    go (inl l) = let b = size-high level in omega arith
+    go (inr l) = absurd (either (ltb (r .start .0) (2 ^ 63)) (rw (lt-ltb (r .start .0) (2 ^ 64 - span level) l) at e))
+
+pub verified-span : (h : Handle) (r : MemoryRegion) → verify h r ≡ Accepted → r .end .0 < 2 ^ 64 → r .end .0 - r .start .0 ≤ 2 ^ 48
+unfolding verify
+verified-span h r e below = go (le-or (r .start .0) (r .end .0))
+  where
+    go : (r .start .0 ≤ r .end .0) ⊎ (r .end .0 < r .start .0) → r .end .0 - r .start .0 ≤ 2 ^ 48
+    go (inl l) = verified-range (h .range) (h .level) r (rw (le-ltb (r .end .0) (r .start .0) l) at e) below
+    go (inr l) = omega arith

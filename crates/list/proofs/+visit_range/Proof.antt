@@ -1,0 +1,209 @@
+use mathlib.Core.Path.{_≡_, refl, sym, ap, ap₂, _∙_}
+use mathlib.Core.List.{List}
+use Prim.Native.Nat.{_+_, _*_, _-_}
+use native.Mathlib.Omega.{arith}
+use lib.ListN.{length}
+use Rattle.laws.specs.Part.{putPart}
+use Rattle.entry.specs.Sub.{sub-found}
+use Rattle.entry.proofs.Tags.{no-table}
+use Rattle.region.specs.Chunks.{chunksOf}
+use Rattle.region.specs.declared.ChunkedIterator.{ChunkedIterator}
+use Rattle.list.specs.Lines.{Line, each, numbers, linesFrom, linesAt, lines-table, lines-other, lines-each, next-chunk, next-none, each-none, count-step, write-step, write-done, written, writeLines, Written}
+use Prim.Native.Nat.{ℕ, _<_}
+use borrow.Fn.Kinds.{In}
+use borrow.Fn.PlainCycle.{Measures, is, falls, and}
+use Rattle.list.proofs.visit_range.Reads as visit-range
+use Rattle.list.proofs.visit_range.Kinds as visit-range-kinds
+use Rattle.list.proofs.+visit_range.Lts-visit_range as visit-range-lts
+use Rattle.entry.proofs.subtable.Reads as subtable-reads
+use Rattle.region.proofs.ChunkedIterator.next.Reads as next-reads
+use Rattle.region.proofs.MemoryRegion.split.Reads as split-reads
+use Rattle.list.proofs.get_entry.Reads as get-entry-reads
+use Rattle.list.proofs.put_line.Reads as put-line-reads
+use Rattle.list.proofs.+visit_range.{statement}
+use Rattle.list.proofs.+visit_range.Tie.{close}
+
+abbrev μ-visit-range : Measures 2 visit-range-kinds.ps ℕ
+μ-visit-range κs a = 3 - a .1 .1 .1 .1 .0
+
+abbrev visit-range-at : ℕ → In 2 visit-range-kinds.ps
+visit-range-at t =
+    and 2 visit-range-kinds.ps (is 2 visit-range-kinds.ps μ-visit-range t) visit-range.Pre
+
+abbrev visit-range-below : ℕ → In 2 visit-range-kinds.ps
+visit-range-below t =
+    and 2 visit-range-kinds.ps (falls 2 visit-range-kinds.ps _<_ μ-visit-range t) visit-range.Pre
+
+abbrev calls : ℕ → visit-range-lts.Claims
+calls t = (split-reads.Asked, split-reads.Learnt, next-reads.Asked, next-reads.Learnt, get-entry-reads.Asked, get-entry-reads.Learnt, subtable-reads.Asked, subtable-reads.Learnt, put-line-reads.Asked, put-line-reads.Learnt, visit-range-below t, visit-range.Post)
+
+abbrev visit-range-Inv-loop : visit-range-lts.InvT-loop
+visit-range-Inv-loop words tables handle k level list₀ from to₀ rest₀ list to rest =
+    (to + 4 * length (each (linesAt (handle .base .0) tables words level k) (chunksOf rest)) ≡ from + 4 * length (each (linesAt (handle .base .0) tables words level k) (chunksOf rest₀)))
+    × (length list ≡ length list₀)
+    × (putPart to (numbers (each (linesAt (handle .base .0) tables words level k) (chunksOf rest))) list
+    ≡ putPart from (numbers (each (linesAt (handle .base .0) tables words level k) (chunksOf rest₀))) list₀)
+
+abbrev visit-range-μ-loop : visit-range-lts.MeasureT-loop
+visit-range-μ-loop words tables handle k level list₀ from to₀ rest₀ list to rest = length (chunksOf rest)
+
+-- all the lines, by the chunks at entry
+all : {t : ℕ} (c : visit-range-lts.After-split (calls t) (visit-range-at t) visit-range.Post visit-range-Inv-loop visit-range-μ-loop) → let a = c .before .before .before .args in
+    linesFrom (a .handle .base .0) (a .tables) (a .words .now) (3 - a .level) (a .k) (a .region) ≡ each (linesAt (a .handle .base .0) (a .tables) (a .words .now) (a .level) (a .k)) (chunksOf (c .split .result))
+all c =
+    let a = c .before .before .before .args in
+    lines-each (a .handle .base .0) (a .tables) (a .words .now) (a .level) (a .k) (a .region) (omega arith)
+    ∙ ap (λ (it : ChunkedIterator). each (linesAt (a .handle .base .0) (a .tables) (a .words .now) (a .level) (a .k)) (chunksOf it)) (sym (c .split .ensures))
+
+-- src/lib.rt:140:9
+visit-range-split-requires : (t : ℕ) → visit-range-lts.Need-split-requires (calls t) (visit-range-at t) visit-range.Post visit-range-Inv-loop visit-range-μ-loop
+visit-range-split-requires t c κs = omega arith
+
+-- src/lib.rt:141:5
+visit-range-loop-holds : (t : ℕ) → visit-range-lts.Need-loop-holds (calls t) (visit-range-at t) visit-range.Post visit-range-Inv-loop visit-range-μ-loop
+visit-range-loop-holds t c = (refl, refl, refl)
+
+-- src/lib.rt:142:13
+visit-range-next-requires : (t : ℕ) → visit-range-lts.Need-next-requires (calls t) (visit-range-at t) visit-range.Post visit-range-Inv-loop visit-range-μ-loop
+visit-range-next-requires t c κs = omega arith
+
+-- src/lib.rt:143:30
+visit-range-enum-known-next : (t : ℕ) → visit-range-lts.Need-enum-known-next (calls t) (visit-range-at t) visit-range.Post visit-range-Inv-loop visit-range-μ-loop
+visit-range-enum-known-next t c = c .match .keys1
+
+-- src/lib.rt:144:13
+visit-range-enum-told : (t : ℕ) → visit-range-lts.Need-enum-told (calls t) (visit-range-at t) visit-range.Post visit-range-Inv-loop visit-range-μ-loop
+visit-range-enum-told t c = omega arith
+
+-- src/lib.rt:144:13
+visit-range-same-length : (t : ℕ) → visit-range-lts.Need-same-length (calls t) (visit-range-at t) visit-range.Post visit-range-Inv-loop visit-range-μ-loop
+visit-range-same-length t c = c .before .before .before .loop .inv .1
+
+-- src/lib.rt:144:13
+visit-range-returns : (t : ℕ) → visit-range-lts.Need-returns (calls t) (visit-range-at t) visit-range.Post visit-range-Inv-loop visit-range-μ-loop
+unfolding writeLines
+visit-range-returns t c =
+    let at = c .before .before .before in
+    let a = at .before .before .before .before .args in
+    let f = linesAt (a .handle .base .0) (a .tables) (a .words .now) (a .level) (a .k) in
+    let none = next-none (at .loop .rest) (c .before .before .next .ensures) (c .enum-told .given .1) in
+    let left = ap length (each-none f none) in
+    let to : at .loop .to ≡ a .from + 4 * length (each f (chunksOf (at .before .split .result))) = omega (arith, at .loop .inv .0) in
+    ap₂ written to (sym (write-done f (at .loop .to) (at .loop .list) none) ∙ at .loop .inv .2)
+    ∙ ap (λ (ls : List Line). writeLines (a .from) ls (a .list .now)) (sym (all (at .before)))
+
+-- src/lib.rt:147:13
+visit-range-get-entry-requires : (t : ℕ) → visit-range-lts.Need-get-entry-requires (calls t) (visit-range-at t) visit-range.Post visit-range-Inv-loop visit-range-μ-loop
+visit-range-get-entry-requires t c κs = omega arith
+
+-- src/lib.rt:148:13
+visit-range-subtable-requires : (t : ℕ) → visit-range-lts.Need-subtable-requires (calls t) (visit-range-at t) visit-range.Post visit-range-Inv-loop visit-range-μ-loop
+visit-range-subtable-requires t c κs = omega arith
+
+-- src/lib.rt:149:24
+visit-range-enum-known-kind : (t : ℕ) → visit-range-lts.Need-enum-known-kind (calls t) (visit-range-at t) visit-range.Post visit-range-Inv-loop visit-range-μ-loop
+visit-range-enum-known-kind t c = c .match2 .keys1
+
+-- src/lib.rt:150:13
+visit-range-put-line-requires : (t : ℕ) → visit-range-lts.Need-put-line-requires (calls t) (visit-range-at t) visit-range.Post visit-range-Inv-loop visit-range-μ-loop
+visit-range-put-line-requires t c κs =
+    let at = c .before .before .before .before .before .before .before .before in
+    let a = at .before .before .before .before .args in
+    let f = linesAt (a .handle .base .0) (a .tables) (a .words .now) (a .level) (a .k) in
+    let cut = next-chunk (at .loop .rest) _ _ (c .before .before .before .before .before .before .before .next .ensures) (c .before .before .before .before .before .next2 .given .1) in
+    let lines = lines-other (a .handle .base .0) (a .tables) (a .words .now) (a .level) (a .k) _ (c .before .before .before .get-entry .ensures) (c .before .before .subtable .ensures) (no-table _ (c .before .match2 .keys2)) in
+    let step = count-step f _ cut lines in
+    let total = ap length (all (at .before)) in
+    omega (arith, at .loop .inv .0)
+
+-- src/lib.rt:151:13
+visit-range-add-to : (t : ℕ) → visit-range-lts.Need-add-to (calls t) (visit-range-at t) visit-range.Post visit-range-Inv-loop visit-range-μ-loop
+visit-range-add-to t c =
+    let at = c .before .before .before .before .before .before .before .before .before .before .before in
+    let a = at .before .before .before .before .args in
+    let f = linesAt (a .handle .base .0) (a .tables) (a .words .now) (a .level) (a .k) in
+    let cut = next-chunk (at .loop .rest) _ _ (c .before .before .before .before .before .before .before .before .before .before .next .ensures) (c .before .before .before .before .before .before .before .before .next2 .given .1) in
+    let lines = lines-other (a .handle .base .0) (a .tables) (a .words .now) (a .level) (a .k) _ (c .before .before .before .before .before .before .get-entry .ensures) (c .before .before .before .before .before .subtable .ensures) (no-table _ (c .before .before .before .before .match2 .keys2)) in
+    let step = count-step f _ cut lines in
+    let total = ap length (all (at .before)) in
+    omega (arith, at .loop .inv .0, at .loop .inv .1, c .before .before .before .before .before .before .before .before .before .before .before .before .before .before .before .good .1 .1 .1 .1 .1 .1 .0 .0)
+
+-- src/lib.rt:141:5
+visit-range-loop-less : (t : ℕ) → visit-range-lts.Need-loop-less (calls t) (visit-range-at t) visit-range.Post visit-range-Inv-loop visit-range-μ-loop
+visit-range-loop-less t c = let cut = ap length (next-chunk (c .before .before .before .before .before .before .before .before .before .before .before .loop .rest) _ _ (c .before .before .before .before .before .before .before .before .before .before .next .ensures) (c .before .before .before .before .before .before .before .before .next2 .given .1)) in omega arith
+
+-- src/lib.rt:141:5
+visit-range-loop-again : (t : ℕ) → visit-range-lts.Need-loop-again (calls t) (visit-range-at t) visit-range.Post visit-range-Inv-loop visit-range-μ-loop
+visit-range-loop-again t c =
+    let at = c .before .before .before .before .before .before .before .before .before .before .before in
+    let a = at .before .before .before .before .args in
+    let f = linesAt (a .handle .base .0) (a .tables) (a .words .now) (a .level) (a .k) in
+    let cut = next-chunk (at .loop .rest) _ _ (c .before .before .before .before .before .before .before .before .before .before .next .ensures) (c .before .before .before .before .before .before .before .before .next2 .given .1) in
+    let lines = lines-other (a .handle .base .0) (a .tables) (a .words .now) (a .level) (a .k) _ (c .before .before .before .before .before .before .get-entry .ensures) (c .before .before .before .before .before .subtable .ensures) (no-table _ (c .before .before .before .before .match2 .keys2)) in
+    let step = count-step f _ cut lines in
+    let total = ap length (all (at .before)) in
+    (omega (arith, at .loop .inv .0), omega arith, write-step f _ cut lines (at .loop .to) (at .loop .list) (omega (arith, at .loop .inv .0)) refl (c .before .before .put-line .ensures) ∙ at .loop .inv .2)
+
+-- src/lib.rt:154:52
+visit-range-add-visit-range : (t : ℕ) → visit-range-lts.Need-add-visit-range (calls t) (visit-range-at t) visit-range.Post visit-range-Inv-loop visit-range-μ-loop
+visit-range-add-visit-range t c =
+    let found = sub-found _ _ _ _ _ (sym (c .before .before .before .subtable .ensures) ∙ c .before .kind .given .1) in
+    omega (arith, found .high)
+
+-- src/lib.rt:154:9
+visit-range-visit-range-requires : (t : ℕ) → visit-range-lts.Need-visit-range-requires (calls t) (visit-range-at t) visit-range.Post visit-range-Inv-loop visit-range-μ-loop
+visit-range-visit-range-requires t c κs =
+    let at = c .before .before .before .before .before .before .before .before .before .before in
+    let a = at .before .before .before .before .args in
+    let f = linesAt (a .handle .base .0) (a .tables) (a .words .now) (a .level) (a .k) in
+    let table = c .before .before .kind .given .1 in
+    let found = sub-found (a .handle .base .0) (a .tables) (a .level) _ _ (sym (c .before .before .before .before .subtable .ensures) ∙ table) in
+    let cut = next-chunk (at .loop .rest) _ _ (c .before .before .before .before .before .before .before .before .before .next .ensures) (c .before .before .before .before .before .before .before .next2 .given .1) in
+    let lines = lines-table (a .handle .base .0) (a .tables) (a .words .now) (a .level) (a .k) _ (c .before .before .before .before .before .get-entry .ensures) (c .before .before .before .before .subtable .ensures) _ table in
+    let step = count-step f _ cut lines in
+    let total = ap length (all (at .before)) in
+    (omega (arith, found .high), (omega arith, found .below, omega (arith, found .high), omega (arith, at .loop .inv .0)))
+
+-- src/lib.rt:141:5
+visit-range-loop-less-2 : (t : ℕ) → visit-range-lts.Need-loop-less-2 (calls t) (visit-range-at t) visit-range.Post visit-range-Inv-loop visit-range-μ-loop
+visit-range-loop-less-2 t c = let cut = ap length (next-chunk (c .before .before .before .before .before .before .before .before .before .before .before .before .before .loop .rest) _ _ (c .before .before .before .before .before .before .before .before .before .before .before .before .next .ensures) (c .before .before .before .before .before .before .before .before .before .before .next2 .given .1)) in omega arith
+
+-- src/lib.rt:141:5
+visit-range-loop-again-2 : (t : ℕ) → visit-range-lts.Need-loop-again-2 (calls t) (visit-range-at t) visit-range.Post visit-range-Inv-loop visit-range-μ-loop
+unfolding writeLines
+visit-range-loop-again-2 t c =
+    let at = c .before .before .before .before .before .before .before .before .before .before .before .before .before in
+    let a = at .before .before .before .before .args in
+    let f = linesAt (a .handle .base .0) (a .tables) (a .words .now) (a .level) (a .k) in
+    let cut = next-chunk (at .loop .rest) _ _ (c .before .before .before .before .before .before .before .before .before .before .before .before .next .ensures) (c .before .before .before .before .before .before .before .before .before .before .next2 .given .1) in
+    let lines = lines-table (a .handle .base .0) (a .tables) (a .words .now) (a .level) (a .k) _ (c .before .before .before .before .before .before .before .before .get-entry .ensures) (c .before .before .before .before .before .before .before .subtable .ensures) _ (c .before .before .before .before .before .kind .given .1) in
+    let step = count-step f _ cut lines in
+    let total = ap length (all (at .before)) in
+    let to = ap (λ (x : Written). x .to) (c .before .before .visit-range .ensures) in
+    let list = ap (λ (x : Written). x .list) (c .before .before .visit-range .ensures) in
+    (omega (arith, at .loop .inv .0), omega arith, write-step f _ cut lines (at .loop .to) (at .loop .list) (omega (arith, at .loop .inv .0)) to list ∙ at .loop .inv .2)
+
+pub +visit-range-spec : {M : Type 1} → statement M
++visit-range-spec = close μ-visit-range λ t. visit-range-lts.spec (calls t)
+    (visit-range-at t)
+    visit-range.Post
+    visit-range-Inv-loop
+    visit-range-μ-loop
+    (visit-range-split-requires t)
+    (visit-range-loop-holds t)
+    (visit-range-next-requires t)
+    (visit-range-enum-known-next t)
+    (visit-range-enum-told t)
+    (visit-range-same-length t)
+    (visit-range-returns t)
+    (visit-range-get-entry-requires t)
+    (visit-range-subtable-requires t)
+    (visit-range-enum-known-kind t)
+    (visit-range-put-line-requires t)
+    (visit-range-add-to t)
+    (visit-range-loop-less t)
+    (visit-range-loop-again t)
+    (visit-range-add-visit-range t)
+    (visit-range-visit-range-requires t)
+    (visit-range-loop-less-2 t)
+    (visit-range-loop-again-2 t)

@@ -1,0 +1,47 @@
+use mathlib.Core.Path.{_≡_, sym, ap, _∙_}
+use Prim.Native.Nat.{ℕ, _+_, _*_}
+use native.Mathlib.Omega.{arith}
+use lib.ListN.{getD}
+use Rattle.walk.specs.Arm.{index, fetch}
+use Rattle.walk.specs.Walk.{slot-below, index-is}
+use Rattle.region.specs.Region.{entryIndex}
+use Rattle.list.proofs.get_entry.Statement.{statement}
+use Rattle.list.proofs.get_entry.Tie as tie
+use Rattle.list.proofs.get_entry.Reads as reads
+use Rattle.list.proofs.get_entry.Lts as lts
+use Rattle.region.proofs.entry_index.Reads as entry-index-reads
+
+-- the Arm walk's index is the slot
+slot : (c : tie.After-entry-index) → let a = c .before .before .args in c .entry-index .result ≡ index (a .level) (a .va .0)
+unfolding entryIndex
+slot c = let a = c .before .before .args in c .entry-index .ensures ∙ sym (index-is (a .level) (a .va .0))
+
+-- src/lib.rt:73:9
+entry-index-requires : tie.Need-entry-index-requires
+entry-index-requires c κs = omega arith
+
+-- src/lib.rt:74:11
+mul-result : tie.Need-mul-result
+mul-result c = omega arith
+
+-- src/lib.rt:74:11
+add-result : tie.Need-add-result
+add-result c = let a = c .before .before .args in let h = slot-below (a .level) (a .va .0) in omega (arith, slot c)
+
+-- src/lib.rt:74:5
+mul-result-2 : tie.Need-mul-result-2
+mul-result-2 c = let a = c .before .before .args in let h = slot-below (a .level) (a .va .0) in omega (arith, slot c)
+
+-- src/lib.rt:74:5
+shared-slice-read-result : tie.Need-shared-slice-read-result
+shared-slice-read-result c = let a = c .before .before .before .args in let h = slot-below (a .level) (a .va .0) in omega (arith, slot (c .before))
+
+-- src/lib.rt:69:1
+returns : tie.Need-returns
+unfolding fetch
+returns c = let a = c .before .before .before .args in ap (λ (i : ℕ). getD (a .words .now) (512 * a .k + i) 0) (slot (c .before))
+
+pub get-entry-spec : {M : Type 1} → statement M
+get-entry-spec =
+    tie.close
+    (tie.spec entry-index-requires mul-result add-result mul-result-2 shared-slice-read-result returns)

@@ -1,0 +1,58 @@
+use mathlib.Core.Path.{ap, ap₂, _∙_}
+use mathlib.Core.List.{List}
+use Prim.Native.Nat.{ℕ, _*_, _-_, _^_, _≤_}
+use native.Mathlib.Omega.{arith}
+use lib.ListN.{length}
+use Rattle.pool.specs.declared.Refusal.the-variants.{Short}
+use Rattle.list.specs.Lines.{linesFrom, lines-bound, Written, writeLines}
+use Rattle.list.specs.declared.Listed.the-variants.{Lines, Refused}
+use Rattle.list.specs.Listing.{listing, list-short, list-written}
+use Rattle.list.proofs.list_lines.Statement.{statement}
+use Rattle.list.proofs.list_lines.Tie as tie
+use Rattle.list.proofs.list_lines.Reads as reads
+use Rattle.list.proofs.list_lines.Lts as lts
+use Rattle.list.proofs.count_lines.Reads as count-lines-reads
+use Rattle.list.proofs.visit_range.Reads as visit-range-reads
+
+-- no more than 2^48 lines
+few : (c : tie.Start) → let a = c .args in length (linesFrom (a .handle .base .0) (a .tables) (a .words .now) (3 - a .handle .level) 0 (a .region)) ≤ 2 ^ 48
+few c =
+    let a = c .args in
+    let b = lines-bound (a .handle .base .0) (a .tables) (a .words .now) (3 - a .handle .level) 0 (a .region) in
+    omega arith
+
+-- src/lib.rt:176:9
+count-lines-requires : tie.Need-count-lines-requires
+count-lines-requires c κs = let f = few (c .before .before) in (omega arith, omega arith, omega arith, omega arith)
+
+-- src/lib.rt:178:47
+mul-t11 : tie.Need-mul-t11
+mul-t11 c = let f = few (c .before .before .before .before) in omega (arith, c .before .count-lines .ensures)
+
+-- src/lib.rt:178:9
+returns : tie.Need-returns
+returns c =
+    let a = c .before .before .before .before .args in
+    ap (λ (x : ℕ). listing (Refused (Short (4 * x))) (a .list .now)) (c .before .count-lines .ensures)
+    ∙ list-short (linesFrom (a .handle .base .0) (a .tables) (a .words .now) (3 - a .handle .level) 0 (a .region)) (a .list .now) (omega (arith, c .before .count-lines .ensures))
+
+-- src/lib.rt:180:5
+visit-range-requires : tie.Need-visit-range-requires
+visit-range-requires c κs = (omega arith, omega arith, omega arith, omega (arith, c .before .before .count-lines .ensures))
+
+-- src/lib.rt:172:1
+same-length : tie.Need-same-length
+same-length c = omega arith
+
+-- src/lib.rt:172:1
+returns-2 : tie.Need-returns-2
+unfolding writeLines
+returns-2 c =
+    let a = c .before .before .before .before .before .before .before .before .args in
+    ap₂ (λ (x : ℕ) (l : List ℕ). listing (Lines x) l) (c .before .before .before .before .before .count-lines .ensures) (ap (λ (x : Written). x .list) (c .before .before .visit-range .ensures))
+    ∙ list-written (linesFrom (a .handle .base .0) (a .tables) (a .words .now) (3 - a .handle .level) 0 (a .region)) (a .list .now) (omega (arith, c .before .before .before .before .before .count-lines .ensures))
+
+pub list-lines-spec : {M : Type 1} → statement M
+list-lines-spec =
+    tie.close
+    (tie.spec count-lines-requires mul-t11 returns visit-range-requires same-length returns-2)

@@ -1,0 +1,2 @@
+-- What proofs of `walk` share.
+pub mod Tags

@@ -1,0 +1,28 @@
+use mathlib.Core.Path.{ap, _∙_}
+use Prim.Native.Nat.{ℕ, _+_, _*_, _/_, _%_}
+use Rattle.walk.specs.Walk.{flags-is}
+use borrow.Author.Needs.{needs}
+use Rattle.walk.proofs.look_up.plain_flags.Statement.{statement}
+use Rattle.walk.proofs.look_up.plain_flags.Tie as tie
+use Rattle.walk.proofs.look_up.plain_flags.Reads as reads
+use Rattle.walk.proofs.look_up.plain_flags.Lts as lts
+use Rattle.entry.proofs.flags.Reads as flags-reads
+
+-- src/look_up.rt:54:9
+flags-requires : tie.Need-flags-requires
+flags-requires c κs = search needs
+
+-- src/look_up.rt:55:5
+mul-result : tie.Need-mul-result
+mul-result c = search needs
+
+-- src/look_up.rt:55:5
+add-result : tie.Need-add-result
+add-result c = search needs
+
+-- src/look_up.rt:51:1
+returns : tie.Need-returns
+returns c = ap (λ (f : ℕ). f / 4 * 4 + f % 2) (c .flags .ensures) ∙ flags-is (c .before .args .word)
+
+pub plain-flags-spec : {M : Type 1} → statement M
+plain-flags-spec = tie.close (tie.spec flags-requires mul-result add-result returns)

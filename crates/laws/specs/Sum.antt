@@ -1,5 +1,5 @@
 -- Sums over the numbers below n: of slots, of tables. Assumes nothing.
-use mathlib.Core.Path.{_≡_, refl, sym, _∙_}
+use mathlib.Core.Path.{_≡_, refl, sym, ap, _∙_}
 use mathlib.Core.Bool.{Bool, true, false}
 use mathlib.Core.Logic.{_⊎_, inl, inr, _≢_}
 use Prim.Native.Nat.{ℕ, zero, suc, _+_, _*_, _≤_, _<_}
@@ -151,3 +151,13 @@ sum-most (suc n) m f h =
     let t = h n (omega arith) in
     let e = suc-mul n m in
     omega arith
+
+-- all summands but one are 0
+pub sum-only : (n : ℕ) (f : ℕ → ℕ) (j : ℕ) → j < n → ((i : ℕ) → i ≢ j → f i ≡ 0) → sum n f ≡ f j
+unfolding sum
+sum-only zero f j h z = absurd (omega arith)
+sum-only (suc n) f j h z = go (λ l. sum-only n f j l z) (eq-or n j)
+  where
+    go : (j < n → sum n f ≡ f j) → (n ≡ j) ⊎ (n ≢ j) → sum n f + f n ≡ f j
+    go ih (inl eq) = let r = sum-none n f (λ i l. z i (omega arith)) in let t = ap f eq in omega arith
+    go ih (inr ne) = let r = ih (omega arith) in let t = z n ne in omega arith

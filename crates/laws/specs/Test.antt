@@ -1,7 +1,7 @@
 -- Tests that compute, and what they say: a case split on a test, `T b` through `&&`, `||` and a choice, "for all below n", "for all words".
 -- Assumes nothing.
 use mathlib.Core.Path.{_≡_, refl, sym, ap, _∙_, subst}
-use mathlib.Core.Bool.{Bool, true, false, cond, _&&_, _||_}
+use mathlib.Core.Bool.{Bool, true, false, cond, _&&_, _||_, true≢false}
 use mathlib.Core.List.{List, [], _∷_}
 use mathlib.Core.Logic.{_⊎_, inl, inr, _≢_}
 use Prim.Native.Nat.{ℕ, zero, suc, _+_, _≤_, _<_}
@@ -50,6 +50,10 @@ and-r false b t = absurd t
 pub and-i : (a b : Bool) → T a → T b → T (a && b)
 and-i true b t u = u
 and-i false b t u = t
+
+pub both : (a b : Bool) → (a && b) ≡ true → (a ≡ true) × (b ≡ true)
+both true b e = (refl, e)
+both false b e = absurd (true≢false (sym e))
 
 pub or-e : (a b : Bool) → T (a || b) → T a ⊎ T b
 or-e true b t = inl tt

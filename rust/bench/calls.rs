@@ -3,10 +3,11 @@
 mod clock;
 mod pool;
 
-use clock::{in_turns, timed};
+use clock::{in_turns, median, timed};
 use oracle::Oracle;
 use pool::{Pool, BASE, FLAGS, LOWER, SLOTS, UNTOUCHED};
 use std::hint::black_box;
+use std::time::Instant;
 
 extern "C" {
     fn ptb_look_up(words: *const u64, words_len: usize, ledger: *const u32, ledger_len: usize, base: u64, level: u64, range: u64, va: u64, answer: *mut u64) -> u64;
@@ -138,17 +139,19 @@ fn kinds() -> Vec<(&'static str, Vec<Map>)> {
     ]
 }
 
-// All 200 maps, each with the check before it that `checks` asks for.
-fn run_ours(pool: &mut Pool, maps: &[Map], checks: bool) -> f64 {
+// The maps one after the other, each timed by itself and with a check of the same pool before it: pairs of check and map. Both come after a check, which brings
+// the pool near. A wait for the processor is an outlier of the 301 times of one map, so the clock on the wall does; it costs both the same.
+fn run_ours(pool: &mut Pool, maps: &[Map]) -> Vec<[f64; 2]> {
     pool.remake();
-    timed(1, || {
-        for one in maps {
-            if checks {
-                assert_eq!(black_box(&*pool).check(), 0);
-            }
-            assert_eq!(map(pool, one).0, 0);
-        }
-    })
+    let each = |one: &Map| {
+        assert_eq!(black_box(&*pool).check(), 0);
+        let start = Instant::now();
+        assert_eq!(black_box(&*pool).check(), 0);
+        let checked = Instant::now();
+        assert_eq!(map(pool, one).0, 0);
+        [checked - start, checked.elapsed()].map(|time| time.as_secs_f64())
+    };
+    maps.iter().map(each).collect()
 }
 
 fn run_theirs(oracle: &mut Oracle, fresh: &Pool, maps: &[Map]) -> f64 {
@@ -160,10 +163,15 @@ fn run_theirs(oracle: &mut Oracle, fresh: &Pool, maps: &[Map]) -> f64 {
     })
 }
 
-fn row(name: &str, count: usize, [theirs, maps, with_checks]: [f64; 3]) {
-    let (each, check) = (1e9 / count as f64, with_checks - maps);
+fn row(name: &str, [theirs, check, maps]: [f64; 3]) {
     let beyond = maps - check;
-    println!("| map, {name} | {:.0} ns | {:.0} ns | {:.0} ns | {:.0} ns | {:.2} | 2 |", theirs * each, check * each, maps * each, beyond * each, beyond / theirs);
+    println!("| {name} | {:.0} ns | {:.0} ns | {:.0} ns | {:.0} ns | {:.2} | 2 |", theirs * 1e9, check * 1e9, maps * 1e9, beyond * 1e9, beyond / theirs);
+}
+
+// The mean over the maps of a median over the runs.
+fn mean_of_medians(runs: &[Vec<[f64; 2]>], which: usize) -> f64 {
+    let maps = runs[0].len();
+    (0..maps).map(|map| median(runs.iter().map(|run| run[map][which]).collect())).sum::<f64>() / maps as f64
 }
 
 fn bench_maps(runs: usize) {
@@ -171,38 +179,45 @@ fn bench_maps(runs: usize) {
     println!("|---|---|---|---|---|---|---|");
     let (fresh, mut pool) = (Pool::make(TABLES, 1), Pool::make(TABLES, 1));
     let mut oracle = oracle_of(&fresh);
-    let mut all = [0.0; 3];
     let kinds = kinds();
+    let mut all = [0.0; 3];
     for (name, maps) in &kinds {
-        run_ours(&mut pool, maps, false);
-        run_theirs(&mut oracle, &fresh, maps);
-        assert!(oracle.words() == pool.words);
-        let times = in_turns(runs, |which| match which {
-            0 => run_theirs(&mut oracle, &fresh, maps),
-            which => run_ours(&mut pool, maps, which == 2),
-        });
-        row(name, maps.len(), times);
+        let (mut ours, mut theirs) = (vec![], vec![]);
+        for run in 0..runs {
+            for half in 0..2 {
+                if (run + half) % 2 == 0 {
+                    theirs.push(run_theirs(&mut oracle, &fresh, maps) / maps.len() as f64);
+                } else {
+                    ours.push(run_ours(&mut pool, maps));
+                }
+            }
+            assert!(oracle.words() == pool.words);
+        }
+        let times = [median(theirs), mean_of_medians(&ours, 0), mean_of_medians(&ours, 1)];
+        row(name, times);
         for (sum, time) in all.iter_mut().zip(times) {
-            *sum += time;
+            *sum += time / kinds.len() as f64;
         }
     }
-    row("all of these", 200 * kinds.len(), all);
+    row("all of these", all);
     println!();
 }
 
 // The count of what it needs must not walk the region.
 fn bench_refused() {
-    let mut pool = Pool::make(8, 0);
-    let all = Map { start: 0, end: 1 << 48, frame: 0, flags: FLAGS, constraints: NO_BLOCK_MAPPINGS };
-    let slots = SLOTS as u64;
-    assert_eq!(map(&mut pool, &all), (9, [slots + slots * slots + slots * slots * slots, 7, !0, !0]));
-    let [check, refused] = in_turns(301, |which| match which {
-        0 => timed(32, || black_box(&pool).check()),
-        _ => timed(32, || map(black_box(&mut pool), &all)),
-    });
     println!("| a map of 2^48 bytes, no blocks, n = 8, root level 0 | ptb_check | ptb_map, refused 9 | ratio | target |");
     println!("|---|---|---|---|---|");
-    println!("| | {:.2} us | {:.2} us | {:.2} | 10 |", check * 1e6, refused * 1e6, refused / check);
+    let all = Map { start: 0, end: 1 << 48, frame: 0, flags: FLAGS, constraints: NO_BLOCK_MAPPINGS };
+    let slots = SLOTS as u64;
+    assert_eq!(map(&mut Pool::make(8, 0), &all), (9, [slots + slots * slots + slots * slots * slots, 7, !0, !0]));
+    for (name, mut pool) in [("the root alone", Pool::make(8, 0)), ("all tables in use, most of blocks", Pool::fill(8, 0))] {
+        assert_eq!(map(&mut pool, &all).0, 9);
+        let [check, refused] = in_turns(301, |which| match which {
+            0 => timed(32, || black_box(&pool).check()),
+            _ => timed(32, || map(black_box(&mut pool), &all)),
+        });
+        println!("| {name} | {:.2} us | {:.2} us | {:.2} | 10 |", check * 1e6, refused * 1e6, refused / check);
+    }
 }
 
 fn main() {

@@ -2,6 +2,7 @@
 mod cases;
 mod face;
 mod model;
+mod outside;
 mod random;
 mod run;
 
@@ -49,6 +50,8 @@ fn main() {
     let mut counts = Counts::default();
     cases::all(&mut counts);
     println!("bench cases: as document 01 says");
+    outside::all();
+    println!("outside the domain: as docs/DIFFERENCES.md says");
     println!("seed {seed}");
     let mut random = Random::new(seed);
     let mut counts = Counts::default();

@@ -140,6 +140,8 @@ pub struct Pool {
     pub lost_fill: bool,
     // Not written by any hand but the model's since it was made, so that it need not be looked through again.
     pub trusted: bool,
+    // Chunks that the maps put down, by the rule that fits.
+    pub by_rule: [u64; 5],
 }
 
 fn round_down(address: u64) -> u64 {
@@ -176,7 +178,7 @@ impl Pool {
     pub fn make(n: usize, handle: Handle) -> Pool {
         let mut ledger = vec![0; n];
         ledger[0] = 4 + handle.level as u32;
-        Pool { words: vec![0; SLOTS * n], ledger, handle, lost_fill: false, trusted: true }
+        Pool { words: vec![0; SLOTS * n], ledger, handle, lost_fill: false, trusted: true, by_rule: [0; 5] }
     }
 
     pub fn used(&self) -> u64 {
@@ -319,15 +321,20 @@ impl Pool {
             let place = at(table, slot_of(level, first));
             let word = self.words[place];
             if level == 3 {
+                self.by_rule[0] += 1;
                 self.words[place] = if map.valid() { frame + map.flags + BIT_1 } else { map.flags };
             } else if map.already(level, word, first, frame) {
+                self.by_rule[1] += 1;
             } else if map.block(level, word, first, last, frame) {
+                self.by_rule[2] += 1;
                 self.words[place] = if map.valid() { frame + map.flags } else { map.flags };
             } else if map.unhang(level, word, first, last) {
+                self.by_rule[3] += 1;
                 let below = self.table_of(word).unwrap();
                 self.words[place] = map.flags;
                 self.free(below, level + 1);
             } else {
+                self.by_rule[4] += 1;
                 let below = if is_table(level, word) { self.table_of(word).unwrap() } else { self.split(place, level, last) };
                 self.put(map, below, level + 1, first, last, frame);
             }

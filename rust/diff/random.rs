@@ -177,7 +177,20 @@ impl Maker<'_> {
         }
     }
 
+    // Whole entries around an earlier map are taken off: rule 4, where there is a table.
+    fn unmap(&mut self, near: u64) -> Map {
+        let entry = size(self.random.between(self.handle.level, 2));
+        let start = near / entry * entry;
+        let end = start.wrapping_add(entry * self.random.between(1, 2));
+        let flags = self.random.pick(&[0, 0, 0x400, 1 << 55]);
+        Map { start, end, frame: self.random.pick(&[0, start % (1 << 47), 4096]), flags, constraints: 0 }
+    }
+
     fn map(&mut self) -> Map {
+        if self.handle.level < 3 && !self.earlier.is_empty() && self.random.one_in(10) {
+            let (near, ..) = self.earlier[self.random.below(self.earlier.len() as u64) as usize];
+            return self.unmap(near);
+        }
         let (start, mut end) = self.region();
         let rounded = start / 4096 * 4096;
         let constraints = self.random.pick(&[0, 0, 0, 0, 0, 0, 1, 1, 2, 3]);

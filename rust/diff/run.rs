@@ -16,6 +16,7 @@ pub struct Counts {
     oracle: [u64; 5],
     lost_fills: u64,
     planted: u64,
+    by_rule: [u64; 5],
     words: u64,
     pub differences: u64,
 }
@@ -35,6 +36,7 @@ impl Counts {
                 println!("| {}{name} | {} | {} | {} | {compared} |", KINDS[kind], row.iter().sum::<u64>(), row[0], refused.join(", "));
             }
         }
+        println!("chunks of accepted maps, by rules 1 to 5: {:?}", self.by_rule);
         println!("words written between calls by another hand, the pool still sound: {}", self.planted);
         println!("accepted calls that split an entry which ends at 2^64 and is not zero (the oracle loses its fill; compared with the model alone): {}", self.lost_fills);
         println!("words compared with the oracle's: {}", self.words);
@@ -132,6 +134,9 @@ impl Run {
         }
         let expected = on_both(&mut self.ours, &mut self.model, call)?;
         counts.answers[kind(call)][expected.0 as usize] += 1;
+        for (sum, chunks) in counts.by_rule.iter_mut().zip(std::mem::take(&mut self.model.by_rule)) {
+            *sum += chunks;
+        }
         same("ledger against the words", &self.ours.ledger, &self.ours.ledger_of_words()?)?;
         same("check", face::check(&self.ours), answer(0, &[]))?;
         self.ask_oracle(call, expected, counts)?;

@@ -68,8 +68,8 @@ pub enum Call {
 #[derive(Clone, Copy, Debug)]
 pub struct Damage {
     pub ledger: bool,
-    // Only words that are not zero.
-    pub marked: bool,
+    // The word is a table's address, if there is one.
+    pub link: bool,
     pub place: u64,
     pub flip: u64,
 }
@@ -262,7 +262,7 @@ impl Maker<'_> {
         };
         let damage = self.random.one_in(16).then(|| Damage {
             ledger: self.random.one_in(3),
-            marked: self.random.one_in(2),
+            link: self.random.one_in(2),
             place: self.random.next(),
             flip: self.random.pick(&[1, 2, 3, 1 << 2, 1 << 12, 1 << 16, 1 << 20, 1 << 21, 1 << 29, 1 << 47, 1 << 48, 1 << 63]),
         });

@@ -195,8 +195,8 @@ impl Run {
             let place = damage.place as usize % model.ledger.len();
             model.ledger[place] ^= damage.flip as u32 | (damage.flip >> 32) as u32;
         } else {
-            let marked: Vec<usize> = (0..model.words.len()).filter(|&place| damage.marked && model.words[place] != 0).collect();
-            let place = if marked.is_empty() { damage.place as usize % model.words.len() } else { marked[damage.place as usize % marked.len()] };
+            let links: Vec<usize> = model.ledger.iter().filter(|&&number| damage.link && number >= 8).map(|&number| number as usize / 8 - 1).collect();
+            let place = if links.is_empty() { damage.place as usize % model.words.len() } else { links[damage.place as usize % links.len()] };
             model.words[place] ^= damage.flip;
         }
         let mut ours = model.clone();

@@ -43,6 +43,13 @@ extern "C" {
 #define PTB_LOWER 0
 #define PTB_UPPER 1
 
+#define PTB_HOLE 0
+#define PTB_BLOCK 1
+#define PTB_PAGE 2
+
+#define PTB_NO_BLOCK_MAPPINGS 1
+#define PTB_NO_CONTIGUOUS_HINT 2
+
 /*
  * Makes a pool: zeroes all words and the ledger, then enters the root as table 0.
  * Refusal 1. Accepted: no value.
@@ -57,6 +64,35 @@ uint64_t ptb_make(uint64_t *words, size_t words_len, uint32_t *ledger, size_t le
  */
 uint64_t ptb_check(const uint64_t *words, size_t words_len, const uint32_t *ledger, size_t ledger_len,
                    uint64_t base, uint64_t level, uint64_t range, uint64_t answer[4]);
+
+/*
+ * Looks an address up: the Arm walk, on any words. The handle's span is tested first; a word on the path that refers to a table
+ * outside the pool is refusal 8.
+ * Refusals 1, 6, 8. Accepted: answer[0] kind (PTB_HOLE, PTB_BLOCK, PTB_PAGE), answer[1] level, answer[2] flags without bit 1,
+ * answer[3] the frame of the address's page (0 for a hole).
+ */
+uint64_t ptb_look_up(const uint64_t *words, size_t words_len, const uint32_t *ledger, size_t ledger_len,
+                     uint64_t base, uint64_t level, uint64_t range, uint64_t va, uint64_t answer[4]);
+
+/*
+ * Lists the entries that start..end meets, ascending, four numbers a line: start, end, word, level. What lies in `lines` after
+ * the last line stays.
+ * Refusals 1, 2, 5, 6, 8, 11 (lines_len is below four numbers a line; answer[0] is what is needed). Accepted: answer[0] the
+ * count of lines.
+ */
+uint64_t ptb_list(const uint64_t *words, size_t words_len, const uint32_t *ledger, size_t ledger_len,
+                  uint64_t base, uint64_t level, uint64_t range, uint64_t start, uint64_t end,
+                  uint64_t *lines, size_t lines_len, uint64_t answer[4]);
+
+/*
+ * Puts a map down: each page of start..end (start rounded down, end up) to its frame, ascending, with these flags. Without
+ * bit 0 of the flags the pages become holes with these flags. Constraints are PTB_NO_BLOCK_MAPPINGS and
+ * PTB_NO_CONTIGUOUS_HINT (which changes nothing); other bits are ignored.
+ * Refusals 1 to 9. Accepted: answer[0] the tables in use afterwards.
+ */
+uint64_t ptb_map(uint64_t *words, size_t words_len, uint32_t *ledger, size_t ledger_len,
+                 uint64_t base, uint64_t level, uint64_t range, uint64_t start, uint64_t end, uint64_t frame,
+                 uint64_t flags, uint64_t constraints, uint64_t answer[4]);
 
 /*
  * Writes one table's 512 words, little-endian, into 4096 bytes. It does not ask that the pool is sound.

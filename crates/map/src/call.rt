@@ -46,10 +46,8 @@ pub fn map(
     flags: u64,
     constraints: Constraints,
 ) -> Counted
-    ensures {
-        λ r. ⌜ out r (st (now (words .exit)) (now (ledger .exit)))
-        ≡ mapCall handle (start .0) (end .0) (frame .0) flags (constraints .0) (st (now (words .entry)) (now (ledger .entry))) ⌝
-    }
+    ensures { λ r. ⌜ out r (st (now (words .exit)) (now (ledger .exit)))
+        ≡ mapCall handle (start .0) (end .0) (frame .0) flags (constraints .0) (st (now (words .entry)) (now (ledger .entry))) ⌝ }
 {
     if !shape::is_shaped(words, ledger, handle) {
         return Counted::Refused(Refusal::Shape);

@@ -18,7 +18,14 @@ ghost use Rattle.map.specs.Put.{splitEntry, below, dropEntry, mapRange};
 ghost use Rattle.rules.specs.Fit.{Fit};
 
 // A new table for an entry that is no table, filled with the old entry.
-pub fn split_entry(words: &mut [u64], ledger: &mut [u32], handle: Handle, level: usize, k: usize, i: usize) -> Found
+pub fn split_entry(
+    words: &mut [u64],
+    ledger: &mut [u32],
+    handle: Handle,
+    level: usize,
+    k: usize,
+    i: usize,
+) -> Found
     requires { ⌜ Shaped handle (st (now words) (now ledger)) × (level < 3) × (k < length (now ledger)) × (i < 512) × (getD (now words) (512 * k + i) 0 % 4 ≡ 3 → ⊥) ⌝ }
     ensures { λ r. ⌜ taken r (st (now (words .exit)) (now (ledger .exit))) ≡ splitEntry handle level k i (st (now (words .entry)) (now (ledger .entry))) ⌝ }
 {
@@ -34,7 +41,14 @@ pub fn split_entry(words: &mut [u64], ledger: &mut [u32], handle: Handle, level:
 }
 
 // The table below a slot: the one that is there, or a new one.
-fn descend(words: &mut [u64], ledger: &mut [u32], handle: Handle, level: usize, k: usize, i: usize) -> Found
+fn descend(
+    words: &mut [u64],
+    ledger: &mut [u32],
+    handle: Handle,
+    level: usize,
+    k: usize,
+    i: usize,
+) -> Found
     requires { ⌜ Shaped handle (st (now words) (now ledger)) × (level < 3) × (k < length (now ledger)) × (i < 512) ⌝ }
     ensures { λ r. ⌜ taken r (st (now (words .exit)) (now (ledger .exit))) ≡ below handle level k i (st (now (words .entry)) (now (ledger .entry))) ⌝ }
 {
@@ -62,7 +76,14 @@ fn drop_entry(words: &mut [u64], ledger: &mut [u32], handle: Handle, level: usiz
 }
 
 // Every chunk of the map in table k, ascending.
-pub fn map_range(words: &mut [u64], ledger: &mut [u32], handle: Handle, k: usize, level: usize, map: Map)
+pub fn map_range(
+    words: &mut [u64],
+    ledger: &mut [u32],
+    handle: Handle,
+    k: usize,
+    level: usize,
+    map: Map,
+)
     requires { ⌜ Shaped handle (st (now words) (now ledger)) × (k < length (now ledger)) × (level ≤ 3) × Fit map ⌝ }
     ensures { λ _. ⌜ st (now (words .exit)) (now (ledger .exit)) ≡ mapRange (3 - level) handle k map (st (now (words .entry)) (now (ledger .entry))) ⌝ }
 {

@@ -152,7 +152,7 @@ rest-inside : (level : ℕ) (m : Map) (x : ℕ) → startOf m < x → startOf m 
 unfolding restAt
 rest-inside level m x h z l a =
     let same : (frameOf m + (x - startOf m)) % sizeAt level ≡ frameOf m % sizeAt level
-            = add-multiple (frameOf m) (x - startOf m) (sizeAt level) (between-multiples (startOf m) x (sizeAt level) (omega arith) z a) in
+    = add-multiple (frameOf m) (x - startOf m) (sizeAt level) (between-multiples (startOf m) x (sizeAt level) (omega arith) z a) in
     rw same (go (m .blocks && eqb (frameOf m % sizeAt level) 0))
   where
     go : (b : Bool) → choose b level (startOf m) (endOf m) ≡ choose b level (startOf m) x + choose b level x (endOf m)
@@ -226,7 +226,7 @@ leaf-levels (suc left) m w h =
     let a = leaf-levels left (firstChunk (3 - left) m) (childWord (3 - suc left) w (startOf m)) (f .0) in
     let b = rests-most left (afterFirst (3 - left) m) in
     let t : left * (stop - startOf m) + left * (endOf m - stop) ≡ left * (endOf m - startOf m)
-            = sym (mul-add left (stop - startOf m) (endOf m - stop)) ∙ ap (λ (x : ℕ). left * x) (omega (arith, f .0, f .1)) in
+    = sym (mul-add left (stop - startOf m) (endOf m - stop)) ∙ ap (λ (x : ℕ). left * x) (omega (arith, f .0, f .1)) in
     let d = down-most (ruleOf (3 - suc left) m w) (1 + closedLeaf left (firstChunk (3 - left) m) (childWord (3 - suc left) w (startOf m)) + rests left (afterFirst (3 - left) m)) in
     let c = suc-mul left (endOf m - startOf m) in
     omega arith
@@ -257,7 +257,7 @@ sum-levels level q f each m = go (met level (startOf m) (endOf m)) m refl
             let a = each (firstChunk level m) (s .0) in
             let b = ih (omega arith) in
             let t : q * (stop - startOf m) + q * (endOf m - stop) ≡ q * (endOf m - startOf m)
-                    = sym (mul-add q (stop - startOf m) (endOf m - stop)) ∙ ap (λ (x : ℕ). q * x) (omega (arith, s .0, s .1)) in
+            = sym (mul-add q (stop - startOf m) (endOf m - stop)) ∙ ap (λ (x : ℕ). q * x) (omega (arith, s .0, s .1)) in
             let e = sum-first level f m h in
             omega arith
 
@@ -283,5 +283,5 @@ closed-levels zero h s k m = omega arith
 closed-levels (suc left) h s k m =
     sum-levels (3 - suc left) (suc left) (λ c. needChunk (λ j n. needTable closedLeaf left h s j n) (closedLeaf (suc left)) h s (3 - suc left) k c)
     (λ c l.
-        chunk-levels (suc left) (λ j n. needTable closedLeaf left h s j n) (closedLeaf (suc left)) h s (3 - suc left) k c
-        (λ j. let r = closed-levels left h s j c in let t = suc-mul left (endOf c - startOf c) in omega arith) (λ w. leaf-levels (suc left) c w l)) m
+    chunk-levels (suc left) (λ j n. needTable closedLeaf left h s j n) (closedLeaf (suc left)) h s (3 - suc left) k c
+    (λ j. let r = closed-levels left h s j c in let t = suc-mul left (endOf c - startOf c) in omega arith) (λ w. leaf-levels (suc left) c w l)) m

@@ -86,11 +86,11 @@ missed-rests (suc left) m w l one z x = go (blocks-or (3 - suc left) m) (λ c v 
         → neededLeaf (suc left) m w ≡ rests (suc left) m
     go (inl b) ih =
         rule-whole (3 - suc left) m w _ (omega arith) (missed-rule2 (3 - suc left) m w (x (omega arith)))
-            (fits-block (3 - suc left) m w (omega arith) (missed-plain (x (omega arith))) z b)
+        (fits-block (3 - suc left) m w (omega arith) (missed-plain (x (omega arith))) z b)
         ∙ sym (rests-blocks (suc left) m (omega arith) (b .allowed) (b .frame) (b .ends))
     go (inr n) ih =
         let below = sum-rests left (λ c. neededLeaf left c (childWord (3 - suc left) w (startOf c))) m (omega arith) (inl (left-next left (startOf m) (omega arith) z))
-                (λ c p o a. ih c (childWord (3 - suc left) w (startOf c)) o a (part c p)) in
+        (λ c p o a. ih c (childWord (3 - suc left) w (startOf c)) o a (part c p)) in
         rule-down (3 - suc left) m w _ (omega arith) (missed-rule2 (3 - suc left) m w (x (omega arith))) (barred-block (3 - suc left) m w n) (missed-plain (x (omega arith)))
         ∙ ap₂ (λ (a b : ℕ). a + b) (sym (rest-one (3 - suc left) m (one .some) (one .within) n)) below
 
@@ -134,10 +134,10 @@ closed-leaf (suc left) m w l one law =
         let part : Part m c = record { from = omega (arith, p .from, fit .0); below = p .below; frame = omega (arith, p .frame, p .from, fit .0); flags = p .flags } in
         missed-rests left c (childWord (3 - suc left) w (startOf c)) (omega arith) o z
         (λ pos. subst (λ (n : ℕ). Missed n c (childWord (3 - suc left) w (startOf c))) next
-            (later-missed (3 - suc left) m c w (omega arith) one (law (omega arith)) misses part (omega (arith, p .from, fit .0)) (ap (λ (n : ℕ). startOf c % sizeAt n) next ∙ z)))
+        (later-missed (3 - suc left) m c w (omega arith) one (law (omega arith)) misses part (omega (arith, p .from, fit .0)) (ap (λ (n : ℕ). startOf c % sizeAt n) next ∙ z)))
 
     go : ((0 < left → Lawful (3 - left) (childWord (3 - suc left) w (startOf m)))
-            → closedLeaf left (firstChunk (3 - left) m) (childWord (3 - suc left) w (startOf m)) ≡ neededLeaf left (firstChunk (3 - left) m) (childWord (3 - suc left) w (startOf m)))
+        → closedLeaf left (firstChunk (3 - left) m) (childWord (3 - suc left) w (startOf m)) ≡ neededLeaf left (firstChunk (3 - left) m) (childWord (3 - suc left) w (startOf m)))
         → closedLeaf (suc left) m w ≡ neededLeaf (suc left) m w
     go ih = byBool (rule2 (3 - suc left) m w)
         (λ fits. rule-none (3 - suc left) m w _ (omega arith) fits ∙ sym (rule-none (3 - suc left) m w _ (omega arith) fits))
@@ -171,7 +171,7 @@ sum-same level f g m each =
 chunk-same : (rec rec′ : ℕ → Map → ℕ) (leaf leaf′ : Map → ℕ → ℕ) (h : Handle) (s : St) (level k : ℕ) (c : Map)
     → ((j : ℕ) → subOf (h .base .0) (tables s) level (wordAt s k (entryIndex level (startOf c))) ≡ Table j → rec j c ≡ rec′ j c)
     → (subOf (h .base .0) (tables s) level (wordAt s k (entryIndex level (startOf c))) ≡ Leaf
-        → leaf c (wordAt s k (entryIndex level (startOf c))) ≡ leaf′ c (wordAt s k (entryIndex level (startOf c))))
+    → leaf c (wordAt s k (entryIndex level (startOf c))) ≡ leaf′ c (wordAt s k (entryIndex level (startOf c))))
     → needChunk rec leaf h s level k c ≡ needChunk rec′ leaf′ h s level k c
 unfolding needChunk needBelow
 chunk-same rec rec′ leaf leaf′ h s level k c table plain = ap (ifDown (ruleOf level c w)) (go (subOf (h .base .0) (tables s) level w) refl)
@@ -189,8 +189,8 @@ unfolding closed needed needTable LawfulTable
 closed-table zero h s k m l law = refl
 closed-table (suc left) h s k m l law =
     sum-same (3 - suc left) (λ c. needChunk (λ j n. needTable closedLeaf left h s j n) (closedLeaf (suc left)) h s (3 - suc left) k c)
-        (λ c. needChunk (λ j n. needTable neededLeaf left h s j n) (neededLeaf (suc left)) h s (3 - suc left) k c) m
+    (λ c. needChunk (λ j n. needTable neededLeaf left h s j n) (neededLeaf (suc left)) h s (3 - suc left) k c) m
     (λ c one.
-        let slot = law (entryIndex (3 - suc left) (startOf c)) (slot-below (3 - suc left) (startOf c)) in
-        chunk-same (λ j n. needTable closedLeaf left h s j n) (λ j n. needTable neededLeaf left h s j n) (closedLeaf (suc left)) (neededLeaf (suc left)) h s (3 - suc left) k c
-            (λ j e. closed-table left h s j c (omega arith) (slot .1 j e)) (λ e. closed-leaf (suc left) c _ l one (λ pos. slot .0 e)))
+    let slot = law (entryIndex (3 - suc left) (startOf c)) (slot-below (3 - suc left) (startOf c)) in
+    chunk-same (λ j n. needTable closedLeaf left h s j n) (λ j n. needTable neededLeaf left h s j n) (closedLeaf (suc left)) (neededLeaf (suc left)) h s (3 - suc left) k c
+    (λ j e. closed-table left h s j c (omega arith) (slot .1 j e)) (λ e. closed-leaf (suc left) c _ l one (λ pos. slot .0 e)))

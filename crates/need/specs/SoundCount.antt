@@ -56,7 +56,7 @@ module _ (h : Handle) (s : St) (shape : Shaped h s) (sound : T (soundb h s)) whe
   unfolding soundb
   slot-holds k i l b =
       let t = from-to 0 (s .words) (λ x w. slotb h s (x / 512) (x % 512) w)
-              (and-r (allBelow (tables s) (tableb h s)) (allFrom 0 (s .words) (λ x w. slotb h s (x / 512) (x % 512) w)) sound) (512 * k + i) (omega (arith, shape .sized)) in
+      (and-r (allBelow (tables s) (tableb h s)) (allFrom 0 (s .words) (λ x w. slotb h s (x / 512) (x % 512) w)) sound) (512 * k + i) (omega (arith, shape .sized)) in
       let p : (0 + (512 * k + i)) / 512 ≡ k = omega arith in
       let q : (0 + (512 * k + i)) % 512 ≡ i = omega arith in
       subst (λ (y : ℕ). T (slotb h s y i (wordAt s k i))) p (subst (λ (y : ℕ). T (slotb h s ((0 + (512 * k + i)) / 512) y (wordAt s k i))) q t)
@@ -74,7 +74,7 @@ module _ (h : Handle) (s : St) (shape : Shaped h s) (sound : T (soundb h s)) whe
   leaf-lawful level k i l u b plain =
       let w = wordAt s k i in
       let t = cond-false (refersb (numberAt s k) w) (linkb (h .base .0) s k i w) (leafb (flagSet h) (levelOf (numberAt s k)) w)
-              (λ r. plain (eqb→eq (w % 4) 3 (and-r (ltb (levelOf (numberAt s k)) 3) (eqb (w % 4) 3) r))) (used-slot level k i u b) in
+      (λ r. plain (eqb→eq (w % 4) 3 (and-r (ltb (levelOf (numberAt s k)) 3) (eqb (w % 4) 3) r))) (used-slot level k i u b) in
       fits-lawful level w l (subst (λ (n : ℕ). T (fits n w)) (u .at) (and-r (only (flagSet h) (plainFlags w)) (fits (levelOf (numberAt s k)) w) t))
 
   -- a table word names a table whose number names its slot
@@ -91,7 +91,7 @@ module _ (h : Handle) (s : St) (shape : Shaped h s) (sound : T (soundb h s)) whe
       let y = numberAt s k in
       let high : T (ltb (levelOf y) 3) = lt→ltb (levelOf y) 3 (omega (arith, u .at, f .high)) in
       let t = cond-true (refersb y w) (linkb (h .base .0) s k i w) (leafb (flagSet h) (levelOf y) w)
-              (and-i (ltb (levelOf y) 3) (eqb (w % 4) 3) high (eq→eqb (w % 4) 3 (f .low))) (used-slot level k i u b) in
+      (and-i (ltb (levelOf y) 3) (eqb (w % 4) 3) high (eq→eqb (w % 4) 3 (f .low))) (used-slot level k i u b) in
       go ((addressOf w - h .base .0) / 4096) (f .place) t
     where
       go : (c : ℕ) → c ≡ j

@@ -127,7 +127,14 @@ fn count_leaf(level: usize, map: Map, word: u64) -> u64
 }
 
 // The new tables for every chunk of the map in table k: only entries that exist are visited.
-pub fn count_needed(words: &[u64], ledger: &[u32], handle: Handle, k: usize, level: usize, map: Map) -> u64
+pub fn count_needed(
+    words: &[u64],
+    ledger: &[u32],
+    handle: Handle,
+    k: usize,
+    level: usize,
+    map: Map,
+) -> u64
     requires { ⌜ (length (now words) ≡ 512 * length (now ledger)) × (k < length (now ledger)) × (level ≤ 3) × Fit map ⌝ }
     ensures { λ r. ⌜ r ≡ closed (3 - level) handle (st (now (words .entry)) (now (ledger .entry))) k map ⌝ }
 {

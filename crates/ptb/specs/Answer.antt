@@ -8,6 +8,13 @@ use Rattle.pool.specs.Refuse.{number, carried}
 use Rattle.pool.specs.declared.Refusal.{Refusal}
 use Rattle.pool.specs.declared.Outcome.{Outcome}
 use Rattle.pool.specs.declared.Outcome.the-variants.{Accepted, Refused}
+use Rattle.pool.specs.declared.Counted.{Counted}
+use Rattle.pool.specs.declared.Counted.the-variants as counted
+use Rattle.walk.specs.LookUp.{values}
+use Rattle.walk.specs.declared.Looked.{Looked}
+use Rattle.walk.specs.declared.Looked.the-variants as looked
+use Rattle.list.specs.declared.Listed.{Listed}
+use Rattle.list.specs.declared.Listed.the-variants as listed
 
 -- the number that is returned, and `answer` as the call leaves it
 pub record Slip : Type 0 where
@@ -36,6 +43,23 @@ unfoldable pub told : Outcome → List ℕ → Slip
 told Accepted old = accepted [] old
 told (Refused r) old = refused r old
 
+-- a call that counts the tables in use
+unfoldable pub toldCounted : Counted → List ℕ → Slip
+toldCounted (counted.Tables tables) old = accepted (tables ∷ []) old
+toldCounted (counted.Refused r) old = refused r old
+
+-- look up: the values of its answer
+unfoldable pub toldLooked : Looked → List ℕ → Slip
+toldLooked (looked.Hole level flags) old = accepted (values (looked.Hole level flags)) old
+toldLooked (looked.Block level flags frame) old = accepted (values (looked.Block level flags frame)) old
+toldLooked (looked.Page level flags frame) old = accepted (values (looked.Page level flags frame)) old
+toldLooked (looked.Refused r) old = refused r old
+
+-- list: the count of lines
+unfoldable pub toldListed : Listed → List ℕ → Slip
+toldListed (listed.Lines lines) old = accepted (lines ∷ []) old
+toldListed (listed.Refused r) old = refused r old
+
 -- ---- laws: values stored one by one
 
 pub over-one : (old : List ℕ) (a : ℕ) → set old 0 a ≡ over (a ∷ []) old
@@ -48,3 +72,11 @@ unfolding over
 over-two [] a b = refl
 over-two (x ∷ []) a b = refl
 over-two (x ∷ y ∷ old) a b = refl
+
+pub over-four : (old : List ℕ) (a b c d : ℕ) → set (set (set (set old 0 a) 1 b) 2 c) 3 d ≡ over (a ∷ b ∷ c ∷ d ∷ []) old
+unfolding over
+over-four [] a b c d = refl
+over-four (x ∷ []) a b c d = refl
+over-four (x ∷ y ∷ []) a b c d = refl
+over-four (x ∷ y ∷ z ∷ []) a b c d = refl
+over-four (x ∷ y ∷ z ∷ w ∷ old) a b c d = refl

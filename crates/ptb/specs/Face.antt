@@ -14,8 +14,14 @@ use Rattle.pool.specs.declared.VaRange.{VaRange}
 use Rattle.pool.specs.declared.VaRange.the-variants.{Lower, Upper}
 use Rattle.pool.specs.declared.Refusal.the-variants.{Shape}
 use Rattle.pool.specs.declared.Outcome.{Outcome}
+use Rattle.pool.specs.declared.Counted.{Counted}
 use Rattle.checker.specs.Check.{checkCall}
-use Rattle.ptb.specs.Answer.{Slip, slip, over, refused, told}
+use Rattle.walk.specs.LookUp.{lookUpCall}
+use Rattle.walk.specs.declared.Looked.{Looked}
+use Rattle.list.specs.Listing.{listCall, Listing, listing}
+use Rattle.list.specs.declared.Listed.{Listed}
+use Rattle.map.specs.Call.{mapCall}
+use Rattle.ptb.specs.Answer.{Slip, slip, over, refused, told, toldCounted, toldLooked, toldListed}
 
 -- 0 is lower, 1 upper; a call refuses any other range first
 unfoldable pub rangeOf : ℕ → VaRange
@@ -60,7 +66,22 @@ module _ (base level range : ℕ) (s : St) (old : List ℕ) where
   unfolding checkFace
   check-told l e m t = rw (le-leb range 1 l) (t ∙ ap (λ (o : Outcome). told o old) (m ∙ ap (λ (g : Handle). checkCall g s) e))
 
--- ---- page image
+-- ---- look up
+
+unfoldable pub lookUpFace : ℕ → ℕ → ℕ → St → ℕ → List ℕ → Slip
+lookUpFace base level range s va old = cond (leb range 1) (toldLooked (lookUpCall (handleOf base level range) s va) old) (refused Shape old)
+
+module _ (base level range : ℕ) (s : St) (va : ℕ) (old : List ℕ) where
+  pub look-up-no-range : 1 < range → slip 1 old ≡ lookUpFace base level range s va old
+  unfolding lookUpFace refused over
+  look-up-no-range h = rw (lt-leb range 1 h)
+
+  pub look-up-told : {h : Handle} {o : Looked} {x : Slip} → range ≤ 1 → h ≡ handleOf base level range → o ≡ lookUpCall h s va → x ≡ toldLooked o old
+      → x ≡ lookUpFace base level range s va old
+  unfolding lookUpFace
+  look-up-told l e m t = rw (le-leb range 1 l) (t ∙ ap (λ (o : Looked). toldLooked o old) (m ∙ ap (λ (g : Handle). lookUpCall g s va) e))
+
+-- ---- list
 
 -- an answer and the buffer that it leaves
 pub record Filled : Type 0 where
@@ -69,6 +90,48 @@ pub record Filled : Type 0 where
 
 abbrev pub filled : Slip → List ℕ → Filled
 filled a b = record { answer = a; buffer = b }
+
+-- the answer told, and the lines that it leaves
+abbrev pub toldListing : List ℕ → Listing → Filled
+toldListing old l = filled (toldListed (l .answer) old) (l .list)
+
+unfoldable pub listFace : ℕ → ℕ → ℕ → St → ℕ → ℕ → List ℕ → List ℕ → Filled
+listFace base level range s start end lines old = cond (leb range 1) (toldListing old (listCall (handleOf base level range) s start end lines)) (filled (refused Shape old) lines)
+
+module _ (base level range : ℕ) (s : St) (start end : ℕ) (lines old : List ℕ) where
+  pub list-no-range : 1 < range → filled (slip 1 old) lines ≡ listFace base level range s start end lines old
+  unfolding listFace refused over
+  list-no-range h = rw (lt-leb range 1 h)
+
+  pub list-told : {h : Handle} {o : Listed} {lines′ : List ℕ} {x : Slip} → range ≤ 1 → h ≡ handleOf base level range
+      → listing o lines′ ≡ listCall h s start end lines → x ≡ toldListed o old → filled x lines′ ≡ listFace base level range s start end lines old
+  unfolding listFace
+  list-told {lines′ = lines′} l e m t =
+      rw (le-leb range 1 l) (ap (λ (y : Slip). filled y lines′) t ∙ ap (toldListing old) (m ∙ ap (λ (g : Handle). listCall g s start end lines) e))
+
+-- ---- map
+
+-- the count told, and the state that it leaves
+abbrev pub toldCount : List ℕ → Out Counted → Out Slip
+toldCount old mapped = out (toldCounted (mapped .answer) old) (mapped .state)
+
+unfoldable pub mapFace : ℕ → ℕ → ℕ → ℕ → ℕ → ℕ → ℕ → ℕ → St → List ℕ → Out Slip
+mapFace base level range start end frame flags constraints s old =
+    cond (leb range 1) (toldCount old (mapCall (handleOf base level range) start end frame flags constraints s)) (out (refused Shape old) s)
+
+module _ (base level range start end frame flags constraints : ℕ) (s : St) (old : List ℕ) where
+  pub map-no-range : 1 < range → out (slip 1 old) s ≡ mapFace base level range start end frame flags constraints s old
+  unfolding mapFace refused over
+  map-no-range h = rw (lt-leb range 1 h)
+
+  pub map-told : {h : Handle} {o : Counted} {s′ : St} {x : Slip} → range ≤ 1 → h ≡ handleOf base level range
+      → out o s′ ≡ mapCall h start end frame flags constraints s → x ≡ toldCounted o old → out x s′ ≡ mapFace base level range start end frame flags constraints s old
+  unfolding mapFace
+  map-told {s′ = s′} l e m t =
+      rw (le-leb range 1 l)
+      (ap (λ (y : Slip). out y s′) t ∙ ap (toldCount old) (m ∙ ap (λ (g : Handle). mapCall g start end frame flags constraints s) e))
+
+-- ---- page image
 
 -- the answer told, and the page that it leaves
 abbrev pub toldImage : List ℕ → Imaged → Filled

@@ -2,15 +2,19 @@
 mod answer;
 
 use address::PhysicalAddress;
+use address::VirtualAddress;
+use map::Constraints;
+use map::call;
 use pool::Handle;
 use pool::VaRange;
 use pool::image;
 use pool::make;
+use walk::look_up;
 ghost use mathlib.Core.Path.{_≡_};
 ghost use Rattle.pool.specs.State.{st};
 ghost use Rattle.pool.specs.Refuse.{out};
 ghost use Rattle.ptb.specs.Answer.{slip};
-ghost use Rattle.ptb.specs.Face.{rangeOf, handleOf, makeFace, checkFace, filled, imageFace};
+ghost use Rattle.ptb.specs.Face.{rangeOf, handleOf, makeFace, checkFace, lookUpFace, filled, listFace, mapFace, imageFace};
 
 // The number of the upper range, the highest there is.
 const UPPER: u64 = 1;
@@ -75,6 +79,84 @@ pub extern "C" fn ptb_check(
     let handle = handle_of(base, level, range);
     let outcome = checker::check(words, ledger, handle);
     answer::answer_outcome(outcome, answer)
+}
+
+// What the walk of an address answers.
+#[no_mangle]
+pub extern "C" fn ptb_look_up(
+    words: &[u64],
+    ledger: &[u32],
+    base: u64,
+    level: u64,
+    range: u64,
+    va: u64,
+    answer: &mut [u64; 4],
+) -> u64
+    ensures { λ r. ⌜ slip r (now (answer .exit)) ≡ lookUpFace base level range (st (now (words .entry)) (now (ledger .entry))) va (now (answer .entry)) ⌝ }
+{
+    if UPPER < range {
+        return 1;
+    }
+    let handle = handle_of(base, level, range);
+    let looked = look_up::look_up(words, ledger, handle, VirtualAddress(va));
+    answer::answer_looked(looked, answer)
+}
+
+// Lists the entries that a region meets, four numbers a line.
+#[no_mangle]
+pub extern "C" fn ptb_list(
+    words: &[u64],
+    ledger: &[u32],
+    base: u64,
+    level: u64,
+    range: u64,
+    start: u64,
+    end: u64,
+    lines: &mut [u64],
+    answer: &mut [u64; 4],
+) -> u64
+    ensures { λ r. ⌜ filled (slip r (now (answer .exit))) (now (lines .exit)) ≡ listFace base level range (st (now (words .entry)) (now (ledger .entry))) start end (now (lines .entry)) (now (answer .entry)) ⌝ }
+{
+    if UPPER < range {
+        return 1;
+    }
+    let handle = handle_of(base, level, range);
+    let listed = list::list(words, ledger, handle, start, end, lines);
+    answer::answer_listed(listed, answer)
+}
+
+// Puts a map down: each page of the region to its frame, ascending, with these flags.
+#[no_mangle]
+pub extern "C" fn ptb_map(
+    words: &mut [u64],
+    ledger: &mut [u32],
+    base: u64,
+    level: u64,
+    range: u64,
+    start: u64,
+    end: u64,
+    frame: u64,
+    flags: u64,
+    constraints: u64,
+    answer: &mut [u64; 4],
+) -> u64
+    ensures { λ r. ⌜ out (slip r (now (answer .exit))) (st (now (words .exit)) (now (ledger .exit))) ≡ mapFace base level range start end frame flags constraints (st (now (words .entry)) (now (ledger .entry))) (now (answer .entry)) ⌝ }
+{
+    if UPPER < range {
+        return 1;
+    }
+    let handle = handle_of(base, level, range);
+    let counted = call::map(
+        words,
+        ledger,
+        handle,
+        VirtualAddress(start),
+        VirtualAddress(end),
+        PhysicalAddress(frame),
+        flags,
+        Constraints(constraints),
+    );
+    answer::answer_counted(counted, answer)
 }
 
 // Writes one table's 512 words into 4096 bytes.

@@ -5,6 +5,7 @@ pub mod Codec
 pub mod Generic
 pub mod Decide
 -- what a sound pool is like
+pub mod Made
 pub mod Alloc
 pub mod Hanging
 -- the four steps on lists

@@ -21,13 +21,13 @@ enum-told c = omega arith
 
 -- src/lib.rt:29:17
 returns : tie.Need-returns
-returns c = 
+returns c =
     let a = c .before .before .before .before .before .args in
     lower-start (a .range) (a .level) (a .region) (c .before .before .before .before .granularity-at-level .ensures) (c .before .before .enum-told .given .1) (c .if1 .taken)
 
 -- src/lib.rt:32:17
 returns-2 : tie.Need-returns-2
-returns-2 c = 
+returns-2 c =
     let a = c .before .before .before .before .before .before .before .args in
     lower-end (a .range) (a .level) (a .region) (c .before .before .before .before .before .before .granularity-at-level .ensures) (c .before .before .before .before .enum-told .given .1) (omega arith) (c .if2 .taken)
 
@@ -41,19 +41,19 @@ sub-if3 c = omega (arith, c .before .before .granularity-at-level .ensures, size
 
 -- src/lib.rt:38:17
 returns-3 : tie.Need-returns-3
-returns-3 c = 
+returns-3 c =
     let a = c .before .before .before .before .before .args in
     upper-start (a .range) (a .level) (a .region) (c .before .before .before .before .granularity-at-level .ensures) (c .before .before .enum-told2 .given .1) (c .if3 .taken)
 
 -- src/lib.rt:22:1
 returns-4 : tie.Need-returns-4
-returns-4 c = 
+returns-4 c =
     let a = c .before .before .before .before .before .before .before .args in
     lower-in (a .range) (a .level) (a .region) (c .before .before .before .before .before .before .granularity-at-level .ensures) (c .before .before .before .before .enum-told .given .1) (omega arith) (omega arith)
 
 -- src/lib.rt:22:1
 returns-5 : tie.Need-returns-5
-returns-5 c = 
+returns-5 c =
     let a = c .before .before .before .before .before .args in
     upper-in (a .range) (a .level) (a .region) (c .before .before .before .before .granularity-at-level .ensures) (c .before .before .enum-told2 .given .1) (omega arith)
 

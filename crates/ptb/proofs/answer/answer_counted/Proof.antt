@@ -1,0 +1,46 @@
+-- `answer_counted` tells a count of tables outside. Assumes nothing.
+use native.Mathlib.Omega.{arith}
+use Rattle.ptb.specs.Answer.{toldCounted, accepted}
+use Rattle.ptb.proofs.answer.answer_counted.Statement.{statement}
+use Rattle.ptb.proofs.answer.answer_counted.Tie as tie
+use Rattle.ptb.proofs.answer.answer_counted.Reads as reads
+use Rattle.ptb.proofs.answer.answer_counted.Lts as lts
+use Rattle.ptb.proofs.answer.answer_refusal.Reads as answer-refusal-reads
+use Rattle.ptb.proofs.answer.one.Reads as one-reads
+
+-- src/answer.rt:73:25
+enum-known-counted : tie.Need-enum-known-counted
+enum-known-counted c = omega arith
+
+-- src/answer.rt:73:36
+one-requires : tie.Need-one-requires
+one-requires c κs = omega arith
+
+-- src/answer.rt:74:26
+enum-known-counted-2 : tie.Need-enum-known-counted-2
+enum-known-counted-2 c = omega arith
+
+-- src/answer.rt:74:38
+answer-refusal-requires : tie.Need-answer-refusal-requires
+answer-refusal-requires c κs = omega arith
+
+-- src/answer.rt:69:1
+returns : tie.Need-returns
+unfolding toldCounted accepted
+returns c = rw (c .before .before .before .counted .given .1) (c .one .ensures)
+
+-- src/answer.rt:69:1
+returns-2 : tie.Need-returns-2
+unfolding toldCounted
+returns-2 c = rw (c .before .before .before .counted2 .given .1) (c .answer-refusal .ensures)
+
+pub answer-counted-spec : {M : Type 1} → statement M
+answer-counted-spec =
+    tie.close
+    (tie.spec
+    enum-known-counted
+    one-requires
+    enum-known-counted-2
+    answer-refusal-requires
+    returns
+    returns-2)

@@ -1,0 +1,46 @@
+-- `answer_listed` tells a count of lines outside. Assumes nothing.
+use native.Mathlib.Omega.{arith}
+use Rattle.ptb.specs.Answer.{toldListed, accepted}
+use Rattle.ptb.proofs.answer.answer_listed.Statement.{statement}
+use Rattle.ptb.proofs.answer.answer_listed.Tie as tie
+use Rattle.ptb.proofs.answer.answer_listed.Reads as reads
+use Rattle.ptb.proofs.answer.answer_listed.Lts as lts
+use Rattle.ptb.proofs.answer.answer_refusal.Reads as answer-refusal-reads
+use Rattle.ptb.proofs.answer.one.Reads as one-reads
+
+-- src/answer.rt:95:23
+enum-known-listed : tie.Need-enum-known-listed
+enum-known-listed c = omega arith
+
+-- src/answer.rt:95:33
+one-requires : tie.Need-one-requires
+one-requires c κs = omega arith
+
+-- src/answer.rt:96:25
+enum-known-listed-2 : tie.Need-enum-known-listed-2
+enum-known-listed-2 c = omega arith
+
+-- src/answer.rt:96:37
+answer-refusal-requires : tie.Need-answer-refusal-requires
+answer-refusal-requires c κs = omega arith
+
+-- src/answer.rt:91:1
+returns : tie.Need-returns
+unfolding toldListed accepted
+returns c = rw (c .before .before .before .listed .given .1) (c .one .ensures)
+
+-- src/answer.rt:91:1
+returns-2 : tie.Need-returns-2
+unfolding toldListed
+returns-2 c = rw (c .before .before .before .listed2 .given .1) (c .answer-refusal .ensures)
+
+pub answer-listed-spec : {M : Type 1} → statement M
+answer-listed-spec =
+    tie.close
+    (tie.spec
+    enum-known-listed
+    one-requires
+    enum-known-listed-2
+    answer-refusal-requires
+    returns
+    returns-2)

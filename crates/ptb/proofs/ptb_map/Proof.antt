@@ -1,0 +1,51 @@
+-- `ptb_map`: a range above 1, or the call told outside. Assumes nothing.
+use native.Mathlib.Omega.{arith}
+use Rattle.pool.specs.State.{st}
+use Rattle.ptb.specs.Face.{map-no-range, map-told}
+use Rattle.ptb.proofs.ptb_map.Statement.{statement}
+use Rattle.ptb.proofs.ptb_map.Tie as tie
+use Rattle.ptb.proofs.ptb_map.Reads as reads
+use Rattle.ptb.proofs.ptb_map.Lts as lts
+use Rattle.map.proofs.call.map.Reads as map-reads
+use Rattle.ptb.proofs.answer.answer_counted.Reads as answer-counted-reads
+use Rattle.ptb.proofs.handle_of.Reads as handle-of-reads
+
+-- src/lib.rt:146:9
+returns : tie.Need-returns
+returns c = let a = c .before .before .before .args in map-no-range (a .base) (a .level) (a .range) (a .start) (a .end) (a .frame) (a .flags) (a .constraints) (st (a .words .now) (a .ledger .now)) (a .answer .now) (c .if1 .taken)
+
+-- src/lib.rt:148:9
+handle-of-requires : tie.Need-handle-of-requires
+handle-of-requires c κs = omega arith
+
+-- src/lib.rt:149:9
+map-requires : tie.Need-map-requires
+map-requires c κs = omega arith
+
+-- src/lib.rt:159:5
+answer-counted-requires : tie.Need-answer-counted-requires
+answer-counted-requires c κs = omega arith
+
+-- src/lib.rt:129:1
+same-length : tie.Need-same-length
+same-length c = omega arith
+
+-- src/lib.rt:129:1
+same-length-2 : tie.Need-same-length-2
+same-length-2 c = omega arith
+
+-- src/lib.rt:129:1
+returns-2 : tie.Need-returns-2
+returns-2 c = let a = c .before .before .before .before .before .before .before .before .before .before .before .before .before .args in map-told (a .base) (a .level) (a .range) (a .start) (a .end) (a .frame) (a .flags) (a .constraints) (st (a .words .now) (a .ledger .now)) (a .answer .now) (c .before .before .before .before .before .before .before .before .before .before .if1 .left) (c .before .before .before .before .before .before .before .before .before .handle-of .ensures) (c .before .before .before .before .before .before .map .ensures) (c .answer-counted .ensures)
+
+pub ptb-map-spec : {M : Type 1} → statement M
+ptb-map-spec =
+    tie.close
+    (tie.spec
+    returns
+    handle-of-requires
+    map-requires
+    answer-counted-requires
+    same-length
+    same-length-2
+    returns-2)

@@ -1,0 +1,2 @@
+-- The Arm walk of a sound pool.
+pub mod Walked

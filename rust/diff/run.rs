@@ -1,0 +1,208 @@
+// One pool three times: ptb's, the model's and the oracle's. After every call the answers, all words, the ledgers and the lists are compared.
+use crate::face;
+use crate::model::{answer, Answer, Handle, Pool};
+use crate::random::{Call, Damage, Step};
+use oracle::{Oracle, Refused};
+
+const KINDS: [&str; 5] = ["map", "look up", "list", "modify", "compact"];
+const UNWRITTEN: u64 = 0x5555_5555_5555_5555;
+
+#[derive(Default)]
+pub struct Counts {
+    // By kind of call and by the answer's number.
+    answers: [[u64; 12]; 5],
+    damaged: [[u64; 12]; 5],
+    // Calls on which the oracle had its say, and accepted calls on which it may differ: a fill that it loses.
+    oracle: [u64; 5],
+    lost_fills: u64,
+    planted: u64,
+    by_rule: [u64; 5],
+    words: u64,
+    pub differences: u64,
+}
+
+impl Counts {
+    pub fn calls(&self) -> u64 {
+        self.answers.iter().chain(&self.damaged).flatten().sum()
+    }
+
+    pub fn print(&self) {
+        println!("| call | run | accepted | refused, by number | compared with the oracle |");
+        println!("|---|---|---|---|---|");
+        for (name, answers, oracle) in [("", &self.answers, true), (" on damaged words or ledger", &self.damaged, false)] {
+            for (kind, row) in answers.iter().enumerate().filter(|(_, row)| row.iter().sum::<u64>() > 0) {
+                let refused: Vec<String> = (1..12).filter(|&number| row[number] > 0).map(|number| format!("{number}: {}", row[number])).collect();
+                let compared = if oracle { self.oracle[kind].to_string() } else { "-".into() };
+                println!("| {}{name} | {} | {} | {} | {compared} |", KINDS[kind], row.iter().sum::<u64>(), row[0], refused.join(", "));
+            }
+        }
+        println!("chunks of accepted maps, by rules 1 to 5: {:?}", self.by_rule);
+        println!("words written between calls by another hand, the pool still sound: {}", self.planted);
+        println!("accepted calls that split an entry which ends at 2^64 and is not zero (the oracle loses its fill; compared with the model alone): {}", self.lost_fills);
+        println!("words compared with the oracle's: {}", self.words);
+    }
+}
+
+fn kind(call: &Call) -> usize {
+    match call {
+        Call::Map(_) => 0,
+        Call::LookUp(_) => 1,
+        Call::List(..) => 2,
+        Call::Modify(..) => 3,
+        Call::Compact => 4,
+        Call::Plant(..) => unreachable!(),
+    }
+}
+
+// The oracle's answer in our numbers.
+fn told(answered: Result<(), Refused>, accepted: Answer) -> Answer {
+    match answered {
+        Ok(()) => accepted,
+        Err(refused) => answer(refused.number, &refused.carries),
+    }
+}
+
+fn same<T: PartialEq + std::fmt::Debug>(what: &str, ours: T, theirs: T) -> Result<(), String> {
+    if ours == theirs { Ok(()) } else { Err(format!("{what}: {ours:x?}, not {theirs:x?}")) }
+}
+
+fn same_words(what: &str, ours: &[u64], theirs: &[u64]) -> Result<(), String> {
+    if ours == theirs {
+        return Ok(());
+    }
+    let place = ours.iter().zip(theirs).position(|(one, other)| one != other);
+    let shown = place.map(|place| format!("table {} word {} is {:#x}, not {:#x}", place / 512, place % 512, ours[place], theirs[place]));
+    Err(format!("{what}: {}", shown.unwrap_or("length".into())))
+}
+
+pub struct Run {
+    pub ours: Pool,
+    model: Pool,
+    oracle: Oracle,
+}
+
+// What a call gives: the model's answer, and the list that it writes.
+fn on_both(ours: &mut Pool, model: &mut Pool, call: &Call) -> Result<Answer, String> {
+    let (told, expected) = match call {
+        Call::Map(map) => (face::map(ours, map), model.map(map)),
+        Call::LookUp(va) => (face::look_up(ours, *va), model.look_up(*va)),
+        Call::List(start, end, room) => {
+            let (expected, lines, length) = model.list(*start, *end, |needed| room.length(needed));
+            let mut list = vec![UNWRITTEN; length as usize];
+            let told = face::list(ours, *start, *end, &mut list);
+            written(&list, &lines)?;
+            (told, expected)
+        }
+        Call::Modify(modify, room) => {
+            let (expected, numbers, length) = model.modify(modify, |needed| room.length(needed));
+            let mut list = vec![UNWRITTEN; length as usize];
+            let told = face::modify(ours, modify, &mut list);
+            written(&list, &numbers)?;
+            (told, expected)
+        }
+        Call::Compact => (face::compact(ours), model.compact()),
+        Call::Plant(..) => unreachable!(),
+    };
+    same("answer", told, expected)?;
+    same_words("words", &ours.words, &model.words)?;
+    same("ledger", &ours.ledger, &model.ledger)?;
+    Ok(expected)
+}
+
+// The list begins with what is expected, and the rest of it is unwritten.
+fn written(list: &[u64], expected: &[u64]) -> Result<(), String> {
+    same_words("list", &list[..expected.len()], expected)?;
+    same("the rest of the list is as it was", list[expected.len()..].iter().all(|&word| word == UNWRITTEN), true)
+}
+
+impl Run {
+    pub fn new(n: usize, handle: Handle) -> Run {
+        let model = Pool::make(n, handle);
+        Run { ours: model.clone(), model, oracle: Oracle::new(n, handle.base, handle.level, handle.upper) }
+    }
+
+    pub fn step(&mut self, (call, damage): &Step, counts: &mut Counts) -> Result<Answer, String> {
+        if let Some(damage) = damage {
+            return self.damaged(call, damage, counts);
+        }
+        if let Call::Plant(va, frame, flags) = call {
+            self.model.plant(*va, *frame, *flags);
+            self.ours.words.copy_from_slice(&self.model.words);
+            self.oracle.load(&self.model.words, &self.model.ledger);
+            counts.planted += 1;
+            return Ok(answer(0, &[]));
+        }
+        let expected = on_both(&mut self.ours, &mut self.model, call)?;
+        counts.answers[kind(call)][expected.0 as usize] += 1;
+        for (sum, chunks) in counts.by_rule.iter_mut().zip(std::mem::take(&mut self.model.by_rule)) {
+            *sum += chunks;
+        }
+        same("ledger against the words", &self.ours.ledger, &self.ours.ledger_of_words()?)?;
+        same("check", face::check(&self.ours), answer(0, &[]))?;
+        self.ask_oracle(call, expected, counts)?;
+        Ok(expected)
+    }
+
+    fn ask_oracle(&mut self, call: &Call, expected: Answer, counts: &mut Counts) -> Result<(), String> {
+        // The domain: what is accepted, and refusals 3 (but on modify), 5 and 6.
+        let inside = match (call, expected.0) {
+            (Call::Modify(..), 3) => false,
+            (_, 0 | 3 | 5 | 6) => true,
+            _ => false,
+        };
+        // The last upper page is no region of the crate.
+        let last_page = matches!(call, Call::LookUp(va) if *va >= 0u64.wrapping_sub(4096));
+        if !inside || last_page {
+            return Ok(());
+        }
+        if expected.0 == 0 && self.model.lost_fill {
+            counts.lost_fills += 1;
+            self.oracle.load(&self.model.words, &self.model.ledger);
+            return Ok(());
+        }
+        counts.oracle[kind(call)] += 1;
+        let said = match call {
+            Call::Map(map) => told(self.oracle.map(map.start, map.end, map.frame, map.flags, map.constraints), expected),
+            Call::LookUp(va) => match self.oracle.walk(*va) {
+                Ok((word, level)) => Pool::meaning(word, level, *va),
+                // The crate tells of the region's page, the slip of the address.
+                Err(refused) => answer(refused.number, &[*va]),
+            },
+            Call::List(start, end, _) => {
+                let mut lines = vec![];
+                let said = told(self.oracle.list(*start, *end, &mut lines), expected);
+                let expected = self.model.list(*start, *end, |needed| needed).1;
+                same_words("the oracle's list", &expected, &lines)?;
+                said
+            }
+            Call::Modify(modify, _) => told(self.oracle.modify(modify.start, modify.end, modify.set, modify.clear), expected),
+            Call::Compact => {
+                self.oracle.compact();
+                expected
+            }
+            Call::Plant(..) => unreachable!(),
+        };
+        same("the oracle's answer", expected, said)?;
+        counts.words += self.ours.words.len() as u64;
+        same_words("the oracle's words", &self.ours.words, self.oracle.words())
+    }
+
+    // The call on a copy with flipped bits, most often unsound. The check says so too.
+    fn damaged(&self, call: &Call, damage: &Damage, counts: &mut Counts) -> Result<Answer, String> {
+        let mut model = self.model.clone();
+        model.trusted = false;
+        if damage.ledger {
+            let place = damage.place as usize % model.ledger.len();
+            model.ledger[place] ^= damage.flip as u32 | (damage.flip >> 32) as u32;
+        } else {
+            let links: Vec<usize> = model.ledger.iter().filter(|&&number| damage.link && number >= 8).map(|&number| number as usize / 8 - 1).collect();
+            let place = if links.is_empty() { damage.place as usize % model.words.len() } else { links[damage.place as usize % links.len()] };
+            model.words[place] ^= damage.flip;
+        }
+        let mut ours = model.clone();
+        same("check", face::check(&ours), answer(if model.is_sound() { 0 } else { 8 }, &[]))?;
+        let expected = on_both(&mut ours, &mut model, call)?;
+        counts.damaged[kind(call)][expected.0 as usize] += 1;
+        Ok(expected)
+    }
+}

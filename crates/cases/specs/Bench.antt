@@ -111,14 +111,17 @@ G frame count after = record { level = 1; before = fresh 1 8; start = 0x1000; en
 unfoldable pub H : Row
 H = record { level = 0; before = fresh 0 8; start = 0; end = 0x80_0000_0000; frame = 0; flags = 0x401; answer = Tables 2; after = poolH }
 
--- ---- the table
+-- ---- the rows that hold
 
-pub starred-maps :
+abbrev pub Maps : Type 0
+Maps =
     Holds A
     × Holds (B 8 (Tables 3) (poolB 8)) × Holds (B 3 (Tables 3) (poolB 3)) × Holds (B 2 (Refused (WantOfRoom 2 1)) (fresh 1 2))
     × Holds (CD 0x4020_0000 1 poolA) × Holds (CD 0x5000_0000 3 poolD)
     × Holds (EF 0 0 1 (fresh 1 8)) × Holds (EF 0x4000_0000 0x401 3 poolF)
     × Holds (G 0 3 poolG) × Holds (G 0x1000 1 (fresh 1 8))
     × Holds H
+
+pub starred-maps : Maps
 unfolding sizeAt down up iter putPart allBelow allFrom alignUp addressOf flagsOf kindOf linkOf only el1Flags inPool leads subOf rounded entryLast entryIndex chunkEnd met chunksIn chunks rootNumber numberOf firstFrom lowestFree used free putTable zeros clear rising takeAt takeFound takeTable freeSub freeSlot freeTree maxTables shaped flagSet plainFlags fits leafb namesb hangsb tableb linkb refersb slotb soundb endFits span inRange verify valid tableWord leafWord whole rule2 blockable rule3 rule4 ruleOf fillOf splitEntry belowOf below inFound into dropEntry byRule mapChunk eachOf eachChunk mapRange ifDown sumOf sumChunks childWord neededLeaf needBelow needChunk needTable needed asked frameAsked first verifyMap putDown mapSound orElse mapCall handle fresh word table Holds poolA poolB poolD poolF poolG poolH A B CD EF G H
 starred-maps = (refl, refl, refl, refl, refl, refl, refl, refl, refl, refl, refl)

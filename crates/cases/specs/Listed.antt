@@ -20,11 +20,19 @@ use Rattle.walk.specs.Arm.{bits, lowBit, index, fetch}
 use Rattle.list.specs.Lines.{numbers, each, subLines, chunkLines, linesAt, linesFrom}
 use Rattle.list.specs.Listing.{verifyEnds, listing, put, listLines, linesOf, listSound, listVerified, listCall}
 use Rattle.list.specs.declared.Listed.the-variants.{Lines}
-use Rattle.cases.specs.Bench.{handle, fresh, word, table, poolB}
+use Rattle.cases.specs.Bench.{handle, fresh, word, table, poolB, Maps, starred-maps}
 
 -- three lines; the rest of the list stays
-pub case-J :
+abbrev pub J : Type 0
+J =
     listCall (handle 1) (poolB 8) 0 0x3000 (replicate 16 7)
     ≡ listing (Lines 3) (0 ∷ 0x1000 ∷ 0 ∷ 3 ∷ 0x1000 ∷ 0x2000 ∷ 0x9403 ∷ 3 ∷ 0x2000 ∷ 0x3000 ∷ 0xA403 ∷ 3 ∷ 7 ∷ 7 ∷ 7 ∷ 7 ∷ [])
+
+pub case-J : J
 unfolding sizeAt down up putPart allBelow allFrom alignUp addressOf kindOf linkOf only el1Flags inPool leads subOf rounded entryLast chunkEnd met chunksIn chunks rootNumber putTable zeros maxTables shaped flagSet plainFlags fits leafb namesb hangsb tableb linkb refersb slotb soundb endFits span inRange verify bits lowBit index fetch numbers each subLines chunkLines linesAt linesFrom verifyEnds put listLines linesOf listSound listVerified listCall handle fresh word table poolB
 case-J = refl
+
+-- ---- the table: every starred case of map and of list
+
+pub starred : Maps × J
+starred = (starred-maps, case-J)

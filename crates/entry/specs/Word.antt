@@ -41,6 +41,11 @@ only m f = eqb (bitAnd f m) f
 unfoldable pub el1Flags : ℕ
 el1Flags = 0xFFFC_0000_0000_0FFD
 
+-- bit 0, bits 2 to 11, bits 50 to 63
+pub el1-bits : el1Flags ≡ 1 + (2 ^ 12 - 2 ^ 2) + (2 ^ 64 - 2 ^ 50)
+unfolding el1Flags
+el1-bits = refl
+
 -- ---- fields: taken apart and put together
 
 pub address-and-flags : (w : ℕ) → addressOf w + flagsOf w ≡ w

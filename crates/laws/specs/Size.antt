@@ -209,11 +209,7 @@ size-next level x h e = multiple-of 512 (sizeAt (level + 1)) x (ap (λ (a : ℕ)
 pub size-parts : (level x : ℕ) → level < 3 → x % sizeAt level ≡ x / sizeAt (level + 1) % 512 * sizeAt (level + 1) + x % sizeAt (level + 1)
 size-parts level x h = ap (λ (a : ℕ). x % a) (size-step level h) ∙ mod-parts 512 (sizeAt (level + 1)) x (size-pos (level + 1)) (omega arith)
 
--- the place in an entry, and in a page
-pub size-and : (level a : ℕ) → bitAnd a (sizeAt level - 1) ≡ a % sizeAt level
-unfolding sizeAt
-size-and level a = and-mask a (12 + 9 * (3 - level))
-
+-- the place in a page
 pub size-offset : (level a : ℕ) → a % sizeAt level % 4096 ≡ a % 4096
 unfolding sizeAt
 size-offset level a =

@@ -9,7 +9,7 @@ use lib.Bits.{bitAnd}
 use lib.Dec.{eqb, leb, ltb}
 use lib.ListN.{getD}
 use borrow.Author.Tests.{ne-eqb, le-leb, lt-leb, lt-ltb, le-ltb}
-use Rattle.laws.specs.Size.{sizeAt, size-page, size-and, size-offset, down, down-rest}
+use Rattle.laws.specs.Size.{sizeAt, size-page, size-mod, size-offset, down, down-rest}
 use Rattle.laws.specs.Test.{eq-or, le-or}
 use Rattle.entry.specs.Word.{addressOf, address-pages, address-and-flags, flagsOf, kindOf, Says, kind-says}
 use Rattle.entry.specs.Sub.{subOf, sub-leaf, sub-low, sub-high, sub-in}
@@ -90,7 +90,7 @@ frame-is (suc (suc (suc level))) w va = in-pages ∙ ap (λ (size : ℕ). down (
 pub frame-masks : (level w va : ℕ)
     → addressOf w - bitAnd (addressOf w) (sizeAt level - 1) + (bitAnd va (sizeAt level - 1) - va % 4096) ≡ frameOf level w va
 frame-masks level w va =
-    ap₂ (λ (x y : ℕ). addressOf w - x + (y - va % 4096)) (size-and level (addressOf w)) (size-and level va)
+    ap₂ (λ (x y : ℕ). addressOf w - x + (y - va % 4096)) (size-mod level (addressOf w)) (size-mod level va)
     ∙ (let a = down-rest (addressOf w) (sizeAt level) in
     let v = down-rest (va % sizeAt level) 4096 in
     let o = size-offset level va in

@@ -2,7 +2,7 @@ use mathlib.Core.Path.{ap, ap₂, _∙_}
 use Prim.Native.Nat.{ℕ, _+_, _-_, _%_}
 use native.Mathlib.Omega.{arith}
 use lib.Bits.{bitAnd, and-le-l, and-le-r}
-use Rattle.laws.specs.Size.{size-low, size-high, size-and, size-offset}
+use Rattle.laws.specs.Size.{size-low, size-high, size-mod, size-offset}
 use Rattle.entry.specs.Word.{mask-address, address-below}
 use Rattle.walk.specs.Walk.{frame-masks}
 use Rattle.walk.proofs.look_up.frame.Statement.{statement}
@@ -28,7 +28,7 @@ sub-t10 : tie.Need-sub-t10
 sub-t10 c =
     let a = c .before .before .before .args in
     let g = c .before .before .granularity-at-level .ensures in
-    let m = ap (λ (x : ℕ). bitAnd (a .va .0) (x - 1)) g ∙ size-and (a .level) (a .va .0) in
+    let m = ap (λ (x : ℕ). bitAnd (a .va .0) (x - 1)) g ∙ size-mod (a .level) (a .va .0) in
     let o = size-offset (a .level) (a .va .0) in
     omega arith
 

@@ -8,6 +8,11 @@ const UPPER: u64 = 1;
 
 const FLAGS: u64 = 0x401;
 
+// The span of an upper root at level 1, but for the last page.
+const UPPER_START: u64 = 0xFFFF_FF80_0000_0000;
+
+const UPPER_END: u64 = 0xFFFF_FFFF_FFFF_F000;
+
 // A line: a word, or what a refusal carries.
 fn show(what: &[u8], value: u64) {
     io::write_all(1, b"  ");
@@ -60,29 +65,19 @@ fn make(words: &mut [u64], ledger: &mut [u32], level: u64, range: u64) {
     ptb::ptb_make(words, ledger, BASE, level, range, &mut answer);
 }
 
-// A map, and how many words are not zero after it.
-fn map(
-    what: &[u8],
-    words: &mut [u64],
-    ledger: &mut [u32],
-    level: u64,
-    range: u64,
-    start: u64,
-    end: u64,
-    frame: u64,
-    flags: u64,
-) {
+// A map of level, range, start, end, frame and flags, and how many words are not zero after it.
+fn map(what: &[u8], words: &mut [u64], ledger: &mut [u32], ask: [u64; 6]) {
     let mut answer = [0u64; 4];
     let refusal = ptb::ptb_map(
         words,
         ledger,
         BASE,
-        level,
-        range,
-        start,
-        end,
-        frame,
-        flags,
+        ask[0],
+        ask[1],
+        ask[2],
+        ask[3],
+        ask[4],
+        ask[5],
         0,
         &mut answer,
     );
@@ -90,85 +85,41 @@ fn map(
     show(b"words not zero", count_words(words));
 }
 
+// A, then C and D on its pool; H.
 fn blocks(words: &mut [u64; 4096], ledger: &mut [u32; 8]) {
     make(words, ledger, 1, LOWER);
-    map(
-        b"A",
-        words,
-        ledger,
-        1,
-        LOWER,
-        0,
-        0x4000_0000,
-        0x4000_0000,
-        FLAGS,
-    );
+    let ask = [1, LOWER, 0, 0x4000_0000, 0x4000_0000, FLAGS];
+    map(b"A", words, ledger, ask);
     show(b"root word 0", words[0]);
-    map(
-        b"C",
-        words,
-        ledger,
-        1,
-        LOWER,
-        0x20_0000,
-        0x20_1000,
-        0x4020_0000,
-        FLAGS,
-    );
+    let ask = [1, LOWER, 0x20_0000, 0x20_1000, 0x4020_0000, FLAGS];
+    map(b"C", words, ledger, ask);
     show(b"root word 0", words[0]);
-    map(
-        b"D",
-        words,
-        ledger,
-        1,
-        LOWER,
-        0x20_0000,
-        0x20_1000,
-        0x5000_0000,
-        FLAGS,
-    );
+    let ask = [1, LOWER, 0x20_0000, 0x20_1000, 0x5000_0000, FLAGS];
+    map(b"D", words, ledger, ask);
     show(b"table 1 word 1", words[513]);
     show(b"table 1 word 2", words[514]);
     show(b"table 2 word 0", words[1024]);
     show(b"table 2 word 1", words[1025]);
     make(words, ledger, 0, LOWER);
-    map(b"H", words, ledger, 0, LOWER, 0, 0x80_0000_0000, 0, FLAGS);
+    map(b"H", words, ledger, [0, LOWER, 0, 0x80_0000_0000, 0, FLAGS]);
     show(b"root word 0", words[0]);
     show(b"table 1 word 0", words[512]);
     show(b"table 1 word 511", words[1023]);
 }
 
+// B: 2 tables are too few, 3 are enough.
 fn pages(words: &mut [u64; 4096], ledger: &mut [u32; 8]) {
     let mut words2 = [0u64; 1024];
     let mut ledger2 = [0u32; 2];
     let mut words3 = [0u64; 1536];
     let mut ledger3 = [0u32; 3];
     make(&mut words2, &mut ledger2, 1, LOWER);
-    map(
-        b"B, n = 2",
-        &mut words2,
-        &mut ledger2,
-        1,
-        LOWER,
-        0x1000,
-        0x3000,
-        0x9000,
-        FLAGS,
-    );
+    let ask = [1, LOWER, 0x1000, 0x3000, 0x9000, FLAGS];
+    map(b"B, n = 2", &mut words2, &mut ledger2, ask);
     make(&mut words3, &mut ledger3, 1, LOWER);
-    map(
-        b"B, n = 3",
-        &mut words3,
-        &mut ledger3,
-        1,
-        LOWER,
-        0x1000,
-        0x3000,
-        0x9000,
-        FLAGS,
-    );
+    map(b"B, n = 3", &mut words3, &mut ledger3, ask);
     make(words, ledger, 1, LOWER);
-    map(b"B", words, ledger, 1, LOWER, 0x1000, 0x3000, 0x9000, FLAGS);
+    map(b"B", words, ledger, ask);
     show(b"root word 0", words[0]);
     show(b"table 1 word 0", words[512]);
     show(b"table 2 word 1", words[1025]);
@@ -208,36 +159,20 @@ fn lines(words: &[u64; 4096], ledger: &[u32; 8]) {
 
 // F and E on the pool of B, then G but for its compact.
 fn over_tables(words: &mut [u64; 4096], ledger: &mut [u32; 8]) {
-    map(
-        b"F",
-        words,
-        ledger,
-        1,
-        LOWER,
-        0,
-        0x4000_0000,
-        0x4000_0000,
-        FLAGS,
-    );
+    let ask = [1, LOWER, 0, 0x4000_0000, 0x4000_0000, FLAGS];
+    map(b"F", words, ledger, ask);
     show(b"table 2 word 0", words[1024]);
     show(b"table 1 word 1", words[513]);
     make(words, ledger, 1, LOWER);
-    map(b"B", words, ledger, 1, LOWER, 0x1000, 0x3000, 0x9000, FLAGS);
-    map(b"E", words, ledger, 1, LOWER, 0, 0x4000_0000, 0, 0);
+    let ask = [1, LOWER, 0x1000, 0x3000, 0x9000, FLAGS];
+    map(b"B", words, ledger, ask);
+    map(b"E", words, ledger, [1, LOWER, 0, 0x4000_0000, 0, 0]);
     make(words, ledger, 1, LOWER);
-    map(
-        b"G, frame 0x1000",
-        words,
-        ledger,
-        1,
-        LOWER,
-        0x1000,
-        0x2000,
-        0x1000,
-        0,
-    );
+    let ask = [1, LOWER, 0x1000, 0x2000, 0x1000, 0];
+    map(b"G, frame 0x1000", words, ledger, ask);
     make(words, ledger, 1, LOWER);
-    map(b"G, frame 0", words, ledger, 1, LOWER, 0x1000, 0x2000, 0, 0);
+    let ask = [1, LOWER, 0x1000, 0x2000, 0, 0];
+    map(b"G, frame 0", words, ledger, ask);
     show(b"root word 0", words[0]);
     show(b"table 1 word 0", words[512]);
 }
@@ -245,133 +180,41 @@ fn over_tables(words: &mut [u64; 4096], ledger: &mut [u32; 8]) {
 // K: the ends of the spans.
 fn ends(words: &mut [u64; 4096], ledger: &mut [u32; 8]) {
     make(words, ledger, 1, LOWER);
-    map(
-        b"K, lower end",
-        words,
-        ledger,
-        1,
-        LOWER,
-        0x7F_FFFF_F000,
-        0x80_0000_0000,
-        0,
-        FLAGS,
-    );
-    map(
-        b"K, a page higher",
-        words,
-        ledger,
-        1,
-        LOWER,
-        0x7F_FFFF_F000,
-        0x80_0000_1000,
-        0,
-        FLAGS,
-    );
+    let ask = [1, LOWER, 0x7F_FFFF_F000, 0x80_0000_0000, 0, FLAGS];
+    map(b"K, lower end", words, ledger, ask);
+    let ask = [1, LOWER, 0x7F_FFFF_F000, 0x80_0000_1000, 0, FLAGS];
+    map(b"K, a page higher", words, ledger, ask);
     make(words, ledger, 1, UPPER);
-    map(
-        b"K, upper start",
-        words,
-        ledger,
+    let ask = [1, UPPER, UPPER_START, UPPER_START + 0x1000, 0, FLAGS];
+    map(b"K, upper start", words, ledger, ask);
+    let ask = [
         1,
         UPPER,
-        0xFFFF_FF80_0000_0000,
-        0xFFFF_FF80_0000_1000,
+        UPPER_START - 0x1000,
+        UPPER_START + 0x1000,
         0,
         FLAGS,
-    );
-    map(
-        b"K, a page lower",
-        words,
-        ledger,
-        1,
-        UPPER,
-        0xFFFF_FF7F_FFFF_F000,
-        0xFFFF_FF80_0000_1000,
-        0,
-        FLAGS,
-    );
-    map(
-        b"K, upper end",
-        words,
-        ledger,
-        1,
-        UPPER,
-        0xFFFF_FFFF_FFFF_E000,
-        0xFFFF_FFFF_FFFF_F000,
-        0,
-        FLAGS,
-    );
-    map(
-        b"K, one more",
-        words,
-        ledger,
-        1,
-        UPPER,
-        0xFFFF_FFFF_FFFF_E000,
-        0xFFFF_FFFF_FFFF_F001,
-        0,
-        FLAGS,
-    );
+    ];
+    map(b"K, a page lower", words, ledger, ask);
+    let ask = [1, UPPER, UPPER_END - 0x1000, UPPER_END, 0, FLAGS];
+    map(b"K, upper end", words, ledger, ask);
+    let ask = [1, UPPER, UPPER_END - 0x1000, UPPER_END + 1, 0, FLAGS];
+    map(b"K, one more", words, ledger, ask);
 }
 
 // K: flags, frames, and nothing at all.
 fn arguments(words: &mut [u64; 4096], ledger: &mut [u32; 8]) {
     make(words, ledger, 1, LOWER);
-    map(
-        b"K, flags 0x403, backward",
-        words,
-        ledger,
-        1,
-        LOWER,
-        0x3000,
-        0x1000,
-        0,
-        0x403,
-    );
-    map(
-        b"K, flags 0x1_0401",
-        words,
-        ledger,
-        1,
-        LOWER,
-        0x1000,
-        0x2000,
-        0,
-        0x1_0401,
-    );
-    map(
-        b"K, start = end = 0x1000",
-        words,
-        ledger,
-        1,
-        LOWER,
-        0x1000,
-        0x1000,
-        0,
-        FLAGS,
-    );
-    map(
-        b"K, the last frame, two pages",
-        words,
-        ledger,
-        1,
-        LOWER,
-        0x1000,
-        0x3000,
-        0xFFFF_FFFF_F000,
-        FLAGS,
-    );
-    map(
-        b"K, the last frame, one page",
-        words,
-        ledger,
-        1,
-        LOWER,
-        0x1000,
-        0x2000,
-        0xFFFF_FFFF_F000,
-        FLAGS,
-    );
+    let ask = [1, LOWER, 0x3000, 0x1000, 0, 0x403];
+    map(b"K, flags 0x403, backward", words, ledger, ask);
+    let ask = [1, LOWER, 0x1000, 0x2000, 0, 0x1_0401];
+    map(b"K, flags 0x1_0401", words, ledger, ask);
+    let ask = [1, LOWER, 0x1000, 0x1000, 0, FLAGS];
+    map(b"K, start = end = 0x1000", words, ledger, ask);
+    let ask = [1, LOWER, 0x1000, 0x3000, 0xFFFF_FFFF_F000, FLAGS];
+    map(b"K, the last frame, two pages", words, ledger, ask);
+    let ask = [1, LOWER, 0x1000, 0x2000, 0xFFFF_FFFF_F000, FLAGS];
+    map(b"K, the last frame, one page", words, ledger, ask);
 }
 
 fn main() {

@@ -14,7 +14,7 @@ use Rattle.region.specs.Region.{rounded, entryLast, entryIndex, chunkEnd}
 use Rattle.region.specs.Chunks.{met, chunksIn, chunks}
 use Rattle.pool.specs.Number.{rootNumber, numberOf, firstFrom, lowestFree, used, free}
 use Rattle.pool.specs.State.{St, st}
-use Rattle.pool.specs.Table.{putTable, zeros, clear, rising, takeAt, takeFound, takeTable, freeSub, freeSlot, freeTree}
+use Rattle.table.specs.Table.{putTable, zeros, clear, rising, takeAt, takeFound, takeTable, freeSub, freeSlot, freeTree}
 use Rattle.pool.specs.Refuse.{maxTables, shaped, out}
 use Rattle.pool.specs.Sound.{flagSet, plainFlags, fits, leafb, namesb, hangsb, tableb, linkb, refersb, slotb, soundb}
 use Rattle.pool.specs.declared.Handle.{Handle}

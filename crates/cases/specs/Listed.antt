@@ -12,7 +12,7 @@ use Rattle.entry.specs.Sub.{inPool, leads, subOf}
 use Rattle.region.specs.Region.{rounded, entryLast, chunkEnd}
 use Rattle.region.specs.Chunks.{met, chunksIn, chunks}
 use Rattle.pool.specs.Number.{rootNumber}
-use Rattle.pool.specs.Table.{putTable, zeros}
+use Rattle.table.specs.Table.{putTable, zeros}
 use Rattle.pool.specs.Refuse.{maxTables, shaped}
 use Rattle.pool.specs.Sound.{flagSet, plainFlags, fits, leafb, namesb, hangsb, tableb, linkb, refersb, slotb, soundb}
 use Rattle.verify.specs.Verify.{endFits, span, inRange, verify}

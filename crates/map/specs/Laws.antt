@@ -6,7 +6,7 @@ use Rattle.entry.specs.Sub.{subOf}
 use Rattle.entry.specs.declared.Sub.{Sub}
 use Rattle.entry.specs.declared.Sub.the-variants.{Table, Outside, Leaf}
 use Rattle.pool.specs.State.{St, tables, wordAt}
-use Rattle.pool.specs.Table.{taken, takeTable, freeSub, freeTree}
+use Rattle.table.specs.Table.{taken, takeTable, freeSub, freeTree}
 use Rattle.pool.specs.declared.Handle.{Handle}
 use Rattle.pool.specs.declared.Found.the-variants.{At, Nothing}
 use Rattle.rules.specs.Rules.{fillOf}

@@ -8,7 +8,7 @@ use Rattle.region.specs.Region.{entryIndex}
 use Rattle.region.specs.Chunks.{chunks}
 use Rattle.region.specs.declared.MemoryRegion.{MemoryRegion}
 use Rattle.pool.specs.State.{St, tables, wordAt, storeAt}
-use Rattle.pool.specs.Table.{takeTable, Taken, taken, freeSub, freeTree}
+use Rattle.table.specs.Table.{takeTable, Taken, taken, freeSub, freeTree}
 use Rattle.pool.specs.declared.Handle.{Handle}
 use Rattle.pool.specs.declared.Found.{Found}
 use Rattle.pool.specs.declared.Found.the-variants.{At, Nothing}

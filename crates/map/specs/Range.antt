@@ -20,7 +20,7 @@ use Rattle.region.specs.declared.MemoryRegion.{MemoryRegion}
 use Rattle.pool.specs.State.{St, st, tables, wordAt, storeAt}
 use Rattle.pool.specs.Number.{lowestFree, lowest-found}
 use Rattle.pool.specs.Refuse.{Shaped}
-use Rattle.pool.specs.Table.{Taken, taken, takeTable, takeFound}
+use Rattle.table.specs.Table.{Taken, taken, takeTable, takeFound}
 use Rattle.pool.specs.declared.Handle.{Handle}
 use Rattle.pool.specs.declared.Found.{Found}
 use Rattle.pool.specs.declared.Found.the-variants.{At, Nothing}

@@ -4,7 +4,6 @@ use address::VirtualAddress;
 use entry::Sub;
 use pool::Found;
 use pool::Handle;
-use pool::table;
 use region::MemoryRegion;
 use rules::Map;
 use rules::Rule;
@@ -13,7 +12,7 @@ ghost use Prim.Native.Nat.{_+_, _*_, _-_, _%_, _≤_, _<_};
 ghost use lib.ListN.{length, getD};
 ghost use Rattle.pool.specs.State.{st};
 ghost use Rattle.pool.specs.Refuse.{Shaped};
-ghost use Rattle.pool.specs.Table.{taken};
+ghost use Rattle.table.specs.Table.{taken};
 ghost use Rattle.map.specs.Put.{splitEntry, below, dropEntry, mapRange};
 ghost use Rattle.rules.specs.Fit.{Fit};
 

@@ -16,7 +16,7 @@ use Rattle.region.specs.Region.{region, entryIndex, chunkEnd}
 use Rattle.region.specs.Chunks.{met, met-none, met-step, chunks, chunks-none, chunks-step}
 use Rattle.region.specs.declared.MemoryRegion.{MemoryRegion}
 use Rattle.pool.specs.State.{St, tables, wordAt}
-use Rattle.pool.specs.Table.{rising-at}
+use Rattle.table.specs.Table.{rising-at}
 use Rattle.pool.specs.declared.Handle.{Handle}
 use Rattle.rules.specs.declared.Map.{Map}
 use Rattle.rules.specs.declared.Rule.{Rule}

@@ -1,7 +1,6 @@
 -- The pool as lists: what its calls do, and when it is sound.
 pub mod State
 pub mod Number
-pub mod Table
 pub mod Refuse
 pub mod Sound
 pub mod Image

@@ -3,7 +3,7 @@ pub mod image;
 pub mod ledger;
 pub mod make;
 pub mod shape;
-pub mod table;
+pub mod zero;
 
 use address::PhysicalAddress;
 use address::VirtualAddress;

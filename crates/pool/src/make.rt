@@ -3,7 +3,7 @@ use crate::Handle;
 use crate::Outcome;
 use crate::Refusal;
 use crate::shape;
-use crate::table;
+use crate::zero;
 ghost use mathlib.Core.Path.{_≡_};
 ghost use Rattle.pool.specs.State.{st};
 ghost use Rattle.pool.specs.Refuse.{out};
@@ -16,8 +16,8 @@ pub fn make(words: &mut [u64], ledger: &mut [u32], handle: Handle) -> Outcome
     if !shape::is_shaped(words, ledger, handle) {
         return Outcome::Refused(Refusal::Shape);
     }
-    table::zero_words(words);
-    table::zero_numbers(ledger);
+    zero::zero_words(words);
+    zero::zero_numbers(ledger);
     ledger[0] = (4 + handle.level) as u32;
     Outcome::Accepted
 }

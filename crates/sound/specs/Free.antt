@@ -11,7 +11,7 @@ use Rattle.laws.specs.Sum.{sum, sum-ext, sum-add}
 use Rattle.pool.specs.State.{storeAt, St, tables, numberAt}
 use Rattle.pool.specs.Number.{used, free, used-free}
 use Rattle.pool.specs.Refuse.{Shaped}
-use Rattle.pool.specs.Table.{freeTree}
+use Rattle.table.specs.Table.{freeTree}
 use Rattle.pool.specs.declared.Handle.{Handle}
 use Rattle.forest.specs.Tree.{leaf}
 use Rattle.forest.specs.Sound.{Refers}

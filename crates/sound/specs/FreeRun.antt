@@ -10,7 +10,7 @@ use Rattle.laws.specs.Test.{eq-or}
 use Rattle.entry.specs.Sub.{sub-leaf, sub-link}
 use Rattle.pool.specs.State.{St, tables, wordAt, numberAt}
 use Rattle.pool.specs.Refuse.{Shaped}
-use Rattle.pool.specs.Table.{clear, freeSlot, freeTree, slot-table, slot-leaf}
+use Rattle.table.specs.Table.{clear, freeSlot, freeTree, slot-table, slot-leaf}
 use Rattle.pool.specs.declared.Handle.{Handle}
 use Rattle.forest.specs.Sound.{Codec, Refers, Sound}
 use Rattle.forest.specs.Under.{Under, NotUnder, LevelsLeft, under-self, under-zero, under-via, refers-level, refers-table, refers-child, refers-under, refers-over, refers-one}

@@ -9,7 +9,7 @@ use lib.Seq.{getD-set-same, getD-set-other}
 use Rattle.laws.specs.Part.{put-before, put-inside, put-after}
 use Rattle.laws.specs.Test.{le-or}
 use Rattle.pool.specs.State.{storeAt, St, st, tables, wordAt, numberAt}
-use Rattle.pool.specs.Table.{putTable, zeros, clear, length-zeros, zeros-at, length-table}
+use Rattle.table.specs.Table.{putTable, zeros, clear, length-zeros, zeros-at, length-table}
 use Rattle.forest.specs.Keep.{SameSlot}
 use Rattle.sound.specs.Codec.{slotWord, word-in, word-out}
 

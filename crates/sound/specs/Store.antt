@@ -8,7 +8,7 @@ use lib.ListN.{length-set}
 use Rattle.laws.specs.Test.{le-or}
 use Rattle.pool.specs.State.{storeAt, St, wordAt, numberAt}
 use Rattle.pool.specs.Number.{used, free}
-use Rattle.pool.specs.Table.{clear}
+use Rattle.table.specs.Table.{clear}
 use Rattle.pool.specs.declared.Handle.{Handle}
 use Rattle.forest.specs.Tree.{leaf}
 use Rattle.forest.specs.Sound.{TableWord, Refers}

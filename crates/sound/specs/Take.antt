@@ -10,7 +10,7 @@ use lib.Seq.{getD-set-same, getD-set-other}
 use Rattle.entry.specs.Word.{linkOf}
 use Rattle.pool.specs.State.{St, st, tables, wordAt, numberAt}
 use Rattle.pool.specs.Number.{levelOf, numberOf, Names, parent-back, slot-back, number-names, lowestFree, Lowest, lowest-found, used, free}
-use Rattle.pool.specs.Table.{putTable, length-table, takeAt, taken, takeTable, take-some}
+use Rattle.table.specs.Table.{putTable, length-table, takeAt, taken, takeTable, take-some}
 use Rattle.pool.specs.declared.Handle.{Handle}
 use Rattle.pool.specs.declared.Found.the-variants.{At}
 use Rattle.forest.specs.Tree.{leaf, node}

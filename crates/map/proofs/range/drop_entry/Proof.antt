@@ -11,7 +11,7 @@ use Rattle.map.proofs.range.drop_entry.Tie as tie
 use Rattle.map.proofs.range.drop_entry.Reads as reads
 use Rattle.map.proofs.range.drop_entry.Lts as lts
 use Rattle.entry.proofs.subtable.Reads as subtable-reads
-use Rattle.pool.proofs.table.free.Reads as free-reads
+use Rattle.table.proofs.free.Reads as free-reads
 
 -- src/range.rt:58:9
 subtable-requires : tie.Need-subtable-requires

@@ -6,7 +6,7 @@ use lib.ListN.{getD}
 use Rattle.laws.specs.Size.{sizeAt, size-pos, size-low, size-step, size-room, size-down, down, down-paged}
 use Rattle.entry.specs.Word.{addressOf, flagsOf, address-below, mask-address}
 use Rattle.pool.specs.State.{st, wordAt}
-use Rattle.pool.specs.Table.{rising}
+use Rattle.table.specs.Table.{rising}
 use Rattle.rules.specs.Rules.{leafWord}
 use Rattle.rules.specs.Fit.{Plain, flags-plain, leaf-most, steps-fit}
 use Rattle.rules.specs.Laws.{fill-hole, fill-leaf}
@@ -19,7 +19,7 @@ use Rattle.map.proofs.range.split_entry.Lts as lts
 use Rattle.address.proofs.granularity_at_level.Reads as granularity-at-level-reads
 use Rattle.entry.proofs.flags.Reads as flags-reads
 use Rattle.rules.proofs.leaf_word.Reads as leaf-word-reads
-use Rattle.pool.proofs.table.take_table.Reads as take-table-reads
+use Rattle.table.proofs.take_table.Reads as take-table-reads
 
 -- the old word, valid
 abbrev word : tie.After-granularity-at-level → ℕ

@@ -17,8 +17,8 @@ use Rattle.pool.proofs.make.make.Tie as tie
 use Rattle.pool.proofs.make.make.Reads as reads
 use Rattle.pool.proofs.make.make.Lts as lts
 use Rattle.pool.proofs.shape.is_shaped.Reads as is-shaped-reads
-use Rattle.pool.proofs.table.zero_numbers.Reads as zero-numbers-reads
-use Rattle.pool.proofs.table.zero_words.Reads as zero-words-reads
+use Rattle.pool.proofs.zero.zero_numbers.Reads as zero-numbers-reads
+use Rattle.pool.proofs.zero.zero_words.Reads as zero-words-reads
 
 -- past the test the shape is known
 shape : (c : tie.Else1) → let a = c .before .before .before .before .before .before .args in Shaped (a .handle) (st (a .words .now) (a .ledger .now))

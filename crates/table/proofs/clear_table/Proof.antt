@@ -3,15 +3,15 @@ use mathlib.Core.Path.{ap, _∙_}
 use Prim.Native.Nat.{ℕ}
 use native.Mathlib.Omega.{arith}
 use lib.ListN.{set}
 use Rattle.pool.specs.State.{st}
-use Rattle.pool.specs.Table.{clear-is}
-use Rattle.pool.proofs.Parts.{zeroed-part}
+use Rattle.table.specs.Table.{clear-is}
+use Rattle.table.proofs.Parts.{zeroed-part}
 use borrow.Author.Needs.{needs}
-use Rattle.pool.proofs.table.clear_table.Statement.{statement}
-use Rattle.pool.proofs.table.clear_table.Tie as tie
-use Rattle.pool.proofs.table.clear_table.Reads as reads
-use Rattle.pool.proofs.table.clear_table.Lts as lts
-use Rattle.pool.proofs.table.zero_words.Reads as zero-words-reads
+use Rattle.table.proofs.clear_table.Statement.{statement}
+use Rattle.table.proofs.clear_table.Tie as tie
+use Rattle.table.proofs.clear_table.Reads as reads
+use Rattle.table.proofs.clear_table.Lts as lts
+use Rattle.pool.proofs.zero.zero_words.Reads as zero-words-reads
 
 -- src/table.rt:55:13
 mul-a : tie.Need-mul-a

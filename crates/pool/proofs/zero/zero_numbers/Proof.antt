@@ -5,10 +5,10 @@ use Prim.Native.Nat.{_≤_, _-_}
 use native.Mathlib.Omega.{arith}
 use lib.ListN.{length, drop, replicate, length-set}
 use Rattle.laws.specs.Part.{zeroed}
-use Rattle.pool.proofs.table.zero_numbers.Statement.{statement}
-use Rattle.pool.proofs.table.zero_numbers.Tie as tie
-use Rattle.pool.proofs.table.zero_numbers.Reads as reads
-use Rattle.pool.proofs.table.zero_numbers.Lts as lts
+use Rattle.pool.proofs.zero.zero_numbers.Statement.{statement}
+use Rattle.pool.proofs.zero.zero_numbers.Tie as tie
+use Rattle.pool.proofs.zero.zero_numbers.Reads as reads
+use Rattle.pool.proofs.zero.zero_numbers.Lts as lts
 
 abbrev Inv-loop : tie.InvT-loop
 Inv-loop ledger₀ i₀ ledger i = (i ≤ length ledger₀) × (length ledger ≡ length ledger₀) × (ledger ≡ replicate i 0 ++ drop i ledger₀)

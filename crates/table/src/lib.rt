@@ -1,36 +1,15 @@
 // One table's words, lent as a part of the pool from its middle; a table taken, freed, and freed with all that hangs from it.
-use crate::Found;
-use crate::Handle;
-use crate::ledger;
 use entry::Sub;
+use pool::Found;
+use pool::Handle;
+use pool::ledger;
+use pool::zero;
 ghost use mathlib.Core.Path.{_≡_};
 ghost use Prim.Native.Nat.{_+_, _*_, _-_, _≤_, _<_, _^_};
-ghost use lib.ListN.{length, replicate};
+ghost use lib.ListN.{length};
 ghost use Rattle.pool.specs.State.{st};
 ghost use Rattle.pool.specs.Refuse.{Shaped};
-ghost use Rattle.pool.specs.Table.{clear, rising, taken, takeTable, freeTree};
-
-// All words 0.
-pub fn zero_words(words: &mut [u64])
-    ensures { λ _. ⌜ now (words .exit) ≡ replicate (length (now (words .entry))) 0 ⌝ }
-{
-    let mut i = 0;
-    while i < words.len() {
-        words[i] = 0;
-        i += 1;
-    }
-}
-
-// All ledger numbers 0.
-pub fn zero_numbers(ledger: &mut [u32])
-    ensures { λ _. ⌜ now (ledger .exit) ≡ replicate (length (now (ledger .entry))) 0 ⌝ }
-{
-    let mut i = 0;
-    while i < ledger.len() {
-        ledger[i] = 0;
-        i += 1;
-    }
-}
+ghost use Rattle.table.specs.Table.{clear, rising, taken, takeTable, freeTree};
 
 // A table's words, from the first on, each one step above the one before.
 pub fn fill(table: &mut [u64], first: u64, step: u64)
@@ -54,7 +33,7 @@ pub fn clear_table(words: &mut [u64], ledger: &mut [u32], k: usize)
 {
     let a = 512 * k;
     let e = a + 512;
-    zero_words(&mut words[a..e]);
+    zero::zero_words(&mut words[a..e]);
     ledger[k] = 0;
 }
 

@@ -5,20 +5,20 @@ use native.Mathlib.Omega.{arith}
 use lib.ListN.{set}
 use borrow.Rule.Slice.PartMut.{putMid}
 use Rattle.entry.specs.Word.{linkOf, link-fits}
 use Rattle.pool.specs.State.{st}
 use Rattle.pool.specs.Refuse.{maxTables}
 use Rattle.pool.specs.Number.{numberOf, Lowest, lowest-found}
-use Rattle.pool.specs.Table.{rising, length-rising, taken, takeAt, take-none, take-some}
+use Rattle.table.specs.Table.{rising, length-rising, taken, takeAt, take-none, take-some}
 use Rattle.pool.specs.declared.Found.the-variants.{At}
-use Rattle.pool.proofs.Parts.{table-part}
+use Rattle.table.proofs.Parts.{table-part}
 use borrow.Author.Needs.{needs}
-use Rattle.pool.proofs.table.take_table.Statement.{statement}
-use Rattle.pool.proofs.table.take_table.Tie as tie
-use Rattle.pool.proofs.table.take_table.Reads as reads
-use Rattle.pool.proofs.table.take_table.Lts as lts
+use Rattle.table.proofs.take_table.Statement.{statement}
+use Rattle.table.proofs.take_table.Tie as tie
+use Rattle.table.proofs.take_table.Reads as reads
+use Rattle.table.proofs.take_table.Lts as lts
 use Rattle.entry.proofs.link.Reads as link-reads
 use Rattle.pool.proofs.ledger.lowest_free.Reads as lowest-free-reads
-use Rattle.pool.proofs.table.fill.Reads as fill-reads
+use Rattle.table.proofs.fill.Reads as fill-reads
 
 -- the table that was found
 lowest : (c : tie.After-known-told) → Lowest (c .before .before .before .before .before .before .before .args .ledger .now) (c .before .free .given .0 .0)

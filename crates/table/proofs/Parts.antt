@@ -6,7 +6,7 @@ use native.Mathlib.Omega.{arith}
 use lib.ListN.{length, replicate}
 use borrow.Rule.Slice.PartMut.{putMid, midOf}
 use Rattle.laws.specs.Part.{part-back, part-length}
-use Rattle.pool.specs.Table.{putTable, zeros, length-zeros}
+use Rattle.table.specs.Table.{putTable, zeros, length-zeros}
 
 -- any 512 words
 pub table-part : (k : ℕ) (w t : List ℕ) → length t ≡ 512 → putMid (512 * k) (512 * k + 512 - 512 * k) w t ≡ putTable k t w

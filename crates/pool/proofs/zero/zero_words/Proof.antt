@@ -5,10 +5,10 @@ use Prim.Native.Nat.{_≤_, _-_}
 use native.Mathlib.Omega.{arith}
 use lib.ListN.{length, drop, replicate, length-set}
 use Rattle.laws.specs.Part.{zeroed}
-use Rattle.pool.proofs.table.zero_words.Statement.{statement}
-use Rattle.pool.proofs.table.zero_words.Tie as tie
-use Rattle.pool.proofs.table.zero_words.Reads as reads
-use Rattle.pool.proofs.table.zero_words.Lts as lts
+use Rattle.pool.proofs.zero.zero_words.Statement.{statement}
+use Rattle.pool.proofs.zero.zero_words.Tie as tie
+use Rattle.pool.proofs.zero.zero_words.Reads as reads
+use Rattle.pool.proofs.zero.zero_words.Lts as lts
 
 abbrev Inv-loop : tie.InvT-loop
 Inv-loop words₀ i₀ words i = (i ≤ length words₀) × (length words ≡ length words₀) × (words ≡ replicate i 0 ++ drop i words₀)

@@ -6,11 +6,11 @@ use native.Mathlib.Omega.{arith}
 use lib.ListN.{length, set, take, drop, length-set}
 use Rattle.laws.specs.Size.{next-multiple}
 use Rattle.laws.specs.Part.{write-more, write-all}
-use Rattle.pool.specs.Table.{rising, length-rising, rising-at}
-use Rattle.pool.proofs.table.fill.Statement.{statement}
-use Rattle.pool.proofs.table.fill.Tie as tie
-use Rattle.pool.proofs.table.fill.Reads as reads
-use Rattle.pool.proofs.table.fill.Lts as lts
+use Rattle.table.specs.Table.{rising, length-rising, rising-at}
+use Rattle.table.proofs.fill.Statement.{statement}
+use Rattle.table.proofs.fill.Tie as tie
+use Rattle.table.proofs.fill.Reads as reads
+use Rattle.table.proofs.fill.Lts as lts
 
 abbrev Inv-loop : tie.InvT-loop
 Inv-loop table₀ first step word₀ i₀ table word i = (i ≤ 511) × (length table ≡ 512) × (table ≡ take i (rising 512 first step) ++ drop i table₀) × (word ≡ first + i * step)

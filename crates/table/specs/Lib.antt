@@ -1,0 +1,2 @@
+-- One table of the pool as lists.
+pub mod Table

@@ -2,41 +2,17 @@
 use mathlib.Core.List.{List, [], _∷_}
 use Prim.Native.Nat.{ℕ, zero, suc, _+_, _-_}
 use Rattle.entry.specs.Sub.{subOf}
-use Rattle.entry.specs.declared.Sub.{Sub}
-use Rattle.entry.specs.declared.Sub.the-variants.{Table, Outside, Leaf}
 use Rattle.region.specs.Region.{entryIndex}
 use Rattle.region.specs.Chunks.{chunks}
 use Rattle.region.specs.declared.MemoryRegion.{MemoryRegion}
 use Rattle.pool.specs.State.{St, tables, wordAt, storeAt}
-use Rattle.table.specs.Table.{takeTable, Taken, taken, freeSub, freeTree}
+use Rattle.table.specs.Table.{freeSub, freeTree}
 use Rattle.pool.specs.declared.Handle.{Handle}
-use Rattle.pool.specs.declared.Found.{Found}
-use Rattle.pool.specs.declared.Found.the-variants.{At, Nothing}
 use Rattle.rules.specs.declared.Map.{Map}
 use Rattle.rules.specs.declared.Rule.{Rule}
 use Rattle.rules.specs.declared.Rule.the-variants.{Write, Keep, Drop, Down}
-use Rattle.rules.specs.Rules.{ruleOf, fillOf, chunkMap}
-
--- a split takes a new table for slot i of table k and links it
-unfoldable pub splitEntry : Handle → ℕ → ℕ → ℕ → St → Taken
-splitEntry h level k i s = takeTable h (level + 1) k i (fillOf level (wordAt s k i)) s
-
--- the table below slot i of table k: the one that is there, or a new one ("splitting first if there is no table")
-unfoldable pub belowOf : Handle → ℕ → ℕ → ℕ → St → Sub → Taken
-belowOf h level k i s (Table j) = taken (At j) s
-belowOf h level k i s Outside = taken Nothing s
-belowOf h level k i s Leaf = splitEntry h level k i s
-
-unfoldable pub below : Handle → ℕ → ℕ → ℕ → St → Taken
-below h level k i s = belowOf h level k i s (subOf (h .base .0) (tables s) level (wordAt s k i))
-
--- on in the table that was found
-unfoldable pub inFound : (ℕ → St → St) → Found → St → St
-inFound rec (At j) s = rec j s
-inFound rec Nothing s = s
-
-unfoldable pub into : (ℕ → St → St) → Taken → St
-into rec t = inFound rec (t .table) (t .state)
+use Rattle.rules.specs.Rules.{ruleOf, chunkMap}
+use Rattle.split.specs.Split.{below, into}
 
 -- what the word w of a table at this level refers to is freed
 unfoldable pub dropEntry : Handle → ℕ → ℕ → St → St

@@ -1,34 +1,25 @@
 -- The loop over a table's chunks: one step after the other, and what each step needs. Leans on `Put`. Assumes nothing.
-use mathlib.Core.Path.{_≡_, refl, sym, ap, _∙_}
-use mathlib.Core.Bool.{true, false, cond}
-use mathlib.Core.List.{List, [], _∷_}
-use mathlib.Core.Logic.{_⊎_, inl, inr, ⊎-elim}
-use Prim.Native.Nat.{ℕ, zero, suc, _+_, _*_, _-_, _/_, _%_, _^_, _≤_, _<_}
-use native.Mathlib.Nat.{mul-assoc, mul-mod-left}
+use mathlib.Core.Path.{_≡_, sym, ap, _∙_}
+use mathlib.Core.Bool.{cond}
+use mathlib.Core.Logic.{_⊎_, ⊎-elim}
+use Prim.Native.Nat.{ℕ, suc, _+_, _-_, _≤_, _<_}
 use native.Mathlib.Omega.{arith}
 use lib.Dec.{ltb}
-use lib.ListN.{length}
-use borrow.Author.Tests.{lt-ltb, le-ltb}
-use Rattle.laws.specs.Size.{sizeAt, size-pages, size-pos, down, down-paged}
+use borrow.Author.Tests.{lt-ltb}
 use Rattle.laws.specs.Test.{le-or}
-use Rattle.entry.specs.Sub.{subOf, sub-below}
-use Rattle.entry.specs.declared.Sub.{Sub}
-use Rattle.entry.specs.declared.Sub.the-variants.{Table, Outside, Leaf}
-use Rattle.region.specs.Region.{region, entryLast, entryIndex, chunkEnd}
-use Rattle.region.specs.Chunks.{chunks, chunks-step, chunks-none, chunk-fits}
-use Rattle.region.specs.declared.MemoryRegion.{MemoryRegion}
-use Rattle.pool.specs.State.{St, st, tables, wordAt, storeAt}
-use Rattle.pool.specs.Number.{lowestFree, lowest-found}
-use Rattle.pool.specs.Refuse.{Shaped}
-use Rattle.table.specs.Table.{Taken, taken, takeTable, takeFound}
+use Rattle.region.specs.Region.{region, entryIndex, chunkEnd}
+use Rattle.region.specs.Chunks.{chunks, chunks-step, chunks-none}
+use Rattle.pool.specs.State.{St, st, wordAt, storeAt}
+use Rattle.table.specs.Table.{Taken, taken}
 use Rattle.pool.specs.declared.Handle.{Handle}
 use Rattle.pool.specs.declared.Found.{Found}
 use Rattle.pool.specs.declared.Found.the-variants.{At, Nothing}
 use Rattle.rules.specs.declared.Map.{Map}
 use Rattle.rules.specs.declared.Rule.{Rule}
 use Rattle.rules.specs.declared.Rule.the-variants.{Write, Keep, Drop, Down}
-use Rattle.rules.specs.Rules.{ruleOf, fillOf, chunkMap}
-use Rattle.map.specs.Put.{splitEntry, belowOf, below, inFound, into, dropEntry, byRule, mapChunk, eachOf, eachChunk, mapRange}
+use Rattle.rules.specs.Rules.{ruleOf, chunkMap}
+use Rattle.split.specs.Split.{below, inFound, into}
+use Rattle.map.specs.Put.{dropEntry, byRule, mapChunk, eachOf, eachChunk, mapRange}
 
 -- ---- one level down
 
@@ -103,31 +94,3 @@ module _ (h : Handle) (level k : ℕ) (m : Map) (s : St) {i : ℕ} (index : i �
     pub chunk-into : (j : ℕ) → f ≡ At j → level < 3 → mapRange (3 - (level + 1)) h j m t ≡ stepAt level h k m s
     unfolding inFound
     chunk-into j q l = rec-down level h j m t l ∙ ap (λ (x : Found). inFound (λ j u. recAt level h j m u) x t) (sym q) ∙ gone-down
-
--- the table that is found is one of the pool's
-take-table : (h : Handle) (level p i : ℕ) (t : List ℕ) (s : St) (f : Found) → takeFound h level p i t s f .table ≡ f
-unfolding takeFound
-take-table h level p i t s (At j) = refl
-take-table h level p i t s Nothing = refl
-
-inside : (h : Handle) (level k i : ℕ) (s : St) (j : ℕ) (x : Sub) → subOf (h .base .0) (tables s) level (wordAt s k i) ≡ x → belowOf h level k i s x .table ≡ At j → j < tables s
-unfolding belowOf splitEntry takeTable
-inside h level k i s j (Table y) q e = let same : y ≡ j = cc in sub-below (h .base .0) (tables s) level (wordAt s k i) j (q ∙ ap Table same)
-inside h level k i s j Outside q e = let z : _≡_ {A = ℕ} 0 1 = cc in absurd (omega arith)
-inside h level k i s j Leaf q e =
-    lowest-found (s .ledger) j (sym (take-table h (level + 1) k i (fillOf level (wordAt s k i)) s (lowestFree (s .ledger))) ∙ e) .inside
-
-pub below-inside : (h : Handle) (level k i : ℕ) (s : St) (j : ℕ) {f : Found} {t : St} → taken f t ≡ below h level k i s → f ≡ At j → j < tables s
-unfolding below
-below-inside h level k i s j found e = inside h level k i s j (subOf (h .base .0) (tables s) level (wordAt s k i)) refl (sym (ap (λ (x : Taken). x .table) found) ∙ e)
-
--- a shape is a matter of lengths
-pub shaped-keep : (h : Handle) (s t : St) → Shaped h s → length (t .words) ≡ length (s .words) → tables t ≡ tables s → Shaped h t
-shaped-keep h s t p w l = record {
-  some = omega (arith, p .some);
-  limit = omega (arith, p .limit);
-  sized = omega (arith, p .sized);
-  paged = p .paged;
-  ended = omega (arith, p .ended);
-  level = p .level;
-}

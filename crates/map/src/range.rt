@@ -1,4 +1,4 @@
-// Putting a map down in one table and the tables below it: split_entry and map_range of PageTableWithLevel.
+// Putting a map down in one table and the tables below it: map_range of PageTableWithLevel.
 use address::PhysicalAddress;
 use address::VirtualAddress;
 use entry::Sub;
@@ -8,59 +8,12 @@ use region::MemoryRegion;
 use rules::Map;
 use rules::Rule;
 ghost use mathlib.Core.Path.{_≡_};
-ghost use Prim.Native.Nat.{_+_, _*_, _-_, _%_, _≤_, _<_};
-ghost use lib.ListN.{length, getD};
+ghost use Prim.Native.Nat.{_*_, _-_, _≤_, _<_};
+ghost use lib.ListN.{length};
 ghost use Rattle.pool.specs.State.{st};
 ghost use Rattle.pool.specs.Refuse.{Shaped};
-ghost use Rattle.table.specs.Table.{taken};
-ghost use Rattle.map.specs.Put.{splitEntry, below, dropEntry, mapRange};
+ghost use Rattle.map.specs.Put.{dropEntry, mapRange};
 ghost use Rattle.rules.specs.Fit.{Fit};
-
-// A new table for an entry that is no table, filled with the old entry.
-pub fn split_entry(
-    words: &mut [u64],
-    ledger: &mut [u32],
-    handle: Handle,
-    level: usize,
-    k: usize,
-    i: usize,
-) -> Found
-    requires { ⌜ Shaped handle (st (now words) (now ledger)) × (level < 3) × (k < length (now ledger)) × (i < 512) × (getD (now words) (512 * k + i) 0 % 4 ≡ 3 → ⊥) ⌝ }
-    ensures { λ r. ⌜ taken r (st (now (words .exit)) (now (ledger .exit))) ≡ splitEntry handle level k i (st (now (words .entry)) (now (ledger .entry))) ⌝ }
-{
-    let word = words[512 * k + i];
-    let flags = entry::flags(word);
-    if word % 2 != 1 {
-        return table::take_table(words, ledger, handle, level + 1, k, i, flags, 0);
-    }
-    let address = (word & entry::ADDRESS_BITS) & !(address::granularity_at_level(level) - 1);
-    let first = rules::leaf_word(level + 1, address, flags);
-    let step = address::granularity_at_level(level + 1);
-    table::take_table(words, ledger, handle, level + 1, k, i, first, step)
-}
-
-// The table below a slot: the one that is there, or a new one.
-fn descend(
-    words: &mut [u64],
-    ledger: &mut [u32],
-    handle: Handle,
-    level: usize,
-    k: usize,
-    i: usize,
-) -> Found
-    requires { ⌜ Shaped handle (st (now words) (now ledger)) × (level < 3) × (k < length (now ledger)) × (i < 512) ⌝ }
-    ensures { λ r. ⌜ taken r (st (now (words .exit)) (now (ledger .exit))) ≡ below handle level k i (st (now (words .entry)) (now (ledger .entry))) ⌝ }
-{
-    let word = words[512 * k + i];
-    let kind = entry::subtable(handle.base, ledger.len(), level, word);
-    let Sub::Table(j) = kind else {
-        let Sub::Leaf = kind else {
-            return Found::Nothing;
-        };
-        return split_entry(words, ledger, handle, level, k, i);
-    };
-    Found::At(j)
-}
 
 // The subtree that a word referred to is freed.
 fn drop_entry(words: &mut [u64], ledger: &mut [u32], handle: Handle, level: usize, word: u64)
@@ -115,7 +68,7 @@ pub fn map_range(
                 drop_entry(words, ledger, handle, level, word);
             }
             Rule::Down => {
-                let under = descend(words, ledger, handle, level, k, i);
+                let under = split::descend(words, ledger, handle, level, k, i);
                 let Found::At(j) = under else {
                     continue;
                 };

@@ -4,6 +4,7 @@ use mathlib.Core.Bool.{Bool, true, false, cond, _&&_}
 use mathlib.Core.List.{List, [], _∷_}
 use mathlib.Core.Path.{_≡_}
 use Prim.Native.Nat.{ℕ, _+_, _*_, _%_, _^_, _≤_}
+use native.Mathlib.Omega.{arith}
 use lib.Dec.{T, eqb, leb, leb→le, le→leb, eqb→eq}
 use lib.ListN.{length}
 use Rattle.laws.specs.Test.{and-l, and-r, and-i, eq→eqb}
@@ -106,3 +107,14 @@ out a s = record { answer = a; state = s }
 -- a refusal leaves the state as it was
 abbrev pub refuse : Refusal → St → Out Outcome
 refuse r s = out (Refused r) s
+
+-- a shape is a matter of lengths
+pub shaped-keep : (h : Handle) (s t : St) → Shaped h s → length (t .words) ≡ length (s .words) → tables t ≡ tables s → Shaped h t
+shaped-keep h s t p w l = record {
+  some = omega (arith, p .some);
+  limit = omega (arith, p .limit);
+  sized = omega (arith, p .sized);
+  paged = p .paged;
+  ended = omega (arith, p .ended);
+  level = p .level;
+}

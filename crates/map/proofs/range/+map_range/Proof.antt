@@ -6,20 +6,21 @@ use lib.ListN.{length, length-set}
 use Rattle.region.specs.Region.{region, chunkEnd, entryIndex}
 use Rattle.region.specs.Chunks.{chunk-fits}
 use Rattle.pool.specs.State.{St, st, tables, wordAt}
-use Rattle.pool.specs.Refuse.{Shaped}
+use Rattle.pool.specs.Refuse.{Shaped, shaped-keep}
 use Rattle.rules.specs.declared.Map.{Map}
 use Rattle.rules.specs.Rules.{chunkMap}
 use Rattle.rules.specs.Fit.{Fit, chunk-paged, chunk-fit, rest-paged}
 use Rattle.rules.specs.Laws.{drop-high, down-high}
 use Rattle.map.specs.Put.{eachChunk}
-use Rattle.map.specs.Range.{stepAt, map-open, each-done, each-step, chunk-write, chunk-keep, chunk-drop, chunk-none, chunk-into, below-inside, shaped-keep}
+use Rattle.map.specs.Range.{stepAt, map-open, each-done, each-step, chunk-write, chunk-keep, chunk-drop, chunk-none, chunk-into}
+use Rattle.split.specs.Split.{below-inside}
 use Prim.Native.Nat.{ℕ, _<_}
 use borrow.Fn.Kinds.{In}
 use borrow.Fn.PlainCycle.{Measures, is, falls, and}
 use Rattle.map.proofs.range.map_range.Reads as map-range
 use Rattle.map.proofs.range.map_range.Kinds as map-range-kinds
 use Rattle.map.proofs.range.+map_range.Lts-map_range as map-range-lts
-use Rattle.map.proofs.range.descend.Reads as descend-reads
+use Rattle.split.proofs.descend.Reads as descend-reads
 use Rattle.map.proofs.range.drop_entry.Reads as drop-entry-reads
 use Rattle.rules.proofs.rule_of.Reads as rule-of-reads
 use Rattle.region.proofs.chunk_end.Reads as chunk-end-reads

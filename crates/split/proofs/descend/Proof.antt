@@ -2,47 +2,47 @@ use Rattle.entry.proofs.Tags.{is-outside}
 use mathlib.Core.Path.{sym, _∙_}
 use Rattle.pool.specs.State.{st}
 use Rattle.entry.specs.Sub.{sub-some}
-use Rattle.map.specs.Laws.{below-table, below-outside, below-split}
+use Rattle.split.specs.Split.{below-table, below-outside, below-split}
 use borrow.Author.Needs.{needs}
-use Rattle.map.proofs.range.descend.Statement.{statement}
-use Rattle.map.proofs.range.descend.Tie as tie
-use Rattle.map.proofs.range.descend.Reads as reads
-use Rattle.map.proofs.range.descend.Lts as lts
+use Rattle.split.proofs.descend.Statement.{statement}
+use Rattle.split.proofs.descend.Tie as tie
+use Rattle.split.proofs.descend.Reads as reads
+use Rattle.split.proofs.descend.Lts as lts
 use Rattle.entry.proofs.subtable.Reads as subtable-reads
-use Rattle.map.proofs.range.split_entry.Reads as split-entry-reads
+use Rattle.split.proofs.split_entry.Reads as split-entry-reads
 
--- src/range.rt:42:22
+-- src/lib.rt:42:22
 mul-word : tie.Need-mul-word
 mul-word c = search needs
 
--- src/range.rt:42:22
+-- src/lib.rt:42:22
 add-word : tie.Need-add-word
 add-word c = search needs
 
--- src/range.rt:42:16
+-- src/lib.rt:42:16
 mul-word-2 : tie.Need-mul-word-2
 mul-word-2 c = search needs
 
--- src/range.rt:42:16
+-- src/lib.rt:42:16
 slice-read-word : tie.Need-slice-read-word
 slice-read-word c = search needs
 
--- src/range.rt:43:9
+-- src/lib.rt:43:9
 subtable-requires : tie.Need-subtable-requires
 subtable-requires c κs = search needs
 
--- src/range.rt:44:20
+-- src/lib.rt:44:20
 enum-known-kind : tie.Need-enum-known-kind
 enum-known-kind c = c .match .keys1
 
 enum-told : tie.Need-enum-told
 enum-told c = search needs
 
--- src/range.rt:46:13
+-- src/lib.rt:46:13
 returns : tie.Need-returns
 returns c = let a = c .before .before .before .before .before .before .args in below-outside (a .handle) (a .level) (a .k) (a .i) (st (a .words .now) (a .ledger .now)) (c .before .before .subtable .ensures) (is-outside _ (c .before .match .keys2) (c .match2 .keys2))
 
--- src/range.rt:48:9
+-- src/lib.rt:48:9
 split-entry-requires : tie.Need-split-entry-requires
 split-entry-requires c κs =
     let a = c .before .before .before .before .before .before .before .before .before .args in
@@ -50,21 +50,21 @@ split-entry-requires c κs =
     let sub = c .before .before .before .before .before .subtable in
     (p .0, p .1, p .2, p .3, λ e. sub-some (a .handle .base .0) _ (a .level) _ (p .1) e (sym (sub .ensures) ∙ c .before .before .enum-told .given .1))
 
--- src/range.rt:48:9
+-- src/lib.rt:48:9
 same-length : tie.Need-same-length
 same-length c = search needs
 
--- src/range.rt:48:9
+-- src/lib.rt:48:9
 same-length-2 : tie.Need-same-length-2
 same-length-2 c = search needs
 
--- src/range.rt:48:9
+-- src/lib.rt:48:9
 returns-2 : tie.Need-returns-2
 returns-2 c =
     let a = c .before .before .before .before .before .before .before .before .before .before .before .before .before .before .args in
     c .before .before .before .before .split-entry .ensures ∙ below-split (a .handle) (a .level) (a .k) (a .i) (st (a .words .now) (a .ledger .now)) (c .before .before .before .before .before .before .before .before .before .before .subtable .ensures) (c .before .before .before .before .before .before .before .enum-told .given .1)
 
--- src/range.rt:38:1
+-- src/lib.rt:38:1
 returns-3 : tie.Need-returns-3
 returns-3 c = let a = c .before .before .before .before .before .before .before .args in below-table (a .handle) (a .level) (a .k) (a .i) (st (a .words .now) (a .ledger .now)) (c .before .before .before .subtable .ensures) _ (c .before .kind .given .1)
 

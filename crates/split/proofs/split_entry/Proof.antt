@@ -10,12 +10,12 @@ use Rattle.table.specs.Table.{rising}
 use Rattle.rules.specs.Rules.{leafWord}
 use Rattle.rules.specs.Fit.{Plain, flags-plain, leaf-most, steps-fit}
 use Rattle.rules.specs.Laws.{fill-hole, fill-leaf}
-use Rattle.map.specs.Laws.{split-is}
+use Rattle.split.specs.Split.{split-is}
 use borrow.Author.Needs.{needs}
-use Rattle.map.proofs.range.split_entry.Statement.{statement}
-use Rattle.map.proofs.range.split_entry.Tie as tie
-use Rattle.map.proofs.range.split_entry.Reads as reads
-use Rattle.map.proofs.range.split_entry.Lts as lts
+use Rattle.split.proofs.split_entry.Statement.{statement}
+use Rattle.split.proofs.split_entry.Tie as tie
+use Rattle.split.proofs.split_entry.Reads as reads
+use Rattle.split.proofs.split_entry.Lts as lts
 use Rattle.address.proofs.granularity_at_level.Reads as granularity-at-level-reads
 use Rattle.entry.proofs.flags.Reads as flags-reads
 use Rattle.rules.proofs.leaf_word.Reads as leaf-word-reads
@@ -36,43 +36,43 @@ cleared c =
 plain : (c : tie.After-granularity-at-level) → Plain (flagsOf (word c))
 plain c = let a = c .before .before .before .before .before .before .args in flags-plain (word c) (c .before .before .before .slice-known3 .given (512 * a .k + a .i) .fits) (c .before .if1 .left) (c .before .before .before .before .before .before .pre .4)
 
--- src/range.rt:26:22
+-- src/lib.rt:26:22
 mul-word : tie.Need-mul-word
 mul-word c = search needs
 
--- src/range.rt:26:22
+-- src/lib.rt:26:22
 add-word : tie.Need-add-word
 add-word c = search needs
 
--- src/range.rt:26:16
+-- src/lib.rt:26:16
 mul-word-2 : tie.Need-mul-word-2
 mul-word-2 c = search needs
 
--- src/range.rt:26:16
+-- src/lib.rt:26:16
 slice-read-word : tie.Need-slice-read-word
 slice-read-word c = search needs
 
--- src/range.rt:27:9
+-- src/lib.rt:27:9
 flags-requires : tie.Need-flags-requires
 flags-requires c κs = search needs
 
--- src/range.rt:29:57
+-- src/lib.rt:29:57
 add-take-table : tie.Need-add-take-table
 add-take-table c = search needs
 
--- src/range.rt:29:9
+-- src/lib.rt:29:9
 take-table-requires : tie.Need-take-table-requires
 take-table-requires c κs = search needs
 
--- src/range.rt:29:9
+-- src/lib.rt:29:9
 same-length : tie.Need-same-length
 same-length c = search needs
 
--- src/range.rt:29:9
+-- src/lib.rt:29:9
 same-length-2 : tie.Need-same-length-2
 same-length-2 c = search needs
 
--- src/range.rt:29:9
+-- src/lib.rt:29:9
 returns : tie.Need-returns
 returns c =
     let a = c .before .before .before .before .before .before .before .before .before .before .before .before .args in
@@ -81,19 +81,19 @@ returns c =
     c .before .before .before .before .take-table .ensures
     ∙ split-is (a .handle) (a .level) (a .k) (a .i) s _ (ap (λ (f : ℕ). rising 512 f 0) (c .before .before .before .before .before .before .before .before .flags .ensures) ∙ fill-hole (a .level) w (c .before .before .before .before .before .before .before .if1 .taken))
 
--- src/range.rt:31:52
+-- src/lib.rt:31:52
 granularity-at-level-requires : tie.Need-granularity-at-level-requires
 granularity-at-level-requires c κs = search needs
 
--- src/range.rt:31:52
+-- src/lib.rt:31:52
 sub-address : tie.Need-sub-address
 sub-address c = omega (arith, c .granularity-at-level .ensures, size-pos (c .before .before .before .before .before .before .args .level))
 
--- src/range.rt:32:34
+-- src/lib.rt:32:34
 add-leaf-word : tie.Need-add-leaf-word
 add-leaf-word c = search needs
 
--- src/range.rt:32:9
+-- src/lib.rt:32:9
 leaf-word-requires : tie.Need-leaf-word-requires
 leaf-word-requires c κs =
     let a = c .before .before .before .before .before .before .args in
@@ -102,19 +102,19 @@ leaf-word-requires c κs =
     let low = size-low (a .level) in
     (ap (λ (x : ℕ). x % 4096) at ∙ down-paged (a .level) (addressOf (word c)), omega arith, subst⁻¹ Plain (c .before .before .flags .ensures) (plain c))
 
--- src/range.rt:33:46
+-- src/lib.rt:33:46
 add-granularity-at-level : tie.Need-add-granularity-at-level
 add-granularity-at-level c = search needs
 
--- src/range.rt:33:9
+-- src/lib.rt:33:9
 granularity-at-level-requires-2 : tie.Need-granularity-at-level-requires-2
 granularity-at-level-requires-2 c κs = search needs
 
--- src/range.rt:34:46
+-- src/lib.rt:34:46
 add-take-table-2 : tie.Need-add-take-table-2
 add-take-table-2 c = search needs
 
--- src/range.rt:34:5
+-- src/lib.rt:34:5
 take-table-requires-2 : tie.Need-take-table-requires-2
 take-table-requires-2 c κs =
     let a = c .before .before .before .before .before .before .before .before .before .before .args in
@@ -133,15 +133,15 @@ take-table-requires-2 c κs =
     = first ∙ ap₂ (leafWord (a .level + 1)) at (c .before .before .before .before .before .before .flags .ensures) in
     (c .before .before .before .before .before .before .before .before .before .before .pre .0, omega arith, c .before .before .before .before .before .before .before .before .before .before .pre .2, c .before .before .before .before .before .before .before .before .before .before .pre .3, omega arith)
 
--- src/range.rt:22:1
+-- src/lib.rt:22:1
 same-length-3 : tie.Need-same-length-3
 same-length-3 c = search needs
 
--- src/range.rt:22:1
+-- src/lib.rt:22:1
 same-length-4 : tie.Need-same-length-4
 same-length-4 c = search needs
 
--- src/range.rt:22:1
+-- src/lib.rt:22:1
 returns-2 : tie.Need-returns-2
 returns-2 c =
     let a = c .before .before .before .before .before .before .before .before .before .before .before .before .before .before .before .args in

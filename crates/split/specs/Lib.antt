@@ -1,0 +1,2 @@
+-- An entry split, and the table below a slot.
+pub mod Split

@@ -1,0 +1,2 @@
+-- The demands of document 01 on a map, of the call itself.
+pub mod Leaf

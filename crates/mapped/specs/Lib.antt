@@ -1,2 +1,3 @@
 -- The demands of document 01 on a map, of the call itself.
 pub mod Leaf
+pub mod Rule

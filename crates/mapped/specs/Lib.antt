@@ -1,3 +1,4 @@
 -- The demands of document 01 on a map, of the call itself.
 pub mod Leaf
 pub mod Rule
+pub mod Stand

@@ -2,3 +2,4 @@
 pub mod Leaf
 pub mod Rule
 pub mod Stand
+pub mod Moves

@@ -3,3 +3,4 @@ pub mod Leaf
 pub mod Rule
 pub mod Stand
 pub mod Moves
+pub mod Pieces

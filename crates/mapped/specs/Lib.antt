@@ -4,3 +4,4 @@ pub mod Rule
 pub mod Stand
 pub mod Moves
 pub mod Pieces
+pub mod Chunk

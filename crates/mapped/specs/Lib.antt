@@ -5,3 +5,4 @@ pub mod Stand
 pub mod Moves
 pub mod Pieces
 pub mod Chunk
+pub mod Range

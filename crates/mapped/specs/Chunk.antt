@@ -41,11 +41,11 @@ use Rattle.mapped.specs.Moves.{slotShows, Ready, Slotted, Worked, kept, 
 use Rattle.mapped.specs.Pieces.{doneTo, takes, doneTable, takesTable, done-keep, done-write, done-down, takes-down, Area, piece-area}
 
 -- what opening a leaf or a table takes
-takes-split : (m : Map) (left w : ℕ) → saysOf m (suc left) (leaf w) ≡ goDown → takes m (suc left) (leaf w) ≡ 1 + takesTable m left (fillTree left w)
+pub takes-split : (m : Map) (left w : ℕ) → saysOf m (suc left) (leaf w) ≡ goDown → takes m (suc left) (leaf w) ≡ 1 + takesTable m left (fillTree left w)
 unfolding splits opened
 takes-split m left w e = takes-down m left (leaf w) e
 
-takes-enter : (m : Map) (left : ℕ) (f : ℕ → Tree) → saysOf m (suc left) (node f) ≡ goDown → takes m (suc left) (node f) ≡ takesTable m left (node f)
+pub takes-enter : (m : Map) (left : ℕ) (f : ℕ → Tree) → saysOf m (suc left) (node f) ≡ goDown → takes m (suc left) (node f) ≡ takesTable m left (node f)
 unfolding splits opened
 takes-enter m left f e = let z : takes m (suc left) (node f) ≡ 0 + takesTable m left (node f) = takes-down m left (node f) e in omega arith
 

@@ -6,3 +6,4 @@ pub mod Moves
 pub mod Pieces
 pub mod Chunk
 pub mod Range
+pub mod Need

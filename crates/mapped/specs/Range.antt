@@ -34,7 +34,7 @@ use Rattle.mapped.specs.Pieces.{doneTo, takes, doneTable, takesTable, Ar
 use Rattle.mapped.specs.Chunk.{Works, ChunkWorks, page-works, chunk-works}
 
 -- a table's slot
-slot-of : (h : Handle) (s : St) (left k i : ℕ) → slotIn (treeFrom h s left k) i ≡ slotShows h s left k i
+pub slot-of : (h : Handle) (s : St) (left k i : ℕ) → slotIn (treeFrom h s left k) i ≡ slotShows h s left k i
 unfolding slotIn
 slot-of h s left k i = ap (λ (t : Tree). slotIn t i) (treeAt-node (childOf (h .base .0)) left (slotWord s) k)
 

@@ -7,3 +7,4 @@ pub mod Pieces
 pub mod Chunk
 pub mod Range
 pub mod Need
+pub mod Asked

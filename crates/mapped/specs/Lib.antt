@@ -8,3 +8,4 @@ pub mod Chunk
 pub mod Range
 pub mod Need
 pub mod Asked
+pub mod Shown

@@ -5,6 +5,7 @@ pub mod Stand
 pub mod Moves
 pub mod Pieces
 pub mod Chunk
+pub mod Loop
 pub mod Range
 pub mod Need
 pub mod Asked

@@ -38,7 +38,7 @@ use Rattle.mapped.specs.Rule.{saysOf, LeafRule, keeps, writes, splits, T
 use Rattle.mapped.specs.Moves.{slotShows, Ready, entered-ready}
 use Rattle.mapped.specs.Pieces.{takes, takesTable}
 use Rattle.mapped.specs.Chunk.{takes-split, takes-enter}
-use Rattle.mapped.specs.Range.{slot-of}
+use Rattle.mapped.specs.Loop.{slot-of}
 
 -- nothing is taken unless the rule goes down
 takes-keep : (m : Map) (left : ℕ) (t : Tree) → saysOf m left t ≡ keep → takes m left t ≡ 0

@@ -106,11 +106,13 @@ module _ (left q : ℕ) (m : Map) (low : left ≤ 3) where
           let z : ℕ = chunkEnd (3 - left) s e in
           let c = cut left q s e p low h I in
           let fewer : met (3 - left) (chunkEnd (3 - left) s e) e ≡ n = let j = met-step (3 - left) s e h in omega arith in
-          subst (Pieces left q m a p) (sym (chunks-step (3 - left) s e h))
-          (record {
-            from = from c (le-or a i);
-            piece = record { inside = c .chunk; some = c .more; room = omega (arith, c .within, c .more) };
-          }, ih z fewer (c .rest) (omega (arith, c .within, c .more)) (λ j l more. next z c j more (eq-or j i) l))
+          subst (Pieces left q m a p) (sym (chunks-step (3 - left) s e h)) (
+            record {
+              from = from c (le-or a i);
+              piece = record { inside = c .chunk; some = c .more; room = omega (arith, c .within, c .more) };
+            },
+            ih z fewer (c .rest) (omega (arith, c .within, c .more)) (λ j l more. next z c j more (eq-or j i) l),
+          )
         where
           from : {z : ℕ} → Cut left q s e p z i → (a ≤ i) ⊎ (i < a) → a ≤ i
           from c (inl l) = l

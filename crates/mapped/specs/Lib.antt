@@ -4,6 +4,7 @@ pub mod Rule
 pub mod Stand
 pub mod Moves
 pub mod Pieces
+pub mod Down
 pub mod Chunk
 pub mod Loop
 pub mod Range

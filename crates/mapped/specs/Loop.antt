@@ -15,7 +15,7 @@ use Rattle.pool.specs.Number.{free}
 use Rattle.pool.specs.declared.Handle.{Handle}
 use Rattle.rules.specs.declared.Map.{Map}
 use Rattle.rules.specs.Rules.{chunkMap}
-use Rattle.forest.specs.Tree.{Tree, leaf, node, node-ext, treeAt-node}
+use Rattle.forest.specs.Tree.{Tree, node-ext, treeAt-node}
 use Rattle.forest.specs.Frame.{change-slot}
 use Rattle.forest.specs.Place.{at-over, over-trans}
 use Rattle.forest.specs.Move.{work-skip}

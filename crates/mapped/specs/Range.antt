@@ -1,6 +1,6 @@
 -- A map of a table of a sound pool does on lists what the document's loop does on the table's tree, with no more tables than that needs: no split meets a
 -- full pool. Assumes nothing.
-use mathlib.Core.Path.{_≡_, refl, sym, ap, subst, _∙_}
+use mathlib.Core.Path.{_≡_, refl, ap, subst, _∙_}
 use mathlib.Core.List.{List, [], _∷_}
 use Prim.Native.Nat.{ℕ, zero, suc, _+_, _-_, _≤_}
 use native.Mathlib.Omega.{arith}

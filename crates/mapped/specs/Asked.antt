@@ -1,11 +1,10 @@
 -- What refusals 2 to 7 leave of a map: flags from the set, whole pages inside the root's span, frames below 2^48. Assumes nothing.
 use mathlib.Core.Path.{_≡_, refl, sym, ap, _∙_}
-use mathlib.Core.Bool.{true, false, cond}
 use mathlib.Core.Logic.{_⊎_, inl, inr}
-use Prim.Native.Nat.{ℕ, zero, suc, _+_, _*_, _-_, _/_, _%_, _^_, _≤_, _<_}
+use Prim.Native.Nat.{ℕ, suc, _+_, _*_, _-_, _/_, _%_, _^_, _≤_, _<_}
 use native.Mathlib.Omega.{arith}
 use lib.Bits.{bitAnd, and-le-r}
-use lib.Dec.{T, eqb, eqb→eq, ltb}
+use lib.Dec.{eqb→eq, ltb}
 use borrow.Author.Tests.{ltb-true}
 use Rattle.laws.specs.Bit.{Sub}
 use Rattle.laws.specs.Size.{sizeAt, size-high, up}
@@ -21,10 +20,10 @@ use Rattle.pool.specs.declared.VaRange.the-variants.{Lower, Upper}
 use Rattle.pool.specs.declared.Refusal.{Refusal}
 use Rattle.pool.specs.declared.Outcome.{Outcome}
 use Rattle.pool.specs.declared.Outcome.the-variants.{Accepted, Refused}
-use Rattle.verify.specs.Verify.{inRange, verify, lower-start, lower-end, upper-start, verify-forwards}
+use Rattle.verify.specs.Verify.{inRange, lower-start, lower-end, upper-start, verify-forwards}
 use Rattle.rules.specs.declared.Map.{Map}
 use Rattle.rules.specs.Fit.{Fit}
-use Rattle.map.specs.Ask.{asked, verifyMap, Passes, passes, asked-fit}
+use Rattle.map.specs.Ask.{asked, verifyMap, passes, asked-fit}
 use Rattle.tree.specs.Page.{span, span-size, span-suc, first, in-from}
 use Rattle.tree.specs.Root.{lowerRoot, upperRoot, upper-span}
 use Rattle.mapped.specs.Leaf.{set-below}

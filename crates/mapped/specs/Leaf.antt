@@ -2,13 +2,12 @@
 -- Assumes nothing.
 use mathlib.Core.Path.{_≡_, refl, sym, ap, subst, _∙_}
 use Prim.Native.Nat.{ℕ, _+_, _-_, _/_, _%_, _^_, _≤_, _<_}
-use native.Mathlib.Nat.{ℕ-set}
 use native.Mathlib.Omega.{arith}
 use lib.Dec.{T, lit<}
 use Rattle.laws.specs.Bit.{Sub}
 use Rattle.laws.specs.Size.{sizeAt}
 use Rattle.entry.specs.Word.{addressOf, el1Flags}
-use Rattle.pool.specs.State.{St}
+use Rattle.pool.specs.State.{St, wordAt}
 use Rattle.pool.specs.Number.{levelOf, rootNumber}
 use Rattle.pool.specs.Sound.{flagSet, plainFlags, leafb}
 use Rattle.pool.specs.declared.Handle.{Handle}
@@ -19,7 +18,7 @@ use Rattle.sound.specs.Codec.{Placed, codecOf, childOf, slotWord, treeFrom, roo
 use Rattle.sound.specs.Generic.{leaf-says, pool-sound}
 use Rattle.sound.specs.Hanging.{root-left}
 use Rattle.sound.specs.Step.{Stands}
-use Rattle.tree.specs.Page.{span, span-size, entry-rest}
+use Rattle.tree.specs.Page.{span, entry-rest}
 use Rattle.tree.specs.Word.{frameOf, plain, address-frame}
 use Rattle.tree.specs.Fine.{Fine, sound-fine}
 use Rattle.tree.specs.Shown.{FineTree, FineTable}
@@ -60,6 +59,10 @@ module _ {h : Handle} (placed : Placed h) {s : St} (P : SoundPool h s) where
 
   pub root-fine : FineTable (3 - h .level) (rootTree h s)
   root-fine = table-fine (3 - h .level) 0 root-used (root-left placed P)
+
+-- the flags of a leaf are from the set
+pub leaf-from : {h : Handle} {s : St} → SoundPool h s → (k i : ℕ) → i < 512 → InUse s k → ¬ (TableWord (levelAt s k) (wordAt s k i)) → Sub (plain (wordAt s k i)) (flagSet h)
+leaf-from {h} {s} P k i inside used old = subst (λ (x : ℕ). Sub x (flagSet h)) (plain-is (wordAt s k i)) (P .leaves k i inside used old .flags)
 
 -- ---- a fine word with flags from the set may stand
 

@@ -77,7 +77,7 @@ child-fill left w a low =
     let up : 3 - suc left + 1 ≡ 3 - left = omega arith in
     ap (λ (l : ℕ). getD (fillOf (3 - suc left) w) (entryIndex l a) 0) up ∙ fill-at left w low (entryIndex (3 - left) a) (slot-below (3 - left) a)
 
-slot-fill : (left w i : ℕ) → i < 512 → trees.slotIn (fillTree left w) i ≡ leaf (fillWord left w i)
+pub slot-fill : (left w i : ℕ) → i < 512 → trees.slotIn (fillTree left w) i ≡ leaf (fillWord left w i)
 unfolding trees.slotIn
 slot-fill left w i inside = ap (λ (t : Tree). trees.slotIn t i) (fill-node left w) ∙ fill-slot left w i inside
 

@@ -2,3 +2,4 @@
 pub mod Word
 pub mod Passes
 pub mod Range
+pub mod Splits

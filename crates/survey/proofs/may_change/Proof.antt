@@ -1,6 +1,5 @@
 use mathlib.Core.Path.{_∙_}
 use Rattle.survey.specs.House.{change-is}
-use borrow.Author.Needs.{needs}
 use Rattle.survey.proofs.may_change.Statement.{statement}
 use Rattle.survey.proofs.may_change.Tie as tie
 use Rattle.survey.proofs.may_change.Reads as reads

@@ -1,6 +1,5 @@
 use mathlib.Core.Path.{_≡_, sym, _∙_}
 use Rattle.survey.specs.Find.{whole-is, entry-whole, entry-part}
-use borrow.Author.Needs.{needs}
 use Rattle.survey.proofs.survey_entry.Statement.{statement}
 use Rattle.survey.proofs.survey_entry.Tie as tie
 use Rattle.survey.proofs.survey_entry.Reads as reads

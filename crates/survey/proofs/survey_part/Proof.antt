@@ -7,7 +7,6 @@ use Rattle.entry.specs.declared.Kind.the-variants.{Table, Block, Page, Hole}
 use Rattle.entry.proofs.Kind.{enum}
 use Rattle.survey.specs.Find.{part-block, part-other}
 use Rattle.survey.specs.Room.{splits-most}
-use borrow.Author.Needs.{needs}
 use Rattle.survey.proofs.survey_part.Statement.{statement}
 use Rattle.survey.proofs.survey_part.Tie as tie
 use Rattle.survey.proofs.survey_part.Reads as reads

@@ -1,7 +1,6 @@
 use mathlib.Core.Path.{sym, _∙_}
 use native.Mathlib.Omega.{arith}
 use Rattle.survey.specs.Find.{whole-same, whole-allowed, whole-breach}
-use borrow.Author.Needs.{needs}
 use Rattle.survey.proofs.survey_whole.Statement.{statement}
 use Rattle.survey.proofs.survey_whole.Tie as tie
 use Rattle.survey.proofs.survey_whole.Reads as reads

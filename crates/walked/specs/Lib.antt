@@ -1,2 +1,3 @@
--- The Arm walk of a sound pool.
+-- The Arm walk of a pool and of its tree.
+pub mod Any
 pub mod Walked

@@ -10,7 +10,7 @@ use Rattle.pool.specs.State.{St}
 use Rattle.forest.specs.Tree.{Tree, treeAt}
 use Rattle.forest.specs.Walk.{Ends, walkWord, walkTree, walk-tree}
 use Rattle.sound.specs.Codec.{slotWord, word-in}
-use Rattle.walk.specs.Arm.{bits, index, tableAddress, fetch, Reached, at, away, says, reachFrom, reach, walk}
+use Rattle.walk.specs.Arm.{index, tableAddress, fetch, Reached, at, away, says, reachFrom, reach, walk}
 use Rattle.walk.specs.Walk.{low-bits, slot-below}
 
 -- the slots that the walk of an address takes, by the levels left

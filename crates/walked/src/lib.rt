@@ -1,1 +1,1 @@
-// Theorems alone: the Arm walk of a pool is the walk of its tree, and in a sound pool it stays in the pool.
+// Theorems alone: the Arm walk of a pool is the walk of its tree; list and look up of a sound pool are that walk.

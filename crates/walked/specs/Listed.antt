@@ -54,15 +54,17 @@ module _ {h : Handle} {s : St} {start end : ℕ} {list : List ℕ} {count : ℕ}
       ls : List Line
       ls = linesOf h s (rounded start end)
 
-      written : shaped h s ≡ true → verifyEnds h start end ≡ Accepted → soundb h s ≡ true → listLines ls list ≡ listing (Lines count) after → Accepts h s start end list count after
+      written : shaped h s ≡ true → verifyEnds h start end ≡ Accepted → soundb h s ≡ true → listLines ls list ≡ listing (Lines count) after
+          → Accepts h s start end list count after
       written shape region sound q = byBool (leb (4 * length ls) (length list))
-          (λ f.
-          let o : listing (Lines (length ls)) (put ls list) ≡ listing (Lines count) after = rw f at q in
+          (λ room.
+          let o : listing (Lines (length ls)) (put ls list) ≡ listing (Lines count) after = rw room at q in
           let c : _≡_ {A = Listed} (Lines (length ls)) (Lines count) = ap (λ x. x .answer) o in
-          record { shape = shape; region = region; sound = sound; counted = cc (c); written = ap (λ x. x .list) o })
-          (λ f. absurd (never (rw f at q)))
+          record { shape = shape; region = region; sound = sound; counted = cc c; written = ap (λ x. x .list) o })
+          (λ room. absurd (never (rw room at q)))
 
-      verified : shaped h s ≡ true → (x : Outcome) → verifyEnds h start end ≡ x → listVerified h s (rounded start end) list x ≡ listing (Lines count) after → Accepts h s start end list count after
+      verified : shaped h s ≡ true → (x : Outcome) → verifyEnds h start end ≡ x
+          → listVerified h s (rounded start end) list x ≡ listing (Lines count) after → Accepts h s start end list count after
       verified shape (Refused r) region q = absurd (never q)
       verified shape Accepted region q = byBool (soundb h s) (λ sound. written shape region sound (rw sound at q)) (λ sound. absurd (never (rw sound at q)))
 
@@ -116,11 +118,17 @@ module _ (h : Handle) (s : St) (start end : ℕ) where
 
       walks : (l : Line) → r .start .0 ≤ l .start → l .end ≤ r .end .0 → Meets (h .base .0) (tables s) (s .words) (3 - h .level) 0 l → Walks h s l
       walks l from to m = record {
-        meets = λ a b u. m .meets a b u (stays a);
-        looks = λ a b u. looks-up h s (accepted .shape) a (inSpan a (omega arith) (omega arith)) (m .meets a b u (stays a));
-        alike = λ a b f t g u.
-            entry-alike h s (accepted .shape) a b (inSpan a (omega arith) (omega arith)) (inSpan b (omega arith) (omega arith)) (m .meets a f t (stays a)) (m .entry a f t ∙ sym (m .entry b g u));
+        meets = ends;
+        looks = λ a low high. looks-up h s (accepted .shape) a (known a low high) (ends a low high);
+        alike = λ a b low high low′ high′.
+            entry-alike h s (accepted .shape) a b (known a low high) (known b low′ high′) (ends a low high) (m .entry a low high ∙ sym (m .entry b low′ high′));
       }
+        where
+          known : (a : ℕ) → l .start ≤ a → a < l .end → spanned (h .range) (h .level) a ≡ true
+          known a low high = inSpan a (omega arith) (omega arith)
+
+          ends : (a : ℕ) → l .start ≤ a → a < l .end → reach (h .base .0) (tables s) (s .words) a (h .level) ≡ at (l .level) (l .word)
+          ends a low high = m .meets a low high (stays a)
 
   -- THE LIST IS THE WALK: an accepted list gives the count of the lines, writes them at the front of what was lent, and they show what the walk meets
   pub list-walks : (list : List ℕ) {after : List ℕ} {count : ℕ} → listCall h s start end list ≡ listing (Lines count) after

@@ -1,6 +1,6 @@
 -- Document 01, "Putting down a map", Compact: "from the leaves up: it frees each table other than the root whose words are all zero, zeroes its slot, and so
 -- also frees a table that this empties". One entry is done when its subtree is, and its table is freed if that leaves it empty. Assumes nothing.
-use mathlib.Core.Path.{_≡_, refl, sym, ap, _∙_}
+use mathlib.Core.Path.{_≡_, sym, ap, _∙_}
 use mathlib.Core.Bool.{Bool, true, false, cond, _&&_}
 use mathlib.Core.List.{List, [], _∷_}
 use Prim.Native.Nat.{ℕ, zero, suc, _+_, _*_, _-_, _≤_, _<_}
@@ -15,7 +15,7 @@ use Rattle.laws.specs.Slot.{iter}
 use Rattle.entry.specs.Sub.{subOf}
 use Rattle.entry.specs.declared.Sub.{Sub}
 use Rattle.entry.specs.declared.Sub.the-variants.{Table, Outside, Leaf}
-use Rattle.pool.specs.State.{St, st, tables, wordAt, storeAt}
+use Rattle.pool.specs.State.{St, tables, wordAt, storeAt}
 use Rattle.pool.specs.declared.Handle.{Handle}
 use Rattle.table.specs.Table.{clear}
 

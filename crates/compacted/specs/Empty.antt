@@ -1,14 +1,13 @@
 -- The test of a table's words as a list is the test of its slots. Assumes nothing.
-use mathlib.Core.Path.{_≡_, sym, ap, _∙_}
-use mathlib.Core.Bool.{Bool, true, false, _&&_}
+use mathlib.Core.Path.{_≡_, sym, _∙_}
+use mathlib.Core.Bool.{false}
 use mathlib.Core.List.{List, [], _∷_}
-use mathlib.Core.Logic.{_⊎_, inl, inr}
-use Prim.Native.Nat.{ℕ, zero, suc, _+_, _*_, _≤_, _<_}
+use Prim.Native.Nat.{ℕ, zero, suc, _*_, _<_}
 use native.Mathlib.Omega.{arith}
 use lib.Dec.{T, eqb, eqb→eq}
-use lib.ListN.{length, getD, take, drop}
+use lib.ListN.{length, getD, drop}
 use lib.Seq.{getD-take, getD-drop}
-use Rattle.laws.specs.Part.{partOf, length-part}
+use Rattle.laws.specs.Part.{length-part}
 use Rattle.laws.specs.Test.{and-l, and-r, and-i, eq→eqb, same-test, allBelow, all-to, all-of}
 use Rattle.pool.specs.State.{St, wordAt}
 use Rattle.forest.specs.Compact.{emptyWords}
@@ -45,3 +44,9 @@ module _ (s : St) (k : ℕ) (inside : Inside s k) where
       (λ t. at-zero (tableWords s k) (λ i l.
       let low : i < 512 = omega (arith, part-long) in
       part-at i low ∙ eqb→eq (slotWord s k i) 0 (all-to 512 (λ i. eqb (slotWord s k i) 0) t i low)))
+
+  -- a table that fails the test has a word that is not 0
+  pub not-all-zero : allZero (tableWords s k) ≡ false → ¬ ((i : ℕ) → i < 512 → wordAt s k i ≡ 0)
+  not-all-zero e zeros =
+      let t : T (allZero (tableWords s k)) = at-zero (tableWords s k) (λ i l. let low : i < 512 = omega (arith, part-long) in part-at i low ∙ word-in s k i low ∙ zeros i low) in
+      rw e at t

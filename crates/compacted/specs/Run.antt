@@ -7,7 +7,7 @@ use lib.ListN.{length-set}
 use Rattle.laws.specs.Slot.{iter}
 use Rattle.laws.specs.Test.{byBool, eq-or}
 use Rattle.entry.specs.Sub.{sub-leaf, sub-link}
-use Rattle.pool.specs.State.{St, tables, wordAt, numberAt, storeAt}
+use Rattle.pool.specs.State.{St, tables, wordAt, storeAt}
 use Rattle.pool.specs.Refuse.{Shaped, shaped-keep}
 use Rattle.pool.specs.declared.Handle.{Handle}
 use Rattle.table.specs.Table.{clear}

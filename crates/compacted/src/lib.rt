@@ -1,1 +1,1 @@
-// Theorems alone: in a sound pool the Arm walk stays in the pool, and is the walk of its tree.
+// Theorems alone: what compact does to a sound pool is what it does to its tree.

@@ -37,6 +37,7 @@ module _ (h : Handle) (s : St) where
     unfolding compactCall
     call-unsound e = rw (shape, e)
 
-    pub call-compacted : soundb h s ≡ true → {t : St} {count : ℕ} → t ≡ compactTable (3 - h .level) h 0 s → count ≡ used (t .ledger) → out (Tables count) t ≡ compactCall h s
+    pub call-compacted : soundb h s ≡ true → {t : St} {count : ℕ} → t ≡ compactTable (3 - h .level) h 0 s → count ≡ used (t .ledger)
+        → out (Tables count) t ≡ compactCall h s
     unfolding compactCall compactSound compacted
     call-compacted sound e q = rw (shape, sound, q) (ap (λ (x : St). out (Tables (used (x .ledger))) x) e)

@@ -153,8 +153,10 @@ module _ {h : Handle} (placed : Placed h) where
 
     ran : (s : St) (k n : ℕ) → n ≤ 512 → Ready h s (suc left) k → Ran s (iter (step k) n s) k n
     unfolding iter
-    ran s k zero small R =
-        record { runs = runs-zero (pool-sound placed (R .pool)) (suc left) k (λ i. squashed (slotTree C (view s) (suc left) k i)); size = record { same-tables = refl; same-words = refl } }
+    ran s k zero small R = record {
+      runs = runs-zero (pool-sound placed (R .pool)) (suc left) k (λ i. squashed (slotTree C (view s) (suc left) k i));
+      size = record { same-tables = refl; same-words = refl };
+    }
     ran s k (suc n) small R =
         let before = ran s k n (omega arith) R in
         let own = before .runs .over .ledger k (R .used) below-self in

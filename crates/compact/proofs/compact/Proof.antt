@@ -23,7 +23,8 @@ shape : (c : tie.Else1) → let a = c .before .before .before .before .before .b
 shape c = let a = c .before .before .before .before .before .before .args in shaped-says (a .handle) (st (a .words .now) (a .ledger .now)) (rw (good c) tt)
 
 -- past the second the pool is sound
-sound : (c : tie.Else2) → let a = c .before .before .before .before .before .before .before .before .before .before .args in soundb (a .handle) (st (a .words .now) (a .ledger .now)) ≡ true
+sound : (c : tie.Else2) → let a = c .before .before .before .before .before .before .before .before .before .before .args in
+    soundb (a .handle) (st (a .words .now) (a .ledger .now)) ≡ true
 sound c = sym (c .before .is-sound .ensures) ∙ not-false _ (c .if2 .left)
 
 -- src/lib.rt:69:9
@@ -82,9 +83,12 @@ same-length-6 c = omega arith
 -- src/lib.rt:66:1
 returns-3 : tie.Need-returns-3
 returns-3 c =
-    let a = c .before .before .before .before .before .before .before .before .before .before .before .before .before .before .before .before .before .before .before .args in
-    let done = c .before .before .before .before .before .before .compact-subtables in
-    call-compacted (a .handle) (st (a .words .now) (a .ledger .now)) (good (c .before .before .before .before .before .before .before .before .before .before .before .before .before)) (sound (c .before .before .before .before .before .before .before .before .before)) (done .ensures) (c .count-used .ensures)
+    let done = c .before .before .before .before .before .before in
+    let tested = done .before .before .before in
+    let a = tested .before .before .before .before .before .before .before .before .before .before .args in
+    call-compacted (a .handle) (st (a .words .now) (a .ledger .now)) (good (tested .before .before .before .before)) (sound tested)
+    (done .compact-subtables .ensures)
+    (c .count-used .ensures)
 
 pub compact-spec : {M : Type 1} → statement M
 compact-spec =

@@ -14,7 +14,8 @@ use Rattle.compact.proofs.is_empty.Reads as is-empty-reads
 use Rattle.table.proofs.clear_table.Reads as clear-table-reads
 
 -- the answer is of table j's words
-whole : (c : tie.After-is-empty) → let a = c .before .before .before .before .before .args in c .is-empty .result ≡ allZero (tableWords (st (a .words .now) (a .ledger .now)) (a .j))
+whole : (c : tie.After-is-empty) → let a = c .before .before .before .before .before .args in
+    c .is-empty .result ≡ allZero (tableWords (st (a .words .now) (a .ledger .now)) (a .j))
 whole c =
     let a = c .before .before .before .before .before .args in
     let size : 512 * a .j + 512 - 512 * a .j ≡ 512 = omega arith in
@@ -95,9 +96,10 @@ same-length-3 c = omega arith
 -- src/lib.rt:31:1
 returns-2 : tie.Need-returns-2
 returns-2 c =
-    let a = c .before .before .before .before .before .before .before .before .before .before .before .before .before .args in
+    let test = c .before .before .before .before .before .before .before in
+    let a = test .before .before .before .before .before .before .args in
     c .before .before .before .before .clear-table .ensures
-    ∙ release-freed (a .k) (a .i) (a .j) (st (a .words .now) (a .ledger .now)) (sym (whole (c .before .before .before .before .before .before .before .before)) ∙ not-false _ (c .before .before .before .before .before .before .before .if1 .left))
+    ∙ release-freed (a .k) (a .i) (a .j) (st (a .words .now) (a .ledger .now)) (sym (whole (test .before)) ∙ not-false _ (test .if1 .left))
 
 pub release-empty-spec : {M : Type 1} → statement M
 release-empty-spec =

@@ -9,3 +9,4 @@ pub mod Range
 pub mod Need
 pub mod Asked
 pub mod Shown
+pub mod Call

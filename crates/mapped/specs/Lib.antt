@@ -10,3 +10,4 @@ pub mod Need
 pub mod Asked
 pub mod Shown
 pub mod Call
+pub mod Mapped

@@ -1,0 +1,199 @@
+-- DEMANDS 2 AND 3, of the call itself: `callOf` is the definition `mapCall` that the contract of the public call cites, `walkOf` the Arm walk of the words, and nothing
+-- is asked of the pool but that the call is accepted. `shown` is what "as before" compares: kind of answer, frame, flags. Assumes nothing.
+use mathlib.Core.Path.{_≡_, refl, sym, ap, subst, _∙_}
+use mathlib.Core.Bool.{true, false}
+use mathlib.Core.List.{[], _∷_}
+use mathlib.Core.Logic.{_↔_, _⊎_, inl, inr}
+use Prim.Native.Nat.{ℕ, zero, suc, _+_, _*_, _-_, _/_, _%_, _^_, _≤_, _<_}
+use native.Mathlib.Omega.{arith}
+use lib.Dec.{ltb}
+use borrow.Author.Tests.{ltb-true}
+use Rattle.laws.specs.Size.{sizeAt, size-high, down}
+use Rattle.laws.specs.Test.{le-or}
+use Rattle.region.specs.Region.{rounded}
+use Rattle.pool.specs.State.{St, tables}
+use Rattle.pool.specs.Number.{used, free, used-free}
+use Rattle.pool.specs.Refuse.{out}
+use Rattle.pool.specs.declared.Handle.{Handle}
+use Rattle.pool.specs.declared.VaRange.{VaRange}
+use Rattle.pool.specs.declared.VaRange.the-variants.{Lower, Upper}
+use Rattle.pool.specs.declared.Refusal.the-variants.{WantOfRoom}
+use Rattle.pool.specs.declared.Counted.the-variants as counted
+use Rattle.map.specs.Ask.{asked}
+use Rattle.map.specs.Call.{refused}
+use Rattle.forest.specs.Tree.{Tree}
+use Rattle.forest.specs.Nodes.{nodes}
+use Rattle.sound.specs.Clauses.{SoundPool}
+use Rattle.sound.specs.Codec.{shaped-placed, rootTree}
+use Rattle.sound.specs.Hanging.{used-tree}
+use Rattle.walk.specs.LookUp.{spanned, span-lower, span-upper}
+use Rattle.walked.specs.Walked.{walk-of-tree}
+use Rattle.tree.specs.Page.{In, in-of}
+use Rattle.tree.specs.Word.{valid, valid-of, valid-none}
+use Rattle.tree.specs.Walk.{Seen, mapped as seenMapped, hole as seenHole, seen}
+use Rattle.tree.specs.Root.{lower-span, upper-span, mapTree}
+use Rattle.tree.specs.Commute.{Apart as ApartPages}
+use Rattle.tree.specs.Demands.{OfRegion, region-mapped, region-holes, others-as-before, same-room, either-order, tables-after, valid-map-frees-none}
+use Rattle.mapped.specs.Leaf.{root-fine}
+use Rattle.mapped.specs.Asked.{rootOf}
+use Rattle.mapped.specs.Shown.{Shown, mapped, hole, shown, walkOf, inBytes, walk-shown}
+use Rattle.mapped.specs.Call.{Call, callOf, Maps, Passed, leftOf, rootIn, pagesOf, treeAfter, madeBy, freedBy, stateAfter, not-tables, area, given, call-full, call-maps, call-passed, call-room, call-count, call-shaped, call-sound, call-tree, call-tables}
+
+-- the address lies in the call's region: "start is rounded down and end up to 4096"
+pub record InRegion (c : Call) (va : ℕ) : Type 0 where
+  pub from : rounded (c .start) (c .end) .start .0 ≤ va
+  pub below : va < rounded (c .start) (c .end) .end .0
+
+-- the address lies in the root's span
+pub record InSpan (h : Handle) (va : ℕ) : Type 0 where
+  pub spans : spanned (h .range) (h .level) va ≡ true
+  pub word : va < 2 ^ 64
+
+-- the frame that the call gives to the page of an address
+abbrev pub frameFor : Call → ℕ → ℕ
+frameFor c va = c .frame + (down va 4096 - rounded (c .start) (c .end) .start .0)
+
+-- ---- in pages
+
+module _ {h : Handle} {c : Call} {s : St} (passed : Passed h c s) (va : ℕ) where
+  region-page : InRegion c va → OfRegion (pagesOf c .from) (pagesOf c .upto) (va / 4096)
+  unfolding asked
+  region-page at =
+      let I = area passed .inside in
+      record { from = omega (arith, at .from, I .startPage); below = omega (arith, at .below, I .endPage) }
+
+  page-region : OfRegion (pagesOf c .from) (pagesOf c .upto) (va / 4096) → InRegion c va
+  unfolding asked
+  page-region of =
+      let I = area passed .inside in
+      record { from = omega (arith, of .from, I .startPage); below = omega (arith, of .below, I .endPage) }
+
+  region-spans : InRegion c va → In (suc (leftOf h)) (rootIn h) (va / 4096)
+  region-spans at =
+      let I = area passed .inside in
+      let of = region-page at in
+      in-of (suc (leftOf h)) (rootIn h) (va / 4096) (omega (arith, I .low, of .from)) (omega (arith, I .high, of .below))
+
+  frame-is : InRegion c va → (pagesOf c .frame + (va / 4096 - pagesOf c .from)) * 4096 ≡ frameFor c va
+  unfolding asked down
+  frame-is at =
+      let I = area passed .inside in
+      let a = I .startPage in
+      let b = I .framePage in
+      let f = at .from in
+      omega arith
+
+root-spans : (range : VaRange) (left va : ℕ) → left ≤ 3 → spanned range (3 - left) va ≡ true → va < 2 ^ 64 → In (suc left) (rootOf range left) (va / 4096)
+unfolding rootOf
+root-spans Lower left va low e word = lower-span left va low (ltb-true va (512 * sizeAt (3 - left)) (span-lower Lower (3 - left) va (sizeAt (3 - left)) refl refl ∙ e))
+root-spans Upper left va low e word =
+    let h = size-high (3 - left) in
+    let l = ltb-true (18446744073709551615 - 512 * sizeAt (3 - left)) va (span-upper Upper (3 - left) va (sizeAt (3 - left)) refl refl ∙ e) in
+    upper-span left va low (omega arith) word
+
+span-spans : (h : Handle) (va : ℕ) → h .level ≤ 3 → InSpan h va → In (suc (leftOf h)) (rootIn h) (va / 4096)
+span-spans h va low at =
+    let e : 3 - (3 - h .level) ≡ h .level = omega arith in
+    root-spans (h .range) (leftOf h) va (omega arith) (ap (λ (l : ℕ). spanned (h .range) l va) e ∙ at .spans) (at .word)
+
+-- ---- DEMAND 2
+
+module _ {h : Handle} {c : Call} {s s′ : St} {n : ℕ} (maps : Maps h c s n s′) where
+  -- the pool is sound afterwards;
+  pub map-keeps-sound : SoundPool h s′
+  map-keeps-sound = call-sound maps
+
+  -- what is shown afterwards
+  after-shown : (va : ℕ) → shown (walkOf h s′ va) ≡ inBytes (seen (suc (leftOf h)) (treeAfter h c s) (va / 4096))
+  after-shown va = walk-shown (call-shaped maps) (call-sound maps) va ∙ ap (λ (t : Tree). inBytes (seen (suc (leftOf h)) t (va / 4096))) (call-tree maps)
+
+  module _ (va : ℕ) where
+    -- each page of the region walks to its frame and flags;
+    pub map-region-walks : InRegion c va → c .flags % 2 ≡ 1 → shown (walkOf h s′ va) ≡ mapped (c .flags) (frameFor c va)
+    unfolding asked inBytes
+    map-region-walks at v =
+        let passed = call-passed maps in
+        after-shown va
+        ∙ ap inBytes (region-mapped (leftOf h) (rootIn h) (rootTree h s) (root-fine (shaped-placed (passed .shape)) (passed .pool)) (pagesOf c) (given passed) (va / 4096)
+        (region-spans passed va at) (region-page passed va at) (valid-of (c .flags) v))
+        ∙ ap (mapped (c .flags)) (frame-is passed va at)
+
+    -- without VALID it is a hole with the call's flags;
+    pub map-region-holes : InRegion c va → c .flags % 2 ≡ 0 → shown (walkOf h s′ va) ≡ hole (c .flags)
+    unfolding asked inBytes
+    map-region-holes at v =
+        let passed = call-passed maps in
+        after-shown va
+        ∙ ap inBytes (region-holes (leftOf h) (rootIn h) (rootTree h s) (root-fine (shaped-placed (passed .shape)) (passed .pool)) (pagesOf c) (given passed) (va / 4096)
+        (region-spans passed va at) (region-page passed va at) (valid-none (c .flags) v))
+
+    -- every other address of the span walks as before;
+    pub map-elsewhere-as-before : InSpan h va → ¬ (InRegion c va) → shown (walkOf h s′ va) ≡ shown (walkOf h s va)
+    map-elsewhere-as-before at other =
+        let passed = call-passed maps in
+        after-shown va
+        ∙ ap inBytes (others-as-before (leftOf h) (rootIn h) (rootTree h s) (root-fine (shaped-placed (passed .shape)) (passed .pool)) (pagesOf c) (given passed) (va / 4096)
+        (span-spans h va (passed .shape .level) at) (λ of. other (page-region passed va of)))
+        ∙ sym (walk-shown (passed .shape) (passed .pool) va)
+
+  -- the answer is the tables in use afterwards: those before, with those made, less those freed
+  pub map-tables-in-use : (n ≡ used (s′ .ledger)) × (used (s′ .ledger) + freedBy h c s ≡ used (s .ledger) + madeBy h c s)
+  map-tables-in-use =
+      let passed = call-passed maps in
+      let before = used-tree (passed .shape) (passed .pool) in
+      let after = used-tree (call-shaped maps) (call-sound maps) in
+      let tree = ap nodes (call-tree maps) in
+      let count = tables-after (leftOf h) (rootIn h) (rootTree h s) (pagesOf c) in
+      (call-count maps, omega arith)
+
+  -- a VALID map frees none
+  pub map-valid-frees-none : c .flags % 2 ≡ 1 → freedBy h c s ≡ 0
+  unfolding asked
+  map-valid-frees-none v = valid-map-frees-none (leftOf h) (rootIn h) (rootTree h s) (pagesOf c) (valid-of (c .flags) v)
+
+-- where none of refusals 1 to 8 is given, 9 is given exactly when more tables are made than are free at entry,
+module _ {h : Handle} {c : Call} {s : St} (passed : Passed h c s) where
+  pub map-refused-9-exactly : (callOf h c s ≡ refused (WantOfRoom (madeBy h c s) (free (s .ledger))) s) ↔ (free (s .ledger) < madeBy h c s)
+  map-refused-9-exactly = (λ full. go full (le-or (madeBy h c s) (free (s .ledger))), call-full passed)
+    where
+      go : callOf h c s ≡ refused (WantOfRoom (madeBy h c s) (free (s .ledger))) s → (madeBy h c s ≤ free (s .ledger)) ⊎ (free (s .ledger) < madeBy h c s)
+          → free (s .ledger) < madeBy h c s
+      go full (inl room) = absurd (not-tables (sym full) (call-maps passed room))
+      go full (inr more) = more
+
+  -- and otherwise the call is accepted
+  pub map-accepted-exactly : ((n : ℕ) × (s′ : St) × Maps h c s n s′) ↔ (madeBy h c s ≤ free (s .ledger))
+  map-accepted-exactly = (λ at. call-room (at .2), λ room. (used (stateAfter h c s .ledger), stateAfter h c s, record { answers = call-maps passed room }))
+
+-- ---- DEMAND 3
+
+-- two calls one after the other are both accepted: the second answers n and leaves s′
+pub record InTurn (h : Handle) (c d : Call) (s : St) (n : ℕ) (s′ : St) : Type 0 where
+  pub count : ℕ
+  pub between : St
+  pub first : Maps h c s count between
+  pub second : Maps h d between n s′
+
+-- two VALID calls whose regions share no page
+pub record Apart (c d : Call) : Type 0 where
+  pub valid-first : c .flags % 2 ≡ 1
+  pub valid-second : d .flags % 2 ≡ 1
+  pub no-page : (va : ℕ) → InRegion c va → ¬ (InRegion d va)
+
+pub apart-flip : {c d : Call} → Apart c d → Apart d c
+apart-flip apart = record { valid-first = apart .valid-second; valid-second = apart .valid-first; no-page = λ va at of. apart .no-page va of at }
+
+module _ {h : Handle} {c d : Call} {s s′ : St} {n : ℕ} (apart : Apart c d) (turn : InTurn h c d s n s′) where
+  passed-first : Passed h c s
+  passed-first = call-passed (turn .first)
+
+  -- the second call alone is left by refusals 1 to 8
+  passed-second : Passed h d s
+  passed-second = record { shape = passed-first .shape; asks = call-passed (turn .second) .asks; pool = passed-first .pool }
+
+  pages-apart : ApartPages (pagesOf c) (pagesOf d)
+  pages-apart page a b e f =
+      let same : page * 4096 / 4096 ≡ page = omega arith in
+      apart .no-page (page * 4096)
+      (page-region passed-first (page * 4096) (record { from = omega arith; below = omega arith }))
+      (page-region passed-second (page * 4096) (record { from = omega arith; below = omega arith }))

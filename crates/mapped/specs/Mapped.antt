@@ -23,15 +23,18 @@ use Rattle.map.specs.Ask.{asked}
 use Rattle.map.specs.Call.{refused}
 use Rattle.forest.specs.Tree.{Tree}
 use Rattle.forest.specs.Nodes.{nodes}
+use Rattle.forest.specs.Walk.{walkTree}
 use Rattle.sound.specs.Clauses.{SoundPool}
 use Rattle.sound.specs.Codec.{shaped-placed, rootTree}
 use Rattle.sound.specs.Hanging.{used-tree}
 use Rattle.walk.specs.LookUp.{spanned, span-lower, span-upper}
-use Rattle.walked.specs.Walked.{walk-of-tree}
+use Rattle.walk.specs.Arm.{says}
+use Rattle.walked.specs.Walked.{slotsOf, met, walk-of-tree}
 use Rattle.tree.specs.Page.{In, in-of}
 use Rattle.tree.specs.Word.{valid, valid-of, valid-none}
 use Rattle.tree.specs.Walk.{Seen, mapped as seenMapped, hole as seenHole, seen}
-use Rattle.tree.specs.Root.{lower-span, upper-span, mapTree}
+use Rattle.tree.specs.Root.{lower-span, upper-span, mapTree, mapMade}
+use Rattle.tree.specs.Order.{Room}
 use Rattle.tree.specs.Commute.{Apart as ApartPages}
 use Rattle.tree.specs.Demands.{OfRegion, region-mapped, region-holes, others-as-before, same-room, either-order, tables-after, valid-map-frees-none}
 use Rattle.mapped.specs.Leaf.{root-fine}
@@ -197,3 +200,76 @@ module _ {h : Handle} {c d : Call} {s s′ : St} {n : ℕ} (apart : Apart c d) (
       apart .no-page (page * 4096)
       (page-region passed-first (page * 4096) (record { from = omega arith; below = omega arith }))
       (page-region passed-second (page * 4096) (record { from = omega arith; below = omega arith }))
+
+  -- the tree after both
+  turn-tree : rootTree h s′ ≡ mapTree (leftOf h) (rootIn h) (pagesOf d) (mapTree (leftOf h) (rootIn h) (pagesOf c) (rootTree h s))
+  turn-tree = call-tree (turn .second) ∙ ap (mapTree (leftOf h) (rootIn h) (pagesOf d)) (call-tree (turn .first))
+
+  turn-room : Room (leftOf h) (rootIn h) (tables s) (pagesOf c ∷ pagesOf d ∷ []) (rootTree h s)
+  turn-room =
+      let one = call-room (turn .first) in
+      let two : mapMade (leftOf h) (rootIn h) (pagesOf d) (treeAfter h c s) ≤ free (turn .between .ledger) =
+      subst (λ (t : Tree). mapMade (leftOf h) (rootIn h) (pagesOf d) t ≤ free (turn .between .ledger)) (call-tree (turn .first)) (call-room (turn .second)) in
+      let before = used-tree (passed-first .shape) (passed-first .pool) in
+      let after = used-tree (call-shaped (turn .first)) (call-sound (turn .first)) ∙ ap nodes (call-tree (turn .first)) in
+      let a = used-free (s .ledger) in
+      let b = used-free (turn .between .ledger) in
+      let e = call-tables (turn .first) in
+      (omega arith, (omega arith, tt))
+
+  other-room : Room (leftOf h) (rootIn h) (tables s) (pagesOf d ∷ pagesOf c ∷ []) (rootTree h s)
+  unfolding asked
+  other-room =
+      let before = used-tree (passed-first .shape) (passed-first .pool) in
+      let a = used-free (s .ledger) in
+      same-room (leftOf h) (rootIn h) (rootTree h s) (root-fine (shaped-placed (passed-first .shape)) (passed-first .pool)) (pagesOf c) (pagesOf d) pages-apart
+      (valid-of (c .flags) (apart .valid-first)) (valid-of (d .flags) (apart .valid-second)) (given passed-first) (given passed-second) (tables s) (omega arith) .0 turn-room
+
+  other-first : Maps h d s (used (stateAfter h d s .ledger)) (stateAfter h d s)
+  other-first =
+      let before = used-tree (passed-first .shape) (passed-first .pool) in
+      let a = used-free (s .ledger) in
+      record { answers = call-maps passed-second (omega (arith, other-room .0)) }
+
+  pub other-turn : (k : ℕ) × (t : St) × InTurn h d c s k t
+  other-turn =
+      let s₁ : St = stateAfter h d s in
+      let passed : Passed h c s₁ = record { shape = call-shaped other-first; asks = passed-first .asks; pool = call-sound other-first } in
+      let before = used-tree (call-shaped other-first) (call-sound other-first) ∙ ap nodes (call-tree other-first) in
+      let a = used-free (s₁ .ledger) in
+      let e = call-tables other-first in
+      let enough : mapMade (leftOf h) (rootIn h) (pagesOf c) (treeAfter h d s) ≤ free (s₁ .ledger) = omega (arith, other-room .1 .0) in
+      let room : madeBy h c s₁ ≤ free (s₁ .ledger) =
+      subst (λ (t : Tree). mapMade (leftOf h) (rootIn h) (pagesOf c) t ≤ free (s₁ .ledger)) (sym (call-tree other-first)) enough in
+      (used (stateAfter h c s₁ .ledger), stateAfter h c s₁, record { count = _; between = s₁; first = other-first; second = record { answers = call-maps passed room } })
+
+-- both are accepted in one order exactly when both are in the other;
+pub maps-commute-accepted : {h : Handle} {c d : Call} {s : St} → Apart c d → ((n : ℕ) × (s′ : St) × InTurn h c d s n s′) ↔ ((n : ℕ) × (s′ : St) × InTurn h d c s n s′)
+maps-commute-accepted apart = (λ at. other-turn apart (at .2), λ at. other-turn (apart-flip apart) (at .2))
+
+module _ {h : Handle} {c d : Call} {s s′ t′ : St} {n k : ℕ} (apart : Apart c d) (turn : InTurn h c d s n s′) (turn′ : InTurn h d c s k t′) where
+  same-tree : rootTree h s′ ≡ rootTree h t′
+  unfolding asked
+  same-tree =
+      let passed = passed-first apart turn in
+      turn-tree apart turn
+      ∙ either-order (leftOf h) (rootIn h) (rootTree h s) (root-fine (shaped-placed (passed .shape)) (passed .pool)) (pagesOf c) (pagesOf d) (pages-apart apart turn)
+      (valid-of (c .flags) (apart .valid-first)) (valid-of (d .flags) (apart .valid-second))
+      ∙ sym (turn-tree (apart-flip apart) turn′)
+
+  -- then every address has the same walk answer, level included,
+  pub maps-commute-walks : (va : ℕ) → walkOf h s′ va ≡ walkOf h t′ va
+  maps-commute-walks va =
+      walk-of-tree (call-shaped (turn .second)) (call-sound (turn .second)) va
+      ∙ ap (λ (t : Tree). says va (met (walkTree (slotsOf va) (suc (leftOf h)) t))) same-tree
+      ∙ sym (walk-of-tree (call-shaped (turn′ .second)) (call-sound (turn′ .second)) va)
+
+  -- and equally many tables are in use
+  pub maps-commute-tables : (n ≡ k) × (used (s′ .ledger) ≡ used (t′ .ledger))
+  maps-commute-tables =
+      let a = used-tree (call-shaped (turn .second)) (call-sound (turn .second)) in
+      let b = used-tree (call-shaped (turn′ .second)) (call-sound (turn′ .second)) in
+      let e = ap nodes same-tree in
+      let p = call-count (turn .second) in
+      let q = call-count (turn′ .second) in
+      (omega arith, omega arith)

@@ -26,15 +26,11 @@ use Rattle.rules.specs.declared.Map.{Map}
 use Rattle.rules.specs.Fit.{Fit}
 use Rattle.map.specs.Ask.{asked, verifyMap, Passes, passes, asked-fit}
 use Rattle.tree.specs.Page.{span, span-size, span-suc, first, in-from}
-use Rattle.tree.specs.Root.{lowerRoot, upperRoot, upper-span}
+use Rattle.tree.specs.Root.{upperRoot, upper-span}
+use Rattle.mapped.specs.Terms.{rootOf}
 use Rattle.mapped.specs.Leaf.{set-below}
 use Rattle.mapped.specs.Stand.{Allowed}
 use Rattle.mapped.specs.Pieces.{Area}
-
--- the root's number in each range, where its entries have `left` levels below
-unfoldable pub rootOf : VaRange → ℕ → ℕ
-rootOf Lower left = lowerRoot
-rootOf Upper left = upperRoot left
 
 no-refusal : {x : Outcome} {r : Refusal} → Refused r ≡ x → x ≡ Accepted → ⊥
 no-refusal e q = let z : _≡_ {A = ℕ} 0 1 = cc in omega arith

@@ -20,7 +20,7 @@ use Rattle.pool.specs.declared.Counted.the-variants as counted
 use Rattle.rules.specs.declared.Map.{Map}
 use Rattle.need.specs.Needed.{needed}
 use Rattle.map.specs.Put.{mapRange}
-use Rattle.map.specs.Ask.{asked, verifyMap}
+use Rattle.map.specs.Ask.{verifyMap}
 use Rattle.map.specs.Call.{refused, mapCall, mapSound, putDown, sound-not, sound-full, sound-mapped, put-down, call-misshaped, call-refused, call-asked}
 use Rattle.forest.specs.Tree.{Tree, node, treeAt-node}
 use Rattle.sound.specs.Clauses.{SoundPool}
@@ -28,66 +28,18 @@ use Rattle.sound.specs.Codec.{shaped-placed, childOf, slotWord, rootTree}
 use Rattle.sound.specs.Decide.{decide-sound, sound-decide}
 use Rattle.sound.specs.Generic.{sound-pool}
 use Rattle.sound.specs.Hanging.{root-left}
-use Rattle.tree.specs.Rules.{Map as TreeMap, Given}
-use Rattle.tree.specs.Chunks.{inPages}
+use Rattle.tree.specs.Rules.{Given}
 use Rattle.tree.specs.Document.{document-is}
 use Rattle.tree.specs.Needed.{document-needs}
-use Rattle.tree.specs.Root.{mapTree, mapMade, mapFreed}
+use Rattle.tree.specs.Root.{mapTree, mapMade}
+use Rattle.mapped.specs.Terms.{Call, callOf, Maps, askedOf, Passed, leftOf, rootIn, pagesOf, treeAfter, madeBy}
 use Rattle.mapped.specs.Leaf.{root-used}
 use Rattle.mapped.specs.Stand.{Allowed}
 use Rattle.mapped.specs.Moves.{slotShows, Ready, Worked}
 use Rattle.mapped.specs.Pieces.{doneTable, takesTable, Area}
 use Rattle.mapped.specs.Range.{range-works}
 use Rattle.mapped.specs.Need.{needed-is}
-use Rattle.mapped.specs.Asked.{rootOf, asked-allowed, asked-area}
-
--- the numbers that a call of map gives
-pub record Call : Type 0 where
-  pub start : ℕ
-  pub end : ℕ
-  pub frame : ℕ
-  pub flags : ℕ
-  pub constraints : ℕ
-
--- answer and state, as the public contract has them
-abbrev pub callOf : Handle → Call → St → Out Counted
-callOf h c s = mapCall h (c .start) (c .end) (c .frame) (c .flags) (c .constraints) s
-
-abbrev pub askedOf : Call → Map
-askedOf c = asked (c .start) (c .end) (c .frame) (c .flags) (c .constraints)
-
--- the call is accepted: it answers n and leaves s′
-pub record Maps (h : Handle) (c : Call) (s : St) (n : ℕ) (s′ : St) : Type 0 where
-  pub answers : callOf h c s ≡ out (counted.Tables n) s′
-
--- refusals 1 to 8 are not given
-pub record Passed (h : Handle) (c : Call) (s : St) : Type 0 where
-  pub shape : Shaped h s
-  pub asks : verifyMap h (c .end) (askedOf c) ≡ Accepted
-  pub pool : SoundPool h s
-
--- ---- on the root's tree
-
-abbrev pub leftOf : Handle → ℕ
-leftOf h = 3 - h .level
-
--- the root's number in its range
-abbrev pub rootIn : Handle → ℕ
-rootIn h = rootOf (h .range) (leftOf h)
-
--- the call in pages
-abbrev pub pagesOf : Call → TreeMap
-pagesOf c = let m = askedOf c in inPages (m .flags) (m .blocks) (m .region .start .0) (m .region .end .0) (m .frame .0)
-
--- the tree after the map, the tables that it makes, those that it frees
-abbrev pub treeAfter : Handle → Call → St → Tree
-treeAfter h c s = mapTree (leftOf h) (rootIn h) (pagesOf c) (rootTree h s)
-
-abbrev pub madeBy : Handle → Call → St → ℕ
-madeBy h c s = mapMade (leftOf h) (rootIn h) (pagesOf c) (rootTree h s)
-
-abbrev pub freedBy : Handle → Call → St → ℕ
-freedBy h c s = mapFreed (leftOf h) (rootIn h) (pagesOf c) (rootTree h s)
+use Rattle.mapped.specs.Asked.{asked-allowed, asked-area}
 
 -- the state that an accepted call leaves
 abbrev pub stateAfter : Handle → Call → St → St

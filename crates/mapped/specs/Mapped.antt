@@ -37,24 +37,10 @@ use Rattle.tree.specs.Root.{lower-span, upper-span, mapTree, mapMade}
 use Rattle.tree.specs.Order.{Room}
 use Rattle.tree.specs.Commute.{Apart as ApartPages}
 use Rattle.tree.specs.Demands.{OfRegion, region-mapped, region-holes, others-as-before, same-room, either-order, tables-after, valid-map-frees-none}
+use Rattle.mapped.specs.Terms.{Call, callOf, Maps, Passed, InRegion, frameFor, InTurn, Apart, walkOf, Shown, mapped, hole, shown, InSpan, leftOf, rootOf, rootIn, pagesOf, treeAfter, madeBy, freedBy}
 use Rattle.mapped.specs.Leaf.{root-fine}
-use Rattle.mapped.specs.Asked.{rootOf}
-use Rattle.mapped.specs.Shown.{Shown, mapped, hole, shown, walkOf, inBytes, walk-shown}
-use Rattle.mapped.specs.Call.{Call, callOf, Maps, Passed, leftOf, rootIn, pagesOf, treeAfter, madeBy, freedBy, stateAfter, not-tables, area, given, call-full, call-maps, call-passed, call-room, call-count, call-shaped, call-sound, call-tree, call-tables}
-
--- the address lies in the call's region: "start is rounded down and end up to 4096"
-pub record InRegion (c : Call) (va : ℕ) : Type 0 where
-  pub from : rounded (c .start) (c .end) .start .0 ≤ va
-  pub below : va < rounded (c .start) (c .end) .end .0
-
--- the address lies in the root's span
-pub record InSpan (h : Handle) (va : ℕ) : Type 0 where
-  pub spans : spanned (h .range) (h .level) va ≡ true
-  pub word : va < 2 ^ 64
-
--- the frame that the call gives to the page of an address
-abbrev pub frameFor : Call → ℕ → ℕ
-frameFor c va = c .frame + (down va 4096 - rounded (c .start) (c .end) .start .0)
+use Rattle.mapped.specs.Shown.{inBytes, walk-shown}
+use Rattle.mapped.specs.Call.{stateAfter, not-tables, area, given, call-full, call-maps, call-passed, call-room, call-count, call-shaped, call-sound, call-tree, call-tables}
 
 -- ---- in pages
 
@@ -169,19 +155,6 @@ module _ {h : Handle} {c : Call} {s : St} (passed : Passed h c s) where
   map-accepted-exactly = (λ at. call-room (at .2), λ room. (used (stateAfter h c s .ledger), stateAfter h c s, record { answers = call-maps passed room }))
 
 -- ---- DEMAND 3
-
--- two calls one after the other are both accepted: the second answers n and leaves s′
-pub record InTurn (h : Handle) (c d : Call) (s : St) (n : ℕ) (s′ : St) : Type 0 where
-  pub count : ℕ
-  pub between : St
-  pub first : Maps h c s count between
-  pub second : Maps h d between n s′
-
--- two VALID calls whose regions share no page
-pub record Apart (c d : Call) : Type 0 where
-  pub valid-first : c .flags % 2 ≡ 1
-  pub valid-second : d .flags % 2 ≡ 1
-  pub no-page : (va : ℕ) → InRegion c va → ¬ (InRegion d va)
 
 pub apart-flip : {c d : Call} → Apart c d → Apart d c
 apart-flip apart = record { valid-first = apart .valid-second; valid-second = apart .valid-first; no-page = λ va at of. apart .no-page va of at }

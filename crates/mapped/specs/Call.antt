@@ -5,10 +5,11 @@ use mathlib.Core.Bool.{true, false}
 use mathlib.Core.Logic.{_⊎_, inl, inr}
 use Prim.Native.Nat.{ℕ, zero, suc, _+_, _-_, _/_, _%_, _^_, _≤_, _<_}
 use native.Mathlib.Omega.{arith}
+use lib.Dec.{lit<}
 use Rattle.laws.specs.Test.{byBool, is-true, le-or}
 use Rattle.pool.specs.State.{St, tables}
 use Rattle.pool.specs.Number.{used, free}
-use Rattle.pool.specs.Refuse.{shaped, Shaped, shaped-says, says-shaped, shaped-keep, Out, out}
+use Rattle.pool.specs.Refuse.{number, shaped, Shaped, shaped-says, says-shaped, shaped-keep, Out, out}
 use Rattle.pool.specs.Sound.{soundb}
 use Rattle.pool.specs.declared.Handle.{Handle}
 use Rattle.pool.specs.declared.Refusal.{Refusal}
@@ -39,7 +40,7 @@ use Rattle.mapped.specs.Moves.{slotShows, Ready, Worked}
 use Rattle.mapped.specs.Pieces.{doneTable, takesTable, Area}
 use Rattle.mapped.specs.Range.{range-works}
 use Rattle.mapped.specs.Need.{needed-is}
-use Rattle.mapped.specs.Asked.{asked-allowed, asked-area}
+use Rattle.mapped.specs.Asked.{asked-allowed, asked-area, Early, asked-early}
 
 -- the state that an accepted call leaves
 abbrev pub stateAfter : Handle → Call → St → St
@@ -124,25 +125,51 @@ module _ {h : Handle} {c : Call} {s : St} (passed : Passed h c s) where
   pub call-maps : madeBy h c s ≤ free (s .ledger) → callOf h c s ≡ out (counted.Tables (used (stateAfter h c s .ledger))) (stateAfter h c s)
   call-maps room = sym (put-down h (askedOf c) s refl refl ∙ sound-mapped h (askedOf c) s sound-is (sym (needed-made passed)) refl room ∙ asked-is)
 
-module _ {h : Handle} {c : Call} {s s′ : St} {n : ℕ} (maps : Maps h c s n s′) where
-  -- what is accepted was refused by none
-  pub call-passed : Passed h c s
-  call-passed = byBool (shaped h s) shape (λ e. absurd (not-tables (call-misshaped h (c .start) (c .end) (c .frame) (c .flags) (c .constraints) s e) (maps .answers)))
+-- what is answered otherwise than by refusals 1 to 8 was left by them
+passed-by : (h : Handle) (c : Call) (s : St) {x : Out Counted} → callOf h c s ≡ x → ((r : Refusal) → number r < 9 → refused r s ≡ x → ⊥) → Passed h c s
+passed-by h c s {x} is later =
+    byBool (shaped h s) shape (λ e. absurd (later Shape (lit< tt) (call-misshaped h (c .start) (c .end) (c .frame) (c .flags) (c .constraints) s e ∙ is)))
+  where
+    pool : shaped h s ≡ true → verifyMap h (c .end) (askedOf c) ≡ Accepted → Passed h c s
+    pool e ok =
+        let shape = shaped-says h s (rw e tt) in
+        let asked = call-asked h (c .start) (c .end) (c .frame) (c .flags) (c .constraints) s e refl ok in
+        byBool (soundb h s)
+        (λ sound. record { shape = shape; asks = ok; pool = decide-sound shape (rw sound tt) })
+        (λ unsound. absurd (later Unsound (lit< tt) (sound-not h (askedOf c) s unsound ∙ asked ∙ is)))
+
+    asks : shaped h s ≡ true → (y : Outcome) → verifyMap h (c .end) (askedOf c) ≡ y → Early y → Passed h c s
+    asks e Accepted q early = pool e q
+    asks e (Refused r) q early =
+        absurd (later r (omega arith) (call-refused h (c .start) (c .end) (c .frame) (c .flags) (c .constraints) s e refl r q ∙ is))
+
+    shape : shaped h s ≡ true → Passed h c s
+    shape e = asks e (verifyMap h (c .end) (askedOf c)) refl (asked-early h (c .end) (askedOf c))
+
+-- ---- refused 9
+
+answer-of : {r : Refusal} {s s′ : St} {y : Counted} → refused r s ≡ out y s′ → counted.Refused r ≡ y
+answer-of e = ap (λ (x : Out Counted). x .answer) e
+
+module _ (h : Handle) (c : Call) (s : St) {a b : ℕ} {s′ : St} (is : callOf h c s ≡ out (counted.Refused (WantOfRoom a b)) s′) where
+  pub full-passed : Passed h c s
+  full-passed = passed-by h c s is (λ r early e.
+      let same : r ≡ WantOfRoom a b = let p = answer-of e in cc in
+      let nine : number r ≡ 9 = ap number same in
+      omega arith)
+
+  pub full-more : free (s .ledger) < madeBy h c s
+  full-more = go (le-or (madeBy h c s) (free (s .ledger)))
     where
-      pool : shaped h s ≡ true → verifyMap h (c .end) (askedOf c) ≡ Accepted → Passed h c s
-      pool e ok =
-          let shape = shaped-says h s (rw e tt) in
-          let is = call-asked h (c .start) (c .end) (c .frame) (c .flags) (c .constraints) s e refl ok in
-          byBool (soundb h s)
-          (λ sound. record { shape = shape; asks = ok; pool = decide-sound shape (rw sound tt) })
-          (λ unsound. absurd (not-tables (sound-not h (askedOf c) s unsound ∙ is) (maps .answers)))
+      go : (madeBy h c s ≤ free (s .ledger)) ⊎ (free (s .ledger) < madeBy h c s) → free (s .ledger) < madeBy h c s
+      go (inl room) = absurd (let p = ap (λ (x : Out Counted). x .answer) (sym is ∙ call-maps full-passed room) in let z : _≡_ {A = ℕ} 0 1 = cc in omega arith)
+      go (inr more) = more
 
-      asks : shaped h s ≡ true → (x : Outcome) → verifyMap h (c .end) (askedOf c) ≡ x → Passed h c s
-      asks e Accepted q = pool e q
-      asks e (Refused r) q = absurd (not-tables (call-refused h (c .start) (c .end) (c .frame) (c .flags) (c .constraints) s e refl r q) (maps .answers))
+-- ---- accepted
 
-      shape : shaped h s ≡ true → Passed h c s
-      shape e = asks e (verifyMap h (c .end) (askedOf c)) refl
+module _ {h : Handle} {c : Call} {s s′ : St} {n : ℕ} (maps : Maps h c s n s′) where
+  pub call-passed : Passed h c s
+  call-passed = passed-by h c s (maps .answers) (λ r early e. not-tables e refl)
 
   pub call-room : madeBy h c s ≤ free (s .ledger)
   call-room = go (le-or (madeBy h c s) (free (s .ledger)))

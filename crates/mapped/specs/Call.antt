@@ -107,7 +107,7 @@ module _ {h : Handle} {c : Call} {s : St} (passed : Passed h c s) where
 -- ---- what the call answers
 
 -- no refusal is an acceptance
-pub not-tables : {r : Refusal} {s s′ : St} {n : ℕ} {x : Out Counted} → refused r s ≡ x → x ≡ out (counted.Tables n) s′ → ⊥
+not-tables : {r : Refusal} {s s′ : St} {n : ℕ} {x : Out Counted} → refused r s ≡ x → x ≡ out (counted.Tables n) s′ → ⊥
 not-tables e q = let p = ap (λ (y : Out Counted). y .answer) (e ∙ q) in let z : _≡_ {A = ℕ} 0 1 = cc in omega arith
 
 module _ {h : Handle} {c : Call} {s : St} (passed : Passed h c s) where

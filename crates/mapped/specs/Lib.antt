@@ -14,5 +14,7 @@ pub mod Need
 pub mod Asked
 pub mod Shown
 pub mod Call
+pub mod Place
+pub mod Turn
 -- what follows
 pub mod Mapped

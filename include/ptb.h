@@ -95,6 +95,14 @@ uint64_t ptb_map(uint64_t *words, size_t words_len, uint32_t *ledger, size_t led
                  uint64_t flags, uint64_t constraints, uint64_t answer[4]);
 
 /*
+ * Compacts the pool, from the leaves up: each table other than the root whose words are all zero is freed and its slot zeroed, and
+ * so is a table that this empties. Every address walks as before.
+ * Refusals 1, 8. Accepted: answer[0] the tables in use afterwards.
+ */
+uint64_t ptb_compact(uint64_t *words, size_t words_len, uint32_t *ledger, size_t ledger_len,
+                     uint64_t base, uint64_t level, uint64_t range, uint64_t answer[4]);
+
+/*
  * Writes one table's 512 words, little-endian, into 4096 bytes. It does not ask that the pool is sound.
  * Refusals 1 (a table not below n), 11 (page_len is not 4096; answer[0] is 4096). Accepted: no value.
  */

@@ -1,10 +1,11 @@
 -- What refusals 2 to 7 leave of a map: flags from the set, whole pages inside the root's span, frames below 2^48. Assumes nothing.
 use mathlib.Core.Path.{_≡_, refl, sym, ap, _∙_}
+use mathlib.Core.Bool.{Bool, true, false, cond, _&&_, _||_}
 use mathlib.Core.Logic.{_⊎_, inl, inr}
-use Prim.Native.Nat.{ℕ, suc, _+_, _*_, _-_, _/_, _%_, _^_, _≤_, _<_}
+use Prim.Native.Nat.{ℕ, zero, suc, _+_, _*_, _-_, _/_, _%_, _^_, _≤_, _<_}
 use native.Mathlib.Omega.{arith}
 use lib.Bits.{bitAnd, and-le-r}
-use lib.Dec.{eqb→eq, ltb}
+use lib.Dec.{eqb, eqb→eq, leb, ltb, lit<}
 use borrow.Author.Tests.{ltb-true}
 use Rattle.laws.specs.Bit.{Sub}
 use Rattle.laws.specs.Size.{sizeAt, size-high, up}
@@ -17,23 +18,21 @@ use Rattle.pool.specs.Sound.{flagSet}
 use Rattle.pool.specs.declared.Handle.{Handle}
 use Rattle.pool.specs.declared.VaRange.{VaRange}
 use Rattle.pool.specs.declared.VaRange.the-variants.{Lower, Upper}
+use Rattle.pool.specs.Refuse.{number}
 use Rattle.pool.specs.declared.Refusal.{Refusal}
+use Rattle.pool.specs.declared.Refusal.the-variants.{End, InvalidFlags, FlagSet, RegionBackwards, AddressRange, Frame}
 use Rattle.pool.specs.declared.Outcome.{Outcome}
 use Rattle.pool.specs.declared.Outcome.the-variants.{Accepted, Refused}
-use Rattle.verify.specs.Verify.{inRange, lower-start, lower-end, upper-start, verify-forwards}
+use Rattle.verify.specs.Verify.{endFits, span as wide, inRange, verify, lower-start, lower-end, upper-start, verify-forwards}
 use Rattle.rules.specs.declared.Map.{Map}
 use Rattle.rules.specs.Fit.{Fit}
-use Rattle.map.specs.Ask.{asked, verifyMap, passes, asked-fit}
+use Rattle.map.specs.Ask.{asked, frameAsked, first as firstOf, verifyMap, passes, asked-fit}
 use Rattle.tree.specs.Page.{span, span-size, span-suc, first, in-from}
-use Rattle.tree.specs.Root.{lowerRoot, upperRoot, upper-span}
+use Rattle.tree.specs.Root.{upperRoot, upper-span}
+use Rattle.mapped.specs.Terms.{rootOf}
 use Rattle.mapped.specs.Leaf.{set-below}
 use Rattle.mapped.specs.Stand.{Allowed}
 use Rattle.mapped.specs.Pieces.{Area}
-
--- the root's number in each range, where its entries have `left` levels below
-unfoldable pub rootOf : VaRange → ℕ → ℕ
-rootOf Lower left = lowerRoot
-rootOf Upper left = upperRoot left
 
 no-refusal : {x : Outcome} {r : Refusal} → Refused r ≡ x → x ≡ Accepted → ⊥
 no-refusal e q = let z : _≡_ {A = ℕ} 0 1 = cc in omega arith
@@ -109,3 +108,49 @@ module _ (h : Handle) (start end frame flags constraints : ℕ) where
           inside = record { startPage = fit .from; endPage = fit .to; framePage = fit .frame; low = pages .0; high = pages .1 };
           room = fit .room;
         }
+
+-- ---- refusals 2 to 7 are none of the later ones
+
+abbrev pub Early : Outcome → Type 0
+Early Accepted = Unit {0}
+Early (Refused r) = number r < 8
+
+cond-early : (b : Bool) (x y : Outcome) → Early x → Early y → Early (cond b x y)
+cond-early true x y a e = a
+cond-early false x y a e = e
+
+first-early : (x y : Outcome) → Early x → Early y → Early (firstOf x y)
+unfolding firstOf
+first-early Accepted y a e = e
+first-early (Refused r) y a e = a
+
+range-early : (range : VaRange) (level : ℕ) (r : MemoryRegion) → Early (inRange range level r)
+unfolding inRange
+range-early Lower level r =
+    let ends : Bool = ltb (wide level) (r .end .0) in
+    cond-early (leb (2 ^ 63) (r .start .0)) (Refused (AddressRange (r .start))) (cond ends (Refused (AddressRange (r .end))) Accepted) (lit< tt)
+    (cond-early ends (Refused (AddressRange (r .end))) Accepted (lit< tt) tt)
+range-early Upper level r =
+    cond-early (ltb (r .start .0) (2 ^ 63) || ltb (r .start .0) (2 ^ 64 - wide level)) (Refused (AddressRange (r .start))) Accepted (lit< tt) tt
+
+verify-early : (h : Handle) (r : MemoryRegion) → Early (verify h r)
+unfolding verify
+verify-early h r = cond-early (ltb (r .end .0) (r .start .0)) (Refused (RegionBackwards r)) (inRange (h .range) (h .level) r) (lit< tt) (range-early (h .range) (h .level) r)
+
+frame-early : (frame length : ℕ) → Early (frameAsked frame length)
+unfolding frameAsked
+frame-early frame length =
+    cond-early (eqb (frame % 4096) 0 && leb (frame + length) (2 ^ 48)) Accepted (Refused (Frame (record { 0 = frame }))) tt (lit< tt)
+
+pub asked-early : (h : Handle) (end : ℕ) (m : Map) → Early (verifyMap h end m)
+unfolding verifyMap
+asked-early h end m =
+    let last : Outcome = firstOf (verify h (m .region)) (frameAsked (m .frame .0) (m .region .end .0 - m .region .start .0)) in
+    let flags : Outcome = cond (only (flagSet h) (m .flags)) last (Refused (FlagSet (m .flags))) in
+    cond-early (endFits end) (cond (eqb (m .flags / 2 % 2) 1) (Refused (InvalidFlags (m .flags))) flags) (Refused (End end))
+    (cond-early (eqb (m .flags / 2 % 2) 1) (Refused (InvalidFlags (m .flags))) flags (lit< tt)
+    (cond-early (only (flagSet h) (m .flags)) last (Refused (FlagSet (m .flags)))
+    (first-early (verify h (m .region)) (frameAsked (m .frame .0) (m .region .end .0 - m .region .start .0)) (verify-early h (m .region))
+    (frame-early (m .frame .0) (m .region .end .0 - m .region .start .0)))
+    (lit< tt)))
+    (lit< tt)

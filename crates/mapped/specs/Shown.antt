@@ -8,14 +8,14 @@ use native.Mathlib.Omega.{arith}
 use Rattle.laws.specs.Size.{sizeAt, down, down-rest}
 use Rattle.laws.specs.Test.{byBool}
 use Rattle.entry.specs.Word.{addressOf, flagsOf, kind-block, kind-clear}
-use Rattle.pool.specs.State.{St, tables}
+use Rattle.pool.specs.State.{St}
 use Rattle.pool.specs.Refuse.{Shaped}
 use Rattle.pool.specs.declared.Handle.{Handle}
 use Rattle.forest.specs.Tree.{Tree, leaf, node}
 use Rattle.forest.specs.Walk.{Ends, walkTree}
 use Rattle.sound.specs.Clauses.{SoundPool}
 use Rattle.sound.specs.Codec.{shaped-placed, rootTree}
-use Rattle.walk.specs.Arm.{frameOf, flagsIn, Walked, hole as armHole, block as armBlock, page as armPage, outside, at, says, walk}
+use Rattle.walk.specs.Arm.{frameOf, flagsIn, at, says}
 use Rattle.walk.specs.Walk.{index-is, flags-is, frame-is, says-hole, says-block, says-page}
 use Rattle.walked.specs.Walked.{slotsOf, met, walk-of-tree}
 use Rattle.tree.specs.Page.{span, entry-number, entry-rest, slotOf, slot-lt}
@@ -23,23 +23,8 @@ use Rattle.tree.specs.Word.{valid, frameOf as frameIn, plain, address-frame, va
 use Rattle.tree.specs.Fine.{Fine}
 use Rattle.tree.specs.Walk.{Seen, mapped as seenMapped, hole as seenHole, seenIn, walk as walkIn, seen, seen-fine}
 use Rattle.tree.specs.Shown.{FineTree, FineTable}
+use Rattle.mapped.specs.Terms.{walkOf, Shown, mapped, hole, shown}
 use Rattle.mapped.specs.Leaf.{root-fine}
-
--- kind of answer (mapped or hole), flags and frame; where a table word leads away from the pool, neither
-pub data Shown : Type 0 where
-  mapped : (flags frame : ℕ) → Shown
-  hole : (flags : ℕ) → Shown
-  away : Shown
-
-unfoldable pub shown : Walked → Shown
-shown (armHole level flags) = hole flags
-shown (armBlock level flags frame) = mapped flags frame
-shown (armPage level flags frame) = mapped flags frame
-shown outside = away
-
--- the Arm walk of an address in the pool s
-abbrev pub walkOf : Handle → St → ℕ → Walked
-walkOf h s va = walk (h .base .0) (tables s) (s .words) va (h .level)
 
 -- what a page shows, with its frame as an address
 unfoldable pub inBytes : Seen → Shown

@@ -21,6 +21,7 @@ use Rattle.walk.specs.declared.Looked.{Looked}
 use Rattle.list.specs.Listing.{listCall, Listing, listing}
 use Rattle.list.specs.declared.Listed.{Listed}
 use Rattle.map.specs.Call.{mapCall}
+use Rattle.compact.specs.Call.{compactCall}
 use Rattle.ptb.specs.Answer.{Slip, slip, over, refused, told, toldCounted, toldLooked, toldListed}
 
 -- 0 is lower, 1 upper; a call refuses any other range first
@@ -130,6 +131,22 @@ module _ (base level range start end frame flags constraints : ℕ) (s : St) (ol
   map-told {s′ = s′} l e m t =
       rw (le-leb range 1 l)
       (ap (λ (y : Slip). out y s′) t ∙ ap (toldCount old) (m ∙ ap (λ (g : Handle). mapCall g start end frame flags constraints s) e))
+
+-- ---- compact
+
+unfoldable pub compactFace : ℕ → ℕ → ℕ → St → List ℕ → Out Slip
+compactFace base level range s old = cond (leb range 1) (toldCount old (compactCall (handleOf base level range) s)) (out (refused Shape old) s)
+
+module _ (base level range : ℕ) (s : St) (old : List ℕ) where
+  pub compact-no-range : 1 < range → out (slip 1 old) s ≡ compactFace base level range s old
+  unfolding compactFace refused over
+  compact-no-range h = rw (lt-leb range 1 h)
+
+  pub compact-told : {h : Handle} {o : Counted} {s′ : St} {x : Slip} → range ≤ 1 → h ≡ handleOf base level range → out o s′ ≡ compactCall h s → x ≡ toldCounted o old
+      → out x s′ ≡ compactFace base level range s old
+  unfolding compactFace
+  compact-told {s′ = s′} l e m t =
+      rw (le-leb range 1 l) (ap (λ (y : Slip). out y s′) t ∙ ap (toldCount old) (m ∙ ap (λ (g : Handle). compactCall g s) e))
 
 -- ---- page image
 

@@ -14,7 +14,7 @@ ghost use mathlib.Core.Path.{_≡_};
 ghost use Rattle.pool.specs.State.{st};
 ghost use Rattle.pool.specs.Refuse.{out};
 ghost use Rattle.ptb.specs.Answer.{slip};
-ghost use Rattle.ptb.specs.Face.{rangeOf, handleOf, makeFace, checkFace, lookUpFace, filled, listFace, mapFace, imageFace};
+ghost use Rattle.ptb.specs.Face.{rangeOf, handleOf, makeFace, checkFace, lookUpFace, filled, listFace, mapFace, compactFace, imageFace};
 
 // The number of the upper range, the highest there is.
 const UPPER: u64 = 1;
@@ -156,6 +156,26 @@ pub extern "C" fn ptb_map(
         flags,
         Constraints(constraints),
     );
+    answer::answer_counted(counted, answer)
+}
+
+// Frees each table but the root that is all zero, from the leaves up.
+#[no_mangle]
+pub extern "C" fn ptb_compact(
+    words: &mut [u64],
+    ledger: &mut [u32],
+    base: u64,
+    level: u64,
+    range: u64,
+    answer: &mut [u64; 4],
+) -> u64
+    ensures { λ r. ⌜ out (slip r (now (answer .exit))) (st (now (words .exit)) (now (ledger .exit))) ≡ compactFace base level range (st (now (words .entry)) (now (ledger .entry))) (now (answer .entry)) ⌝ }
+{
+    if UPPER < range {
+        return 1;
+    }
+    let handle = handle_of(base, level, range);
+    let counted = compact::compact(words, ledger, handle);
     answer::answer_counted(counted, answer)
 }
 

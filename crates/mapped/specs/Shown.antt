@@ -1,8 +1,8 @@
 -- What the Arm walk shows of an address in a sound pool ("as before": kind of answer, frame and flags) is what the root's tree shows of its page.
 -- Assumes nothing.
 use mathlib.Core.Path.{_≡_, refl, sym, ap, ap₂, _∙_}
-use mathlib.Core.Bool.{true, false, cond}
-use mathlib.Core.Logic.{_⊎_, inl, inr, _≢_}
+use mathlib.Core.Bool.{true, false}
+use mathlib.Core.Logic.{inl, inr}
 use Prim.Native.Nat.{ℕ, zero, suc, _+_, _*_, _-_, _/_, _%_, _^_, _≤_, _<_}
 use native.Mathlib.Omega.{arith}
 use Rattle.laws.specs.Size.{sizeAt, down, down-rest}
@@ -18,7 +18,7 @@ use Rattle.sound.specs.Codec.{shaped-placed, rootTree}
 use Rattle.walk.specs.Arm.{frameOf, flagsIn, at, says}
 use Rattle.walk.specs.Walk.{index-is, flags-is, frame-is, says-hole, says-block, says-page}
 use Rattle.walked.specs.Walked.{slotsOf, met, walk-of-tree}
-use Rattle.tree.specs.Page.{span, span-size, entry-number, entry-rest, slotOf, slot-lt}
+use Rattle.tree.specs.Page.{span, entry-number, entry-rest, slotOf, slot-lt}
 use Rattle.tree.specs.Word.{valid, frameOf as frameIn, plain, address-frame, valid-yes, valid-no}
 use Rattle.tree.specs.Fine.{Fine}
 use Rattle.tree.specs.Walk.{Seen, mapped as seenMapped, hole as seenHole, seenIn, walk as walkIn, seen, seen-fine}

@@ -63,24 +63,21 @@ module _ {h : Handle} (placed : Placed h) where
       → Worked placed s (mapRange left h k m s) left k (doneTable m left (treeFrom h s left k)) (takesTable m left (treeFrom h s left k))
 
   module _ (q k : ℕ) (m : Map) (s : St) (left : ℕ) (allowed : Allowed h (m .flags)) (piece : Piece left q m) (R : Ready placed s left k) where
-    abbrev pub level : ℕ
+    abbrev level : ℕ
     level = 3 - left
 
-    abbrev pub i : ℕ
+    abbrev i : ℕ
     i = entryIndex level (m .region .start .0)
 
     abbrev w : ℕ
     w = wordAt s k i
 
     -- what is to be shown, if the slot shows t
-    abbrev pub Done : Tree → Type 0
+    abbrev Done : Tree → Type 0
     Done t = Slotted placed s (stepAt level h k m s) left k i (doneTo m left t) (takes m left t)
 
     inside : i < 512
     inside = slot-below level (m .region .start .0)
-
-    up : levelAt s k ≡ level
-    up = omega (arith, R .low)
 
     fine : FineTree left (slotShows h s left k i)
     fine = slot-fine placed (R .pool) left k i (R .used) (R .low) inside

@@ -117,25 +117,30 @@ module _ (h : Handle) (c : Call) (s : St) where
 
 -- ---- DEMAND 3: two VALID calls whose regions share no page
 
--- both are accepted in one order exactly when both are in the other;
-pub maps-commute-accepted : {h : Handle} {c d : Call} {s : St} → Apart c d
-    → ((n : ℕ) × (s′ : St) × InTurn h c d s n s′) ↔ ((n : ℕ) × (s′ : St) × InTurn h d c s n s′)
-maps-commute-accepted apart = (λ at. other-turn apart (at .2), λ at. other-turn (apart-flip apart) (at .2))
-
 module _ {h : Handle} {c d : Call} {s s′ t′ : St} {n k : ℕ} (apart : Apart c d) (turn : InTurn h c d s n s′) (turn′ : InTurn h d c s k t′) where
-  -- then every address has the same walk answer, level included,
-  pub maps-commute-walks : (va : ℕ) → walkOf h s′ va ≡ walkOf h t′ va
-  maps-commute-walks va =
+  same-walk : (va : ℕ) → walkOf h s′ va ≡ walkOf h t′ va
+  same-walk va =
       walk-of-tree (call-shaped (turn .second)) (call-sound (turn .second)) va
       ∙ ap (λ (t : Tree). says va (met (walkTree (slotsOf va) (suc (leftOf h)) t))) (same-tree apart turn turn′)
       ∙ sym (walk-of-tree (call-shaped (turn′ .second)) (call-sound (turn′ .second)) va)
 
-  -- and equally many tables are in use
-  pub maps-commute-tables : (n ≡ k) × (used (s′ .ledger) ≡ used (t′ .ledger))
-  maps-commute-tables =
+  same-tables : n ≡ k
+  same-tables =
       let a = used-tree (call-shaped (turn .second)) (call-sound (turn .second)) in
       let b = used-tree (call-shaped (turn′ .second)) (call-sound (turn′ .second)) in
-      let e = ap nodes (same-tree apart turn turn′) in
-      let p = call-count (turn .second) in
-      let q = call-count (turn′ .second) in
-      (omega arith, omega arith)
+      call-count (turn .second) ∙ a ∙ ap nodes (same-tree apart turn turn′) ∙ sym b ∙ sym (call-count (turn′ .second))
+
+pub record EitherOrder (h : Handle) (c d : Call) (s : St) : Type 0 where
+  -- both are accepted in one order exactly when both are in the other;
+  pub accepted : ((n : ℕ) × (s′ : St) × InTurn h c d s n s′) ↔ ((n : ℕ) × (s′ : St) × InTurn h d c s n s′)
+  -- then every address has the same walk answer, level included,
+  pub walks : (n k : ℕ) (s′ t′ : St) → InTurn h c d s n s′ → InTurn h d c s k t′ → (va : ℕ) → walkOf h s′ va ≡ walkOf h t′ va
+  -- and equally many tables are in use, which is the answer
+  pub tables : (n k : ℕ) (s′ t′ : St) → InTurn h c d s n s′ → InTurn h d c s k t′ → n ≡ k
+
+pub maps-commute : (h : Handle) (c d : Call) (s : St) → Apart c d → EitherOrder h c d s
+maps-commute h c d s apart = record {
+  accepted = (λ at. other-turn apart (at .2), λ at. other-turn (apart-flip apart) (at .2));
+  walks = λ n k s′ t′ turn turn′. same-walk apart turn turn′;
+  tables = λ n k s′ t′ turn turn′. same-tables apart turn turn′;
+}

@@ -2,11 +2,11 @@
 -- Assumes nothing.
 use mathlib.Core.Path.{_≡_, refl, sym, ap, subst, subst₂, _∙_}
 use mathlib.Core.Logic.{_⊎_, inl, inr, _≢_}
-use Prim.Native.Nat.{ℕ, zero, suc, _+_, _-_, _%_, _≤_, _<_}
+use Prim.Native.Nat.{ℕ, suc, _+_, _-_, _%_, _≤_, _<_}
 use native.Mathlib.Omega.{arith}
 use Rattle.laws.specs.Test.{eq-or}
 use Rattle.entry.specs.Sub.{subOf, sub-leaf, sub-link}
-use Rattle.entry.specs.declared.Sub.the-variants.{Table, Leaf}
+use Rattle.entry.specs.declared.Sub.the-variants.{Table}
 use Rattle.region.specs.Region.{entryIndex}
 use Rattle.pool.specs.State.{St, tables, wordAt, storeAt}
 use Rattle.pool.specs.Number.{lowestFree, free}
@@ -14,25 +14,24 @@ use Rattle.pool.specs.declared.Handle.{Handle}
 use Rattle.pool.specs.declared.Found.the-variants.{At}
 use Rattle.table.specs.Table.{taken, freeTree}
 use Rattle.rules.specs.declared.Map.{Map}
-use Rattle.rules.specs.declared.Rule.the-variants.{Write, Keep, Drop, Down}
+use Rattle.rules.specs.declared.Rule.the-variants.{Down}
 use Rattle.rules.specs.Rules.{ruleOf, fillOf}
 use Rattle.rules.specs.Laws.{rule-page}
 use Rattle.split.specs.Split.{below, split-is, below-table, below-split}
 use Rattle.need.specs.Needed.{slot-below}
-use Rattle.map.specs.Put.{dropEntry, mapRange}
+use Rattle.map.specs.Put.{mapRange}
 use Rattle.map.specs.Laws.{drop-table}
 use Rattle.map.specs.Range.{stepAt, chunk-write, chunk-keep, chunk-drop, chunk-into}
-use Rattle.forest.specs.Tree.{Tree, leaf, node, entry, treeAt-node}
+use Rattle.forest.specs.Tree.{Tree, leaf, node, treeAt-node}
 use Rattle.forest.specs.Sound.{TableWord, Refers}
-use Rattle.forest.specs.Under.{refers-table}
 use Rattle.forest.specs.Frame.{slot-refers}
 use Rattle.forest.specs.Keep.{slot-leaf}
 use Rattle.sound.specs.Alloc.{free-found}
-use Rattle.sound.specs.Clauses.{InUse, levelAt, SoundPool}
+use Rattle.sound.specs.Clauses.{levelAt}
 use Rattle.sound.specs.Codec.{Placed, codecOf, childOf, slotWord, view, word-in, used-in, treeFrom}
 use Rattle.sound.specs.Generic.{pool-sound}
 use Rattle.sound.specs.Take.{take-is, take-free}
-use Rattle.tree.specs.Visit.{keep, write, down as goDown, opened, splits, fillTree}
+use Rattle.tree.specs.Visit.{down as goDown, opened, splits, fillTree}
 use Rattle.tree.specs.Shown.{FineTree}
 use Rattle.mapped.specs.Leaf.{slot-fine}
 use Rattle.mapped.specs.Rule.{saysOf, LeafRule, keeps, writes, splits as leaf-splits, TableRule, drops, enters, page-rule, leaf-rule, table-rule}
@@ -64,24 +63,21 @@ module _ {h : Handle} (placed : Placed h) where
       → Worked placed s (mapRange left h k m s) left k (doneTable m left (treeFrom h s left k)) (takesTable m left (treeFrom h s left k))
 
   module _ (q k : ℕ) (m : Map) (s : St) (left : ℕ) (allowed : Allowed h (m .flags)) (piece : Piece left q m) (R : Ready placed s left k) where
-    abbrev pub level : ℕ
+    abbrev level : ℕ
     level = 3 - left
 
-    abbrev pub i : ℕ
+    abbrev i : ℕ
     i = entryIndex level (m .region .start .0)
 
     abbrev w : ℕ
     w = wordAt s k i
 
     -- what is to be shown, if the slot shows t
-    abbrev pub Done : Tree → Type 0
+    abbrev Done : Tree → Type 0
     Done t = Slotted placed s (stepAt level h k m s) left k i (doneTo m left t) (takes m left t)
 
     inside : i < 512
     inside = slot-below level (m .region .start .0)
-
-    up : levelAt s k ≡ level
-    up = omega (arith, R .low)
 
     fine : FineTree left (slotShows h s left k i)
     fine = slot-fine placed (R .pool) left k i (R .used) (R .low) inside

@@ -2,7 +2,6 @@
 -- Assumes nothing.
 use mathlib.Core.Path.{_≡_, refl, sym, ap, subst, _∙_}
 use Prim.Native.Nat.{ℕ, _+_, _-_, _/_, _%_, _^_, _≤_, _<_}
-use native.Mathlib.Nat.{ℕ-set}
 use native.Mathlib.Omega.{arith}
 use lib.Dec.{T, lit<}
 use Rattle.laws.specs.Bit.{Sub}
@@ -13,13 +12,12 @@ use Rattle.pool.specs.Number.{levelOf, rootNumber}
 use Rattle.pool.specs.Sound.{flagSet, plainFlags, leafb}
 use Rattle.pool.specs.declared.Handle.{Handle}
 use Rattle.forest.specs.Tree.{treeAt-node, entry}
-use Rattle.forest.specs.Sound.{TableWord}
 use Rattle.sound.specs.Clauses.{InUse, levelAt, LeafWord, SoundPool}
 use Rattle.sound.specs.Codec.{Placed, codecOf, childOf, slotWord, treeFrom, rootTree}
 use Rattle.sound.specs.Generic.{leaf-says, pool-sound}
 use Rattle.sound.specs.Hanging.{root-left}
 use Rattle.sound.specs.Step.{Stands}
-use Rattle.tree.specs.Page.{span, span-size, entry-rest}
+use Rattle.tree.specs.Page.{span, entry-rest}
 use Rattle.tree.specs.Word.{frameOf, plain, address-frame}
 use Rattle.tree.specs.Fine.{Fine, sound-fine}
 use Rattle.tree.specs.Shown.{FineTree, FineTable}

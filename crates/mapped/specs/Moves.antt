@@ -1,5 +1,5 @@
 -- What a rule does to a slot of a sound pool, as a move with its count: how many tables fewer may be free after it. Assumes nothing.
-use mathlib.Core.Path.{_≡_, refl, sym, ap, subst, _∙_}
+use mathlib.Core.Path.{_≡_, refl, sym, subst, _∙_}
 use mathlib.Core.List.{List}
 use Prim.Native.Nat.{ℕ, suc, _+_, _-_, _≤_, _<_}
 use native.Mathlib.Bridge.{le-prop}
@@ -10,22 +10,22 @@ use Rattle.laws.specs.Bit.{Sub}
 use Rattle.pool.specs.State.{St, tables, wordAt, numberAt, storeAt}
 use Rattle.pool.specs.Number.{levelOf, numberOf, lowestFree, lowest-found, free}
 use Rattle.pool.specs.Refuse.{Shaped, shaped-keep}
-use Rattle.pool.specs.Sound.{flagSet, plainFlags}
+use Rattle.pool.specs.Sound.{flagSet}
 use Rattle.pool.specs.declared.Handle.{Handle}
 use Rattle.pool.specs.declared.Found.the-variants.{At}
 use Rattle.table.specs.Table.{takeAt, freeTree}
 use Rattle.rules.specs.Rules.{fillOf}
-use Rattle.forest.specs.Tree.{Tree, leaf, node, entry}
+use Rattle.forest.specs.Tree.{Tree, leaf, entry}
 use Rattle.forest.specs.Sound.{TableWord, IsTable, Refers}
 use Rattle.forest.specs.Under.{refers-level}
 use Rattle.forest.specs.Split.{Splits, Fit, new-tree}
-use Rattle.forest.specs.Move.{Move, Work, move-skip, move-down, move-split, split-at}
+use Rattle.forest.specs.Move.{Work, move-skip, move-down, move-split, split-at}
 use Rattle.sound.specs.Clauses.{InUse, levelAt, SoundPool}
 use Rattle.sound.specs.Codec.{Placed, shaped-placed, codecOf, childOf, slotWord, view, level-of, number-pos, treeFrom}
 use Rattle.sound.specs.Generic.{pool-sound, sound-pool}
 use Rattle.sound.specs.Step.{Stands, not-table, Step, step-pool, step-shaped, step-own}
 use Rattle.sound.specs.Store.{store-step}
-use Rattle.sound.specs.Take.{take-free, take-splits, take-fit, take-tables, take-words, take-step}
+use Rattle.sound.specs.Take.{take-free, take-splits, take-fit, take-tables, take-words}
 use Rattle.sound.specs.Free.{free-step, free-free}
 use Rattle.tree.specs.Fine.{Fine}
 use Rattle.tree.specs.Visit.{fillTree}

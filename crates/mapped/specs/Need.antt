@@ -7,8 +7,7 @@ use native.Mathlib.Omega.{arith}
 use lib.ListN.{getD}
 use Rattle.laws.specs.Test.{eq-or}
 use Rattle.entry.specs.Sub.{subOf, sub-leaf, sub-link}
-use Rattle.entry.specs.declared.Sub.{Sub}
-use Rattle.entry.specs.declared.Sub.the-variants.{Table, Outside, Leaf}
+use Rattle.entry.specs.declared.Sub.the-variants.{Table, Leaf}
 use Rattle.region.specs.Region.{entryIndex}
 use Rattle.region.specs.Chunks.{chunks}
 use Rattle.region.specs.declared.MemoryRegion.{MemoryRegion}
@@ -20,16 +19,15 @@ use Rattle.rules.specs.declared.Rule.the-variants.{Write, Keep, Drop, Down}
 use Rattle.rules.specs.Rules.{ruleOf, fillOf, chunkMap}
 use Rattle.need.specs.Needed.{ifDown, sumOf, sumChunks, childWord, neededLeaf, needBelow, needChunk, needTable, needed, slot-below}
 use Rattle.forest.specs.Tree.{Tree, leaf, node, treeAt-node}
-use Rattle.forest.specs.Sound.{TableWord, Refers}
+use Rattle.forest.specs.Sound.{Refers}
 use Rattle.forest.specs.Frame.{slot-refers}
 use Rattle.forest.specs.Keep.{slot-leaf}
-use Rattle.sound.specs.Clauses.{levelAt}
 use Rattle.sound.specs.Codec.{Placed, codecOf, childOf, slotWord, view, word-in, used-in, treeFrom}
 use Rattle.sound.specs.Generic.{pool-sound}
 use Rattle.tree.specs.Word.{fillWord}
 use Rattle.tree.specs.Fine.{Fine, fine-fill}
-use Rattle.tree.specs.Visit.{keep, write, down as goDown, counted, fillTree}
-use Rattle.tree.specs.Slots.{fillSlot, fill-node, fill-slot}
+use Rattle.tree.specs.Visit.{keep, write, counted, fillTree}
+use Rattle.tree.specs.Slots.{fill-node, fill-slot}
 use Rattle.tree.specs.Shown.{FineTree}
 use Rattle.tree.specs.Needed as trees
 use Rattle.tree.specs.Document.{documentRule}

@@ -1,9 +1,9 @@
 -- The chunks of a region in a table, one after the other: each in one entry, in slots that ascend. And what the document's loop does with a chunk, by
 -- its rule. Assumes nothing.
-use mathlib.Core.Path.{_≡_, refl, sym, ap, ap₂, subst, _∙_}
+use mathlib.Core.Path.{_≡_, refl, sym, ap, ap₂, subst}
 use mathlib.Core.List.{List, [], _∷_}
 use mathlib.Core.Logic.{_⊎_, inl, inr}
-use Prim.Native.Nat.{ℕ, zero, suc, _+_, _*_, _-_, _/_, _%_, _^_, _≤_, _<_}
+use Prim.Native.Nat.{ℕ, zero, suc, _+_, _-_, _/_, _^_, _≤_, _<_}
 use native.Mathlib.Omega.{arith}
 use Rattle.laws.specs.Test.{eq-or, le-or}
 use Rattle.region.specs.Region.{region, entryIndex, chunkEnd}
@@ -11,7 +11,7 @@ use Rattle.region.specs.Chunks.{met, met-step, chunks, chunks-none, chunks-step
 use Rattle.region.specs.declared.MemoryRegion.{MemoryRegion}
 use Rattle.rules.specs.declared.Map.{Map}
 use Rattle.rules.specs.Rules.{chunkMap}
-use Rattle.forest.specs.Tree.{Tree, leaf, node}
+use Rattle.forest.specs.Tree.{Tree, leaf}
 use Rattle.tree.specs.Page.{span, first, child, slotOf, child-order}
 use Rattle.tree.specs.Visit.{keep, write, down as goDown, opened, splits, obey, counted}
 use Rattle.tree.specs.Chunks.{Inside, chunked, chunkedTable, index-slot, Cut, cut}
@@ -106,11 +106,13 @@ module _ (left q : ℕ) (m : Map) (low : left ≤ 3) where
           let z : ℕ = chunkEnd (3 - left) s e in
           let c = cut left q s e p low h I in
           let fewer : met (3 - left) (chunkEnd (3 - left) s e) e ≡ n = let j = met-step (3 - left) s e h in omega arith in
-          subst (Pieces left q m a p) (sym (chunks-step (3 - left) s e h))
-          (record {
-            from = from c (le-or a i);
-            piece = record { inside = c .chunk; some = c .more; room = omega (arith, c .within, c .more) };
-          }, ih z fewer (c .rest) (omega (arith, c .within, c .more)) (λ j l more. next z c j more (eq-or j i) l))
+          subst (Pieces left q m a p) (sym (chunks-step (3 - left) s e h)) (
+            record {
+              from = from c (le-or a i);
+              piece = record { inside = c .chunk; some = c .more; room = omega (arith, c .within, c .more) };
+            },
+            ih z fewer (c .rest) (omega (arith, c .within, c .more)) (λ j l more. next z c j more (eq-or j i) l),
+          )
         where
           from : {z : ℕ} → Cut left q s e p z i → (a ≤ i) ⊎ (i < a) → a ≤ i
           from c (inl l) = l
@@ -132,7 +134,8 @@ module _ (left q : ℕ) (m : Map) (low : left ≤ 3) where
   unfolding tallied
   tallied-from each [] a p t u all same = refl
   tallied-from each (c ∷ cs) a p t u all same =
-      let i = index-slot left (c .start .0) low in
-      let here : slotIn t (entryIndex (3 - left) (c .start .0)) ≡ slotIn u (entryIndex (3 - left) (c .start .0)) = same (entryIndex (3 - left) (c .start .0)) (omega (arith, all .0 .from)) in
+      let i : ℕ = entryIndex (3 - left) (c .start .0) in
+      let at = index-slot left (c .start .0) low in
+      let here : slotIn t i ≡ slotIn u i = same i (omega (arith, all .0 .from)) in
       ap₂ _+_ (ap (each c p) here)
       (tallied-from each cs (suc (slotAt left c)) (p + (c .end .0 - c .start .0)) t u (all .1) (λ j l. same j (omega (arith, all .0 .from))))

@@ -1,10 +1,10 @@
 -- A map of a table of a sound pool does on lists what the document's loop does on the table's tree, with no more tables than that needs: no split meets a
 -- full pool. Assumes nothing.
-use mathlib.Core.Path.{_≡_, refl, sym, ap, subst, subst₂, _∙_}
+use mathlib.Core.Path.{_≡_, refl, sym, ap, subst, _∙_}
 use mathlib.Core.Bool.{true, false, cond}
 use mathlib.Core.List.{List, [], _∷_}
 use mathlib.Core.Logic.{_⊎_, inl, inr, _≢_}
-use Prim.Native.Nat.{ℕ, zero, suc, _+_, _-_, _≤_, _<_}
+use Prim.Native.Nat.{ℕ, zero, suc, _+_, _-_, _≤_}
 use native.Mathlib.Omega.{arith}
 use lib.Dec.{eqb}
 use Rattle.laws.specs.Test.{eqb-cases}
@@ -18,11 +18,11 @@ use Rattle.rules.specs.declared.Map.{Map}
 use Rattle.rules.specs.Rules.{chunkMap}
 use Rattle.map.specs.Put.{eachOf, eachChunk, mapRange}
 use Rattle.map.specs.Range.{stepAt, map-open}
-use Rattle.forest.specs.Tree.{Tree, leaf, node, node-ext, treeAt-node}
+use Rattle.forest.specs.Tree.{Tree, node-ext, treeAt-node}
 use Rattle.forest.specs.Frame.{change-slot}
 use Rattle.forest.specs.Place.{at-over, over-trans}
 use Rattle.forest.specs.Move.{work-skip}
-use Rattle.sound.specs.Codec.{Placed, codecOf, childOf, slotWord, view, treeFrom}
+use Rattle.sound.specs.Codec.{Placed, childOf, slotWord, view, treeFrom}
 use Rattle.sound.specs.Generic.{pool-sound}
 use Rattle.tree.specs.Page.{child}
 use Rattle.tree.specs.Chunks.{atSlot, sweep, chunked, chunkedTable, index-slot}
@@ -30,7 +30,7 @@ use Rattle.tree.specs.Needed.{slotIn, tallied, needed, neededTable}
 use Rattle.tree.specs.Document.{documentRule}
 use Rattle.mapped.specs.Stand.{Allowed}
 use Rattle.mapped.specs.Moves.{slotShows, Ready, Slotted, Worked, slotted-ready}
-use Rattle.mapped.specs.Pieces.{doneTo, takes, doneTable, takesTable, Area, slotAt, Pieces, pieces, tallied-from}
+use Rattle.mapped.specs.Pieces.{doneTable, takesTable, slotAt, Pieces, pieces, tallied-from}
 use Rattle.mapped.specs.Chunk.{Works, ChunkWorks, page-works, chunk-works}
 
 -- a table's slot

@@ -1,20 +1,18 @@
 -- The rules on words are the rules on trees: for an entry that is no table, and for a table. And what a split fills. Assumes nothing.
 use mathlib.Core.Path.{_≡_, refl, sym, ap, _∙_}
-use mathlib.Core.Bool.{Bool, true, false, not, cond, _&&_, and-false}
+use mathlib.Core.Bool.{true, false}
 use mathlib.Core.List.{List}
 use mathlib.Core.Logic.{_⊎_, inl, inr, _≢_}
-use Prim.Native.Nat.{ℕ, zero, suc, _+_, _*_, _-_, _%_, _≤_, _<_}
+use Prim.Native.Nat.{ℕ, suc, _+_, _*_, _-_, _%_, _≤_, _<_}
 use native.Mathlib.Omega.{arith}
-use lib.Dec.{eqb, ltb}
 use lib.ListN.{length, getD, List·getD-eq-default}
 use borrow.Author.Tests.{ne-eqb}
 use Rattle.laws.specs.Size.{sizeAt, down}
 use Rattle.laws.specs.Test.{byBool, eq-or, le-or}
 use Rattle.entry.specs.Word.{addressOf, flagsOf}
 use Rattle.region.specs.declared.MemoryRegion.{MemoryRegion}
-use Rattle.table.specs.Table.{rising, length-rising, rising-at}
+use Rattle.table.specs.Table.{length-rising, rising-at}
 use Rattle.rules.specs.declared.Map.{Map}
-use Rattle.rules.specs.declared.Rule.{Rule}
 use Rattle.rules.specs.declared.Rule.the-variants.{Write, Keep, Drop, Down}
 use Rattle.rules.specs.Rules.{valid, tableWord, leafWord, whole, rule2, blockable, ruleOf, fillOf}
 use Rattle.rules.specs.Laws.{rule-page, rule-keep, rule-part, rule-drop, rule-into, rule-block, rule-split, same-table, fill-hole, fill-leaf}

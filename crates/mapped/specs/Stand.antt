@@ -1,7 +1,7 @@
 -- What a map writes and a split fills may stand in a sound pool. Assumes nothing.
-use mathlib.Core.Path.{_≡_, refl, sym, ap, subst, _∙_}
+use mathlib.Core.Path.{_≡_, sym, ap, subst, _∙_}
 use mathlib.Core.Bool.{Bool, true, false, not, cond, _&&_}
-use Prim.Native.Nat.{ℕ, zero, suc, _+_, _*_, _-_, _/_, _%_, _^_, _≤_, _<_}
+use Prim.Native.Nat.{ℕ, zero, suc, _+_, _-_, _/_, _%_, _^_, _≤_, _<_}
 use native.Mathlib.Omega.{arith}
 use lib.Dec.{eqb, ltb}
 use Rattle.laws.specs.Bit.{Sub}
@@ -14,9 +14,9 @@ use Rattle.rules.specs.declared.Map.{Map}
 use Rattle.forest.specs.Tree.{Tree, leaf, node}
 use Rattle.sound.specs.Step.{Stands}
 use Rattle.tree.specs.Page.{span, first}
-use Rattle.tree.specs.Word.{valid as isValid, plain, leafWord, fillWord, Plain, plain-flags, flags-valid, flags-shown, leaf-hole, leaf-plain}
+use Rattle.tree.specs.Word.{valid as isValid, plain, fillWord, Plain, plain-flags, flags-valid, flags-shown, leaf-hole, leaf-plain}
 use Rattle.tree.specs.Fine.{Fine, fill-flags, fill-is, fill-below, fine-fill}
-use Rattle.tree.specs.Visit.{Rule as Says, keep, write, down as goDown}
+use Rattle.tree.specs.Visit.{keep, write, down as goDown}
 use Rattle.tree.specs.Shown.{FineTree, Good}
 use Rattle.tree.specs.Rules.{Given}
 use Rattle.tree.specs.After.{map-shows}

@@ -2,7 +2,7 @@
 use mathlib.Core.Path.{_≡_, refl, sym, ap, _∙_}
 use mathlib.Core.Bool.{Bool, true, false, cond, _&&_, _||_}
 use mathlib.Core.Logic.{_⊎_, inl, inr}
-use Prim.Native.Nat.{ℕ, zero, suc, _+_, _*_, _-_, _/_, _%_, _^_, _≤_, _<_}
+use Prim.Native.Nat.{ℕ, suc, _+_, _*_, _-_, _/_, _%_, _^_, _≤_, _<_}
 use native.Mathlib.Omega.{arith}
 use lib.Bits.{bitAnd, and-le-r}
 use lib.Dec.{eqb, eqb→eq, leb, ltb, lit<}
@@ -55,7 +55,8 @@ upper-starts level r ok = go (le-or (r .start .0) (2 ^ 64 - 1 - 512 * sizeAt lev
     go (inr l) = let h = size-high level in omega arith
 
 -- its pages, in the root's table
-root-pages : (range : VaRange) (left : ℕ) (r : MemoryRegion) → left ≤ 3 → inRange range (3 - left) r ≡ Accepted → r .start .0 ≤ r .end .0 → r .end .0 < 2 ^ 64 → r .end .0 % 4096 ≡ 0
+root-pages : (range : VaRange) (left : ℕ) (r : MemoryRegion) → left ≤ 3 → inRange range (3 - left) r ≡ Accepted
+    → r .start .0 ≤ r .end .0 → r .end .0 < 2 ^ 64 → r .end .0 % 4096 ≡ 0
     → (first (suc left) (rootOf range left) ≤ r .start .0 / 4096) × (r .end .0 / 4096 ≤ first (suc left) (rootOf range left) + span (suc left))
 unfolding rootOf first
 root-pages Lower left r low ok some small paged =

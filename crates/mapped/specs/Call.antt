@@ -1,9 +1,9 @@
 -- The call of map on a pool that refusals 1 to 8 leave: it is refused 9 exactly when the tree's count exceeds what is free, and otherwise it leaves a sound
 -- pool whose root shows the tree after the map. Assumes nothing.
 use mathlib.Core.Path.{_≡_, refl, sym, ap, subst, _∙_}
-use mathlib.Core.Bool.{true, false}
+use mathlib.Core.Bool.{true}
 use mathlib.Core.Logic.{_⊎_, inl, inr}
-use Prim.Native.Nat.{ℕ, zero, suc, _+_, _-_, _/_, _%_, _^_, _≤_, _<_}
+use Prim.Native.Nat.{ℕ, _≤_, _<_}
 use native.Mathlib.Omega.{arith}
 use lib.Dec.{lit<}
 use Rattle.laws.specs.Test.{byBool, is-true, le-or}
@@ -22,7 +22,7 @@ use Rattle.rules.specs.declared.Map.{Map}
 use Rattle.need.specs.Needed.{needed}
 use Rattle.map.specs.Put.{mapRange}
 use Rattle.map.specs.Ask.{verifyMap}
-use Rattle.map.specs.Call.{refused, mapCall, mapSound, putDown, sound-not, sound-full, sound-mapped, put-down, call-misshaped, call-refused, call-asked}
+use Rattle.map.specs.Call.{refused, mapSound, sound-not, sound-full, sound-mapped, put-down, call-misshaped, call-refused, call-asked}
 use Rattle.forest.specs.Tree.{Tree, node, treeAt-node}
 use Rattle.sound.specs.Clauses.{SoundPool}
 use Rattle.sound.specs.Codec.{shaped-placed, childOf, slotWord, rootTree}

@@ -11,6 +11,7 @@ use Rattle.pool.specs.declared.Handle.{Handle}
 use Rattle.pool.specs.declared.Refusal.the-variants.{WantOfRoom}
 use Rattle.pool.specs.declared.Counted.{Counted}
 use Rattle.pool.specs.declared.Counted.the-variants.{Refused}
+use Rattle.need.specs.Needed.{needed}
 use Rattle.map.specs.Ask.{asked}
 use Rattle.forest.specs.Tree.{Tree}
 use Rattle.forest.specs.Nodes.{nodes}
@@ -19,14 +20,15 @@ use Rattle.sound.specs.Clauses.{SoundPool}
 use Rattle.sound.specs.Codec.{shaped-placed, rootTree}
 use Rattle.sound.specs.Hanging.{used-tree}
 use Rattle.walk.specs.Arm.{says}
-use Rattle.walked.specs.Walked.{slotsOf, met, walk-of-tree}
+use Rattle.walked.specs.Any.{slotsOf, met}
+use Rattle.walked.specs.Walked.{walk-of-tree}
 use Rattle.tree.specs.Word.{valid-of, valid-none}
 use Rattle.tree.specs.Walk.{seen}
 use Rattle.tree.specs.Demands.{region-mapped, region-holes, others-as-before, tables-after, valid-map-frees-none}
-use Rattle.mapped.specs.Terms.{Call, callOf, Maps, Passed, InRegion, frameFor, InTurn, Apart, walkOf, mapped, hole, shown, InSpan, leftOf, rootIn, pagesOf, treeAfter, madeBy, freedBy}
+use Rattle.mapped.specs.Terms.{Call, callOf, Maps, askedOf, Passed, InRegion, frameFor, InTurn, Apart, walkOf, mapped, hole, shown, InSpan, leftOf, rootIn, pagesOf, treeAfter, madeBy, freedBy}
 use Rattle.mapped.specs.Leaf.{root-fine}
 use Rattle.mapped.specs.Shown.{inBytes, walk-shown}
-use Rattle.mapped.specs.Call.{stateAfter, given, call-full, call-maps, full-passed, full-more, call-passed, call-room, call-count, call-shaped, call-sound, call-tree}
+use Rattle.mapped.specs.Call.{stateAfter, given, needed-made, call-full, call-maps, full-passed, full-more, call-passed, call-room, call-count, call-shaped, call-sound, call-tree}
 use Rattle.mapped.specs.Place.{region-page, page-region, region-spans, frame-is, span-spans}
 use Rattle.mapped.specs.Turn.{apart-flip, other-turn, same-tree}
 
@@ -89,7 +91,8 @@ module _ {h : Handle} {c : Call} {s s′ : St} {n : ℕ} (maps : Maps h c s n s�
 
 module _ (h : Handle) (c : Call) (s : St) where
   -- it is given exactly when none of refusals 1 to 8 is, and more tables are made than are free at entry;
-  pub map-refused-9-exactly : ((a b : ℕ) × (s′ : St) × (callOf h c s ≡ out (Refused (WantOfRoom a b)) s′)) ↔ (Passed h c s × (free (s .ledger) < madeBy h c s))
+  pub map-refused-9-exactly : ((a b : ℕ) × (s′ : St) × (callOf h c s ≡ out (Refused (WantOfRoom a b)) s′))
+      ↔ (Passed h c s × (free (s .ledger) < madeBy h c s))
   map-refused-9-exactly = (
     λ at. (full-passed h c s (at .3), full-more h c s (at .3)),
     λ full. (madeBy h c s, free (s .ledger), s, call-full (full .0) (full .1)),
@@ -102,6 +105,10 @@ module _ (h : Handle) (c : Call) (s : St) where
       let p : Refused (WantOfRoom a b) ≡ Refused (WantOfRoom (madeBy h c s) (free (s .ledger))) = ap (λ (x : Out Counted). x .answer) same in
       (let e : a ≡ madeBy h c s = cc in e, let e : b ≡ free (s .ledger) = cc in e, ap (λ (x : Out Counted). x .state) same)
 
+  -- the count by the rules is what the map makes;
+  pub map-needed-made : Passed h c s → needed (leftOf h) h s 0 (askedOf c) ≡ madeBy h c s
+  map-needed-made passed = needed-made passed
+
   -- the call is accepted exactly when none of refusals 1 to 8 is given and no more tables are made than are free
   pub map-accepted-exactly : ((n : ℕ) × (s′ : St) × Maps h c s n s′) ↔ (Passed h c s × (madeBy h c s ≤ free (s .ledger)))
   map-accepted-exactly = (
@@ -111,24 +118,30 @@ module _ (h : Handle) (c : Call) (s : St) where
 
 -- ---- DEMAND 3: two VALID calls whose regions share no page
 
--- both are accepted in one order exactly when both are in the other;
-pub maps-commute-accepted : {h : Handle} {c d : Call} {s : St} → Apart c d → ((n : ℕ) × (s′ : St) × InTurn h c d s n s′) ↔ ((n : ℕ) × (s′ : St) × InTurn h d c s n s′)
-maps-commute-accepted apart = (λ at. other-turn apart (at .2), λ at. other-turn (apart-flip apart) (at .2))
-
 module _ {h : Handle} {c d : Call} {s s′ t′ : St} {n k : ℕ} (apart : Apart c d) (turn : InTurn h c d s n s′) (turn′ : InTurn h d c s k t′) where
-  -- then every address has the same walk answer, level included,
-  pub maps-commute-walks : (va : ℕ) → walkOf h s′ va ≡ walkOf h t′ va
-  maps-commute-walks va =
+  same-walk : (va : ℕ) → walkOf h s′ va ≡ walkOf h t′ va
+  same-walk va =
       walk-of-tree (call-shaped (turn .second)) (call-sound (turn .second)) va
       ∙ ap (λ (t : Tree). says va (met (walkTree (slotsOf va) (suc (leftOf h)) t))) (same-tree apart turn turn′)
       ∙ sym (walk-of-tree (call-shaped (turn′ .second)) (call-sound (turn′ .second)) va)
 
-  -- and equally many tables are in use
-  pub maps-commute-tables : (n ≡ k) × (used (s′ .ledger) ≡ used (t′ .ledger))
-  maps-commute-tables =
+  same-tables : n ≡ k
+  same-tables =
       let a = used-tree (call-shaped (turn .second)) (call-sound (turn .second)) in
       let b = used-tree (call-shaped (turn′ .second)) (call-sound (turn′ .second)) in
-      let e = ap nodes (same-tree apart turn turn′) in
-      let p = call-count (turn .second) in
-      let q = call-count (turn′ .second) in
-      (omega arith, omega arith)
+      call-count (turn .second) ∙ a ∙ ap nodes (same-tree apart turn turn′) ∙ sym b ∙ sym (call-count (turn′ .second))
+
+pub record EitherOrder (h : Handle) (c d : Call) (s : St) : Type 0 where
+  -- both are accepted in one order exactly when both are in the other;
+  pub accepted : ((n : ℕ) × (s′ : St) × InTurn h c d s n s′) ↔ ((n : ℕ) × (s′ : St) × InTurn h d c s n s′)
+  -- then every address has the same walk answer, level included,
+  pub walks : (n k : ℕ) (s′ t′ : St) → InTurn h c d s n s′ → InTurn h d c s k t′ → (va : ℕ) → walkOf h s′ va ≡ walkOf h t′ va
+  -- and equally many tables are in use, which is the answer
+  pub tables : (n k : ℕ) (s′ t′ : St) → InTurn h c d s n s′ → InTurn h d c s k t′ → n ≡ k
+
+pub maps-commute : (h : Handle) (c d : Call) (s : St) → Apart c d → EitherOrder h c d s
+maps-commute h c d s apart = record {
+  accepted = (λ at. other-turn apart (at .2), λ at. other-turn (apart-flip apart) (at .2));
+  walks = λ n k s′ t′ turn turn′. same-walk apart turn turn′;
+  tables = λ n k s′ t′ turn turn′. same-tables apart turn turn′;
+}

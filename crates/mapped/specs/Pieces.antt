@@ -134,7 +134,8 @@ module _ (left q : ℕ) (m : Map) (low : left ≤ 3) where
   unfolding tallied
   tallied-from each [] a p t u all same = refl
   tallied-from each (c ∷ cs) a p t u all same =
-      let i = index-slot left (c .start .0) low in
-      let here : slotIn t (entryIndex (3 - left) (c .start .0)) ≡ slotIn u (entryIndex (3 - left) (c .start .0)) = same (entryIndex (3 - left) (c .start .0)) (omega (arith, all .0 .from)) in
+      let i : ℕ = entryIndex (3 - left) (c .start .0) in
+      let at = index-slot left (c .start .0) low in
+      let here : slotIn t i ≡ slotIn u i = same i (omega (arith, all .0 .from)) in
       ap₂ _+_ (ap (each c p) here)
       (tallied-from each cs (suc (slotAt left c)) (p + (c .end .0 - c .start .0)) t u (all .1) (λ j l. same j (omega (arith, all .0 .from))))

@@ -17,7 +17,12 @@ use Rattle.sound.specs.Clauses.{SoundPool}
 use Rattle.sound.specs.Codec.{shaped-placed, rootTree}
 use Rattle.walk.specs.Arm.{frameOf, flagsIn, at, says}
 use Rattle.walk.specs.Walk.{index-is, flags-is, frame-is, says-hole, says-block, says-page}
+<<<<<<< HEAD
 use Rattle.walked.specs.Walked.{slotsOf, met, walk-of-tree}
+=======
+use Rattle.walked.specs.Any.{slotsOf, met}
+use Rattle.walked.specs.Walked.{walk-of-tree}
+>>>>>>> main
 use Rattle.tree.specs.Page.{span, entry-number, entry-rest, slotOf, slot-lt}
 use Rattle.tree.specs.Word.{valid, frameOf as frameIn, plain, address-frame, valid-yes, valid-no}
 use Rattle.tree.specs.Fine.{Fine}
@@ -38,7 +43,8 @@ unfolding plain flagsOf
 flags-shown w =
     let low : w % 4096 / 4 ≡ w / 4 % 1024 = omega arith in
     let bit : w % 4096 % 2 ≡ w % 2 = omega arith in
-    sym (flags-is w) ∙ parts (w % 4096) (w / 2 ^ 48) ∙ (let e : w % 4096 / 4 * 4 + w % 4096 % 2 + w / 2 ^ 48 * 2 ^ 48 ≡ w % 2 + w / 4 % 1024 * 4 + w / 2 ^ 48 * 2 ^ 48 = omega arith in e)
+    let e : w % 4096 / 4 * 4 + w % 4096 % 2 + w / 2 ^ 48 * 2 ^ 48 ≡ w % 2 + w / 4 % 1024 * 4 + w / 2 ^ 48 * 2 ^ 48 = omega arith in
+    sym (flags-is w) ∙ parts (w % 4096) (w / 2 ^ 48) ∙ e
   where
     parts : (a b : ℕ) → (a + b * 2 ^ 48) / 4 * 4 + (a + b * 2 ^ 48) % 2 ≡ a / 4 * 4 + a % 2 + b * 2 ^ 48
     parts a b = omega arith
@@ -60,7 +66,9 @@ frame-shown left w va low fine =
     let none : addressOf w / 4096 % span left ≡ 0 = ap (λ (x : ℕ). x % span left) frame ∙ fine .aligned in
     let whole : addressOf w / sizeAt (3 - left) * sizeAt (3 - left) ≡ addressOf w = omega (arith, down-rest (addressOf w) (sizeAt (3 - left))) in
     let offset = page-rest left va low in
-    frame-is (3 - left) w va ∙ (let e : addressOf w / sizeAt (3 - left) * sizeAt (3 - left) + va % sizeAt (3 - left) / 4096 * 4096 ≡ (frameIn w + va / 4096 % span left) * 4096 = omega arith in e)
+    let size : ℕ = sizeAt (3 - left) in
+    let e : addressOf w / size * size + va % size / 4096 * 4096 ≡ (frameIn w + va / 4096 % span left) * 4096 = omega arith in
+    frame-is (3 - left) w va ∙ e
 
 seen-valid : (left w page : ℕ) → Fine left w → valid w ≡ true → seenIn left w page ≡ seenMapped (plain w) (frameIn w + page % span left)
 seen-valid left w page fine v = seen-fine left w page fine ∙ rw v

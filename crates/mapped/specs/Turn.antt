@@ -1,7 +1,7 @@
 -- Two VALID calls whose regions share no page, one after the other: both are accepted in the other order too, and leave the same tree. Assumes nothing.
 use mathlib.Core.Path.{_≡_, sym, ap, subst, _∙_}
 use mathlib.Core.List.{[], _∷_}
-use Prim.Native.Nat.{ℕ, _+_, _*_, _-_, _/_, _%_, _≤_, _<_}
+use Prim.Native.Nat.{ℕ, _*_, _/_, _≤_}
 use native.Mathlib.Omega.{arith}
 use Rattle.pool.specs.State.{St, tables}
 use Rattle.pool.specs.Number.{used, free, used-free}

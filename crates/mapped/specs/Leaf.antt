@@ -12,6 +12,7 @@ use Rattle.pool.specs.Number.{levelOf, rootNumber}
 use Rattle.pool.specs.Sound.{flagSet, plainFlags, leafb}
 use Rattle.pool.specs.declared.Handle.{Handle}
 use Rattle.forest.specs.Tree.{treeAt-node, entry}
+use Rattle.forest.specs.Sound.{TableWord}
 use Rattle.sound.specs.Clauses.{InUse, levelAt, LeafWord, SoundPool}
 use Rattle.sound.specs.Codec.{Placed, codecOf, childOf, slotWord, treeFrom, rootTree}
 use Rattle.sound.specs.Generic.{leaf-says, pool-sound}

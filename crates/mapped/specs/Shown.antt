@@ -17,12 +17,8 @@ use Rattle.sound.specs.Clauses.{SoundPool}
 use Rattle.sound.specs.Codec.{shaped-placed, rootTree}
 use Rattle.walk.specs.Arm.{frameOf, flagsIn, at, says}
 use Rattle.walk.specs.Walk.{index-is, flags-is, frame-is, says-hole, says-block, says-page}
-<<<<<<< HEAD
-use Rattle.walked.specs.Walked.{slotsOf, met, walk-of-tree}
-=======
 use Rattle.walked.specs.Any.{slotsOf, met}
 use Rattle.walked.specs.Walked.{walk-of-tree}
->>>>>>> main
 use Rattle.tree.specs.Page.{span, entry-number, entry-rest, slotOf, slot-lt}
 use Rattle.tree.specs.Word.{valid, frameOf as frameIn, plain, address-frame, valid-yes, valid-no}
 use Rattle.tree.specs.Fine.{Fine}

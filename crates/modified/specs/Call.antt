@@ -3,14 +3,13 @@
 use mathlib.Core.Path.{_≡_, refl, sym, ap, subst, _∙_}
 use mathlib.Core.Bool.{Bool, true, false, cond}
 use mathlib.Core.List.{List}
-use mathlib.Core.Logic.{_⊎_, inl, inr}
-use Prim.Native.Nat.{ℕ, _+_, _-_, _≤_, _<_}
+use Prim.Native.Nat.{ℕ, _≤_, _<_}
 use native.Mathlib.Omega.{arith}
 use lib.Dec.{ltb, lit<}
 use lib.ListN.{length}
-use borrow.Author.Tests.{ltb-false}
-use Rattle.laws.specs.Test.{byBool, is-true, le-or}
-use Rattle.pool.specs.State.{St, tables}
+use borrow.Author.Tests.{ltb-true, ltb-false}
+use Rattle.laws.specs.Test.{byBool, is-true}
+use Rattle.pool.specs.State.{St}
 use Rattle.pool.specs.Number.{used, free}
 use Rattle.pool.specs.Refuse.{number, shaped, Shaped, shaped-says, says-shaped}
 use Rattle.pool.specs.Sound.{soundb}
@@ -134,6 +133,23 @@ survey-pass free room live v ok =
         (b .0, ltb-false room (v .numbers) (passes-not (ltb room (v .numbers)) (Short (v .numbers)) Accepted (b .1) .0))
     rest false on ok = absurd (false-not on)
 
+-- refusal 9 is given for want of room alone
+survey-nine : (free room : ℕ) (live : Bool) (v : Survey) {a b : ℕ} → verifySurvey free room live v ≡ Refused (WantOfRoom a b) → free < v .splits
+unfolding verifySurvey
+survey-nine free room live v {a} {b} is = first (ltb free (v .splits)) refl is
+  where
+    later : (live broken short : Bool) → cond live (cond broken (Refused (HouseRule (v .word))) (cond short (Refused (Short (v .numbers))) Accepted)) Accepted ≡ Refused (WantOfRoom a b) → ⊥
+    later true true short q = let z : _≡_ {A = ℕ} 0 1 = cc in omega arith
+    later true false true q = let z : _≡_ {A = ℕ} 0 1 = cc in omega arith
+    later true false false q = let z : _≡_ {A = ℕ} 0 1 = cc in omega arith
+    later false broken short q = let z : _≡_ {A = ℕ} 0 1 = cc in omega arith
+
+    first : (full : Bool) → ltb free (v .splits) ≡ full
+        → cond full (Refused (WantOfRoom (v .splits) free)) (cond live (cond (v .broken) (Refused (HouseRule (v .word))) (cond (ltb room (v .numbers)) (Refused (Short (v .numbers))) Accepted)) Accepted)
+        ≡ Refused (WantOfRoom a b) → free < v .splits
+    first true e q = ltb-true free (v .splits) e
+    first false e q = absurd (later live (v .broken) (ltb room (v .numbers)) q)
+
 -- no refusal is an acceptance
 not-accepted : {r : Refusal} (live : Bool) (n k : ℕ) → modified.Refused r ≡ accepted live n k → ⊥
 unfolding accepted
@@ -210,6 +226,18 @@ module _ (h : Handle) (c : Call) (s : St) (list : List ℕ) {a b : ℕ} {s′ : 
       let nine : number r ≡ 9 = ap number same in
       omega arith)
 
+  pub full-more : free (s .ledger) < madeBy h c s
+  full-more = go (verdict h c s list) refl
+    where
+      go : (x : Outcome) → verdict h c s list ≡ x → free (s .ledger) < madeBy h c s
+      go Accepted q =
+          let p = ap (λ (x : Modifying). x .answer) (sym is ∙ call-done full-passed list q) in
+          absurd (not-accepted (c .live) (used (workAfter h c s list .state .ledger)) (workAfter h c s list .count) p)
+      go (Refused r) q =
+          let same : r ≡ WantOfRoom a b = let p = answer-of (sym (call-stopped full-passed list r q) ∙ is) in cc in
+          let more = survey-nine (free (s .ledger)) (length list) (c .live) (surveyed h c s) (q ∙ ap Refused same) in
+          omega (arith, splits-made full-passed)
+
 -- ---- accepted
 
 module _ {h : Handle} {c : Call} {s s′ : St} {list list′ : List ℕ} {n k : ℕ} (modifies : Modifies h c s list n k s′ list′) where
@@ -246,3 +274,14 @@ module _ {h : Handle} {c : Call} {s s′ : St} {list list′ : List ℕ} {n k : 
 
   pub call-tree : rootTree h s′ ≡ treeAfter h c s
   call-tree = ap (rootTree h) call-state ∙ after-tree call-passed (call-fits .room) list
+
+  -- the answer
+  accepted-same : (live : Bool) (a b x y : ℕ) → accepted live a b ≡ accepted live x y → (a ≡ x) × (live ≡ true → b ≡ y)
+  unfolding accepted
+  accepted-same true a b x y q = (let z : a ≡ x = cc in z, λ on. let z : b ≡ y = cc in z)
+  accepted-same false a b x y q = (let z : a ≡ x = cc in z, λ on. absurd (false-not on))
+
+  pub call-answer : (n ≡ used (s′ .ledger)) × (c .live ≡ true → k ≡ w .count)
+  call-answer =
+      let p = accepted-same (c .live) n k (used (w .state .ledger)) (w .count) (ap (λ (x : Modifying). x .answer) done) in
+      (p .0 ∙ ap (λ (x : St). used (x .ledger)) (sym call-state), p .1)

@@ -8,3 +8,6 @@ pub mod Splits
 -- the call
 pub mod Asked
 pub mod Call
+pub mod Place
+-- what follows
+pub mod Modified

@@ -1,9 +1,10 @@
 -- The words in which document 01's Modify is said of the call: the call and its answer, its region, the flags after it, the tree after it and the tables that it
 -- makes. Definitions alone; the walk and the root's span are those of `mapped`. Assumes nothing.
 use mathlib.Core.Path.{_≡_}
-use mathlib.Core.Bool.{Bool, true, false, cond}
+use mathlib.Core.Bool.{Bool, false, cond}
 use mathlib.Core.List.{List}
-use Prim.Native.Nat.{ℕ, _≤_, _<_}
+use Prim.Native.Nat.{ℕ, _-_, _^_, _≤_, _<_}
+use lib.Bits.{bitAnd, bitOr}
 use Rattle.region.specs.Region.{rounded}
 use Rattle.pool.specs.State.{St}
 use Rattle.pool.specs.Refuse.{Shaped}
@@ -63,6 +64,10 @@ surveyed h c s = surveyRange (leftOf h) h s 0 (askedOf c) (record { splits = 0; 
 pub record InRegion (c : Call) (va : ℕ) : Type 0 where
   pub from : rounded (c .start) (c .end) .start .0 ≤ va
   pub below : va < rounded (c .start) (c .end) .end .0
+
+-- the flags f after the edit: "bits to set and to clear"
+unfoldable pub flagsAfter : Call → ℕ → ℕ
+flagsAfter c f = bitAnd (bitOr f (c .set)) (2 ^ 64 - 1 - c .clear)
 
 -- ---- the root's tree
 

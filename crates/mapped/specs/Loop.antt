@@ -69,13 +69,20 @@ module _ {h : Handle} (placed : Placed h) where
         → let i = entryIndex (3 - left) (c .start .0) in let t = slotShows h (stateOf x) left k i in
         count c p t ≤ free (stateOf x .ledger) → Slotted placed (stateOf x) (stateOf (each c p x)) left k i (eachTree c p t) (count c p t)
 
-    pub loop : left ≤ 3 → EachWorks → (cs : List MemoryRegion) (a p : ℕ) (x : S) → Pieces left q m a p cs → Ready placed (stateOf x) left k
-        → let t = treeFrom h (stateOf x) left k in
-        tallied left count cs p t ≤ free (stateOf x .ledger)
-        → Worked placed (stateOf x) (stateOf (through each cs p x)) left k (sweep left eachTree cs p t) (tallied left count cs p t)
-    unfolding through sweep tallied
-    loop low works [] a p x all R room = record { work = work-skip (pool-sound placed (R .pool)) left k; same-tables = refl; same-words = refl; spare = omega arith }
-    loop low works (c ∷ cs) a p x all R room =
+    -- the first chunk of some done: what the others find
+    pub record Stepped (c : MemoryRegion) (cs : List MemoryRegion) (p : ℕ) (x : S) : Type 0 where
+      pub slotted : let i = entryIndex (3 - left) (c .start .0) in let u = slotShows h (stateOf x) left k i in
+          Slotted placed (stateOf x) (stateOf (each c p x)) left k i (eachTree c p u) (count c p u)
+      pub ready : Ready placed (stateOf (each c p x)) left k
+      pub same : (j : ℕ) → suc (slotAt left c) ≤ j → slotIn (treeFrom h (stateOf (each c p x)) left k) j ≡ slotIn (treeFrom h (stateOf x) left k) j
+      pub rest : let p′ = p + (c .end .0 - c .start .0) in
+          tallied left count cs p′ (treeFrom h (stateOf (each c p x)) left k) ≡ tallied left count cs p′ (treeFrom h (stateOf x) left k)
+      pub room : tallied left count cs (p + (c .end .0 - c .start .0)) (treeFrom h (stateOf (each c p x)) left k) ≤ free (stateOf (each c p x) .ledger)
+
+    pub stepped : left ≤ 3 → EachWorks → (c : MemoryRegion) (cs : List MemoryRegion) (a p : ℕ) (x : S) → Pieces left q m a p (c ∷ cs) → Ready placed (stateOf x) left k
+        → tallied left count (c ∷ cs) p (treeFrom h (stateOf x) left k) ≤ free (stateOf x .ledger) → Stepped c cs p x
+    unfolding tallied
+    stepped low works c cs a p x all R room =
         let i : ℕ = entryIndex (3 - left) (c .start .0) in
         let p′ : ℕ = p + (c .end .0 - c .start .0) in
         let s : St = stateOf x in
@@ -84,14 +91,26 @@ module _ {h : Handle} (placed : Placed h) where
         let here : count c p (slotIn t i) ≡ count c p (slotShows h s left k i) = ap (count c p) (slot-of h s left k i) in
         let S : Slotted placed s s₁ left k i (eachTree c p (slotShows h s left k i)) (count c p (slotShows h s left k i)) =
         works c p x (all .0 .piece) R (omega arith) in
-        let R₁ = slotted-ready placed R S in
         let index = index-slot left (c .start .0) low in
+        let same : (j : ℕ) → suc (slotAt left c) ≤ j → slotIn (treeFrom h s₁ left k) j ≡ slotIn t j = λ j l. slots-after (eachTree c p) R S j (λ e. omega arith) in
         let rest : tallied left count cs p′ (treeFrom h s₁ left k) ≡ tallied left count cs p′ t =
-        tallied-from left q m low count cs (suc (slotAt left c)) p′ (treeFrom h s₁ left k) t (all .1) (λ j l. slots-after (eachTree c p) R S j (λ e. omega arith)) in
+        tallied-from left q m low count cs (suc (slotAt left c)) p′ (treeFrom h s₁ left k) t (all .1) same in
         let spare = S .spare in
-        let W = loop low works cs (suc (slotAt left c)) p′ (each c p x) (all .1) R₁ (omega arith) in
-        let spare′ = W .spare in
+        record { slotted = S; ready = slotted-ready placed R S; same = same; rest = rest; room = omega arith }
+
+    pub loop : left ≤ 3 → EachWorks → (cs : List MemoryRegion) (a p : ℕ) (x : S) → Pieces left q m a p cs → Ready placed (stateOf x) left k
+        → let t = treeFrom h (stateOf x) left k in
+        tallied left count cs p t ≤ free (stateOf x .ledger)
+        → Worked placed (stateOf x) (stateOf (through each cs p x)) left k (sweep left eachTree cs p t) (tallied left count cs p t)
+    unfolding through sweep tallied
+    loop low works [] a p x all R room = record { work = work-skip (pool-sound placed (R .pool)) left k; same-tables = refl; same-words = refl; spare = omega arith }
+    loop low works (c ∷ cs) a p x all R room =
+        let p′ : ℕ = p + (c .end .0 - c .start .0) in
+        let first = stepped low works c cs a p x all R room in
+        let S = first .slotted in
+        let W = loop low works cs (suc (slotAt left c)) p′ (each c p x) (all .1) (first .ready) (first .room) in
         let sound = pool-sound placed (R .pool) in
+        let here = ap (count c p) (slot-of h (stateOf x) left k (entryIndex (3 - left) (c .start .0))) in
         record {
           work = record {
             over = over-trans sound (at-over sound (R .used) (S .step .move .at)) (W .work .over);
@@ -99,5 +118,5 @@ module _ {h : Handle} (placed : Placed h) where
           };
           same-tables = W .same-tables ∙ S .step .same-tables;
           same-words = W .same-words ∙ S .step .same-words;
-          spare = omega arith;
+          spare = omega (arith, S .spare, W .spare, first .rest, here);
         }

@@ -5,6 +5,8 @@ pub mod Word
 pub mod Passes
 pub mod Range
 pub mod Splits
+pub mod Numbers
+pub mod Notes
 -- the call
 pub mod Asked
 pub mod Call

@@ -7,6 +7,7 @@ pub mod Range
 pub mod Splits
 pub mod Numbers
 pub mod Notes
+pub mod Listing
 -- the call
 pub mod Asked
 pub mod Call

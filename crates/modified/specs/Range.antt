@@ -41,7 +41,7 @@ use Rattle.mapped.specs.Leaf.{slot-fine, leaf-from}
 use Rattle.mapped.specs.Stand.{Piece}
 use Rattle.mapped.specs.Moves.{slotShows, Ready, Slotted, Worked, kept, stored, worked-ready, worked-twice}
 use Rattle.mapped.specs.Pieces.{Area, slotAt, pieces}
-use Rattle.mapped.specs.Down.{Holds, holds-table, holds-leaf, holds, opens}
+use Rattle.mapped.specs.Down.{Holds, holds-table, holds-leaf, Opens, holds, opens}
 use Rattle.mapped.specs.Loop.{through, loop}
 use Rattle.modified.specs.Word.{Bits, table-stays, hole-stays, valid-edited, edited-stands}
 use Rattle.modified.specs.Passes.{ownTo, downTo, own-valid, own-hole, own-node, down-whole, down-part, down-into, takes-part, takes-into, pages-pass, two-passes}
@@ -69,7 +69,7 @@ pub through-chunks : {S : Type 0} (level : ℕ) (f : MemoryRegion → S → S) (
 unfolding eachChunk
 through-chunks level f r p x = through-of f (chunks level (r .start .0) (r .end .0)) p x
 
-none-taken : (left : ℕ) (cs : List MemoryRegion) (p : ℕ) (t : Tree) → tallied left (λ c y u. 0) cs p t ≡ 0
+pub none-taken : (left : ℕ) (cs : List MemoryRegion) (p : ℕ) (t : Tree) → tallied left (λ c y u. 0) cs p t ≡ 0
 unfolding tallied
 none-taken left [] p t = refl
 none-taken left (c ∷ cs) p t = let z = none-taken left cs (p + (c .end .0 - c .start .0)) t in omega arith
@@ -131,7 +131,7 @@ module _ {h : Handle} (placed : Placed h) where
       leaf-works = byBool (valid w) leaf-edited
           (λ v. stays (hole-stays e w (3 - left) v) (ap (ownTo (e .set) (e .clear)) shows ∙ own-hole (e .set) (e .clear) w v ∙ sym shows))
 
-  own-works : (left k : ℕ) (e : Edit) (ledger : List ℕ) (bits : Bits h e) (c : MemoryRegion) (n : Noted) (R : Ready placed (st (n .words) ledger) left k)
+  pub own-works : (left k : ℕ) (e : Edit) (ledger : List ℕ) (bits : Bits h e) (c : MemoryRegion) (n : Noted) (R : Ready placed (st (n .words) ledger) left k)
       → Goal left k e ledger bits c n R
   own-works zero k e ledger bits c n R =
       let old : ¬ (TableWord (levelAt (st (n .words) ledger) k) (w 0 k e ledger bits c n R)) = λ table. omega (arith, R .low, table .0) in
@@ -192,23 +192,28 @@ module _ {h : Handle} (placed : Placed h) where
     slot : j < 512
     slot = slot-below level (c .start .0)
 
+    -- on in the table that is found
+    pub goes-down : (O : Opens placed (x .state) left k j) → own level c y ≡ false
+        → modifyRange left h (O .table) (chunkEdit e c) (work (O .state) (x .list) (x .count)) ≡ stepAt level h k e c x
+    goes-down O goes =
+        let last : 3 - (level + 1) ≡ left = omega (arith, R .low) in
+        ap (λ (d : ℕ). modifyRange d h (O .table) (chunkEdit e c) (work (O .state) (x .list) (x .count))) (sym last)
+        ∙ step-into h level k e c x refl goes (O .found) (O .table) refl
+
     by-down : count u ≤ free (x .state .ledger) → own level c y ≡ false
         → downTo (e .set) (e .clear) left c p u ≡ editTable (chunkEdit e c) left p (opened left u) → count u ≡ splits u + editTakes (chunkEdit e c) left p (opened left u) → Down
     by-down room goes tree all =
         let O = opens placed R j slot (omega arith) in
         let fewer = O .room in
-        let last : 3 - (level + 1) ≡ left = omega (arith, R .low) in
         let w : Work = work (O .state) (x .list) (x .count) in
         let W = edits q (O .table) p (chunkEdit e c) w (record { set = bits .set; clear = bits .clear }) (record { inside = piece .inside; room = piece .room }) (O .ready)
         (subst (λ (v : Tree). editTakes (chunkEdit e c) left p v ≤ free (O .state .ledger)) (sym (O .shows)) (omega arith)) in
         let W′ = subst (λ (v : Tree). Worked placed (O .state) (modifyRange left h (O .table) (chunkEdit e c) w .state) left (O .table)
         (editTable (chunkEdit e c) left p v) (editTakes (chunkEdit e c) left p v)) (O .shows) W in
-        let into : modifyRange left h (O .table) (chunkEdit e c) w ≡ stepAt level h k e c x =
-        ap (λ (d : ℕ). modifyRange d h (O .table) (chunkEdit e c) w) (sym last) ∙ step-into h level k e c x refl goes (O .found) (O .table) refl in
-        subst (λ (z : Work). Slotted placed (x .state) (z .state) (suc left) k j (downTo (e .set) (e .clear) left c p u) (count u)) into
+        subst (λ (z : Work). Slotted placed (x .state) (z .state) (suc left) k j (downTo (e .set) (e .clear) left c p u) (count u)) (goes-down O goes)
         (subst₂ (λ (v : Tree) (n : ℕ). Slotted placed (x .state) (modifyRange left h (O .table) (chunkEdit e c) w .state) (suc left) k j v n) (sym tree) (sym all) (O .back W′))
 
-    down-works : count u ≤ free (x .state .ledger) → Down
+    pub down-works : count u ≤ free (x .state .ledger) → Down
     unfolding wholeEntry
     down-works room = go (holds placed R j slot)
       where
@@ -232,7 +237,7 @@ module _ {h : Handle} (placed : Placed h) where
 
   -- ---- a table
 
-  down-pass : (left q k p : ℕ) (e : Edit) (w : Work) → suc left ≤ 3 → Edits left → Bits h e → Area (suc left) q (areaOf e p) → Ready placed (w .state) (suc left) k
+  pub down-pass : (left q k p : ℕ) (e : Edit) (w : Work) → suc left ≤ 3 → Edits left → Bits h e → Area (suc left) q (areaOf e p) → Ready placed (w .state) (suc left) k
       → let t = treeFrom h (w .state) (suc left) k in let cs = chunks (3 - suc left) (e .region .start .0) (e .region .end .0) in
       editTakes e (suc left) p t ≤ free (w .state .ledger)
       → Worked placed (w .state) (eachChunk (3 - suc left) (stepAt (3 - suc left) h k e) (e .region) w .state) (suc left) k

@@ -8,6 +8,7 @@ pub mod Splits
 pub mod Numbers
 pub mod Notes
 pub mod Listing
+pub mod Counted
 -- the call
 pub mod Asked
 pub mod Call

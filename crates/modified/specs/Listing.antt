@@ -1,9 +1,9 @@
 -- A modify of a table of a sound pool puts into the list the numbers of the table's tree, in the document's order. Assumes nothing.
 use mathlib.Core.Path.{_≡_, refl, sym, ap, ap₂, subst, _∙_}
 use mathlib.Core.Bool.{Bool, true, false}
-use mathlib.Core.List.{List, [], _∷_, _++_}
+use mathlib.Core.List.{List, [], _∷_}
 use mathlib.Core.Logic.{_⊎_, inl, inr, _≢_}
-use Prim.Native.Nat.{ℕ, zero, suc, _+_, _-_, _%_, _≤_, _<_}
+use Prim.Native.Nat.{ℕ, zero, suc, _+_, _-_, _≤_, _<_}
 use native.Mathlib.Omega.{arith}
 use Rattle.laws.specs.Test.{byBool, eq-or}
 use Rattle.region.specs.Region.{entryIndex}
@@ -39,11 +39,11 @@ use Rattle.mapped.specs.Leaf.{slot-fine}
 use Rattle.mapped.specs.Stand.{Piece}
 use Rattle.mapped.specs.Moves.{slotShows, Ready, worked-ready}
 use Rattle.mapped.specs.Pieces.{Area, slotAt, Pieces, pieces}
-use Rattle.mapped.specs.Down.{Holds, holds-table, holds-leaf, Opens, holds, opens}
+use Rattle.mapped.specs.Down.{Holds, holds-table, holds-leaf, holds, opens}
 use Rattle.mapped.specs.Loop.{slot-of, through, EachWorks, stepped}
 use Rattle.modified.specs.Word.{Bits, table-stays, hole-stays, valid-edited}
 use Rattle.modified.specs.Passes.{ownTo, downTo, takes-part, takes-into}
-use Rattle.modified.specs.Range.{editTable, editTakes, areaOf, through-chunks, none-taken, own-works, Edits, goes-down, down-works, down-pass, range-edits}
+use Rattle.modified.specs.Range.{editTakes, areaOf, through-chunks, none-taken, own-works, Edits, goes-down, down-works, down-pass, range-edits}
 use Rattle.modified.specs.Numbers.{gathered, changedNumber, ownNumbers, lowerNumbers, tableNumbers, number-changed, number-same, number-hole, lower-whole, lower-part, lower-into, leafNumbers, leaf-number, leaf-none, leaf-page, leaf-after, gathered-from, gathered-after}
 use Rattle.modified.specs.Notes.{putAll, put-none, put-one, put-append}
 

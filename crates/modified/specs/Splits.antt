@@ -63,7 +63,7 @@ chunks-tally m f left count t each r p x = fold-tally m f left count t each (chu
 -- ---- an entry that is no table
 
 -- the same test by either name
-whole-is : (level : ℕ) (c : MemoryRegion) → whole level c ≡ wholeEntry level c
+pub whole-is : (level : ℕ) (c : MemoryRegion) → whole level c ≡ wholeEntry level c
 unfolding whole wholeEntry
 whole-is level c = refl
 

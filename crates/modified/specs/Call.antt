@@ -2,11 +2,11 @@
 -- a sound pool whose root shows the tree after the modify. Assumes nothing.
 use mathlib.Core.Path.{_≡_, refl, sym, ap, subst, _∙_}
 use mathlib.Core.Bool.{Bool, true, false, cond}
-use mathlib.Core.List.{List}
+use mathlib.Core.List.{List, _++_}
 use Prim.Native.Nat.{ℕ, _≤_, _<_}
 use native.Mathlib.Omega.{arith}
 use lib.Dec.{ltb, lit<}
-use lib.ListN.{length}
+use lib.ListN.{length, drop}
 use borrow.Author.Tests.{ltb-true, ltb-false}
 use Rattle.laws.specs.Test.{byBool, is-true}
 use Rattle.pool.specs.State.{St}
@@ -19,6 +19,7 @@ use Rattle.pool.specs.declared.Refusal.the-variants.{Shape, Unsound, WantOfRoom
 use Rattle.pool.specs.declared.Outcome.{Outcome}
 use Rattle.pool.specs.declared.Outcome.the-variants.{Accepted, Refused}
 use Rattle.edit.specs.declared.Edit.{Edit}
+use Rattle.edit.specs.Own.{Numbered, numbered}
 use Rattle.edit.specs.Range.{Work, work, modifyRange}
 use Rattle.survey.specs.declared.Survey.{Survey}
 use Rattle.modify.specs.declared.Modified.{Modified}
@@ -37,10 +38,13 @@ use Rattle.mapped.specs.Leaf.{root-used}
 use Rattle.mapped.specs.Moves.{slotShows, Ready, Worked, worked-shaped, worked-pool}
 use Rattle.mapped.specs.Pieces.{Area}
 use Rattle.mapped.specs.Asked.{Early}
-use Rattle.modified.specs.Terms.{Call, callOf, accepted, Modifies, askedOf, Passed, surveyed, pagesOf, treeAfter, madeBy}
+use Rattle.modified.specs.Terms.{Call, callOf, accepted, Modifies, askedOf, Passed, surveyed, pagesOf, treeAfter, madeBy, numbersOf}
 use Rattle.modified.specs.Word.{Bits}
 use Rattle.modified.specs.Range.{editTable, editTakes, areaOf, range-edits}
 use Rattle.modified.specs.Splits.{survey-splits}
+use Rattle.modified.specs.Notes.{putAll, put-off, put-live}
+use Rattle.modified.specs.Listing.{range-lists}
+use Rattle.modified.specs.Counted.{survey-numbers}
 use Rattle.modified.specs.Asked.{passes-not, asked-bits, asked-area, asked-early}
 
 -- the pool and the list that an accepted call leaves
@@ -87,6 +91,12 @@ module _ {h : Handle} {c : Call} {s : St} (passed : Passed h c s) where
       let q = survey-splits (shaped-placed (passed .shape)) (leftOf h) 0 0 e s (record { splits = 0; numbers = 0; broken = false; word = 0 }) ready in
       omega (arith, takes-made)
 
+  -- REFUSAL 11'S COUNT IS THE TREE'S, where the house rule is kept
+  pub numbers-made : surveyed h c s .broken ≡ false → surveyed h c s .numbers ≡ length (numbersOf h c s)
+  numbers-made kept =
+      let a = survey-numbers (shaped-placed (passed .shape)) (leftOf h) (omega arith) (rootIn h) 0 0 e s (record { splits = 0; numbers = 0; broken = false; word = 0 }) area ready kept in
+      omega (arith, a .numbers)
+
   -- ---- with room
 
   module _ (room : madeBy h c s ≤ free (s .ledger)) (list : List ℕ) where
@@ -99,6 +109,10 @@ module _ {h : Handle} {c : Call} {s : St} (passed : Passed h c s) where
 
     pub after-sound : SoundPool h (workAfter h c s list .state)
     after-sound = worked-pool (shaped-placed (passed .shape)) ready worked
+
+    pub after-list : numbered (workAfter h c s list .count) (workAfter h c s list .list) ≡ putAll (c .live) (numbersOf h c s) (numbered 0 list)
+    unfolding asked
+    after-list = range-lists (shaped-placed (passed .shape)) (leftOf h) (omega arith) (rootIn h) 0 0 e (work s list 0) bits area ready (omega (arith, takes-made))
 
     pub after-tree : rootTree h (workAfter h c s list .state) ≡ treeAfter h c s
     after-tree = worked .work .tree ∙ done-tree
@@ -285,3 +299,24 @@ module _ {h : Handle} {c : Call} {s s′ : St} {list list′ : List ℕ} {n k : 
   call-answer =
       let p = accepted-same (c .live) n k (used (w .state .ledger)) (w .count) (ap (λ (x : Modifying). x .answer) done) in
       (p .0 ∙ ap (λ (x : St). used (x .ledger)) (sym call-state), p .1)
+
+  -- ---- the list
+
+  pub call-off : c .live ≡ false → list′ ≡ list
+  call-off off =
+      call-list ∙ ap (λ (x : Numbered). x .list) (after-list call-passed (call-fits .room) list ∙ ap (λ (live : Bool). putAll live (numbersOf h c s) (numbered 0 list)) off
+      ∙ put-off (numbersOf h c s) (numbered 0 list))
+
+  module _ (on : c .live ≡ true) where
+    pub call-enough : length (numbersOf h c s) ≤ length list
+    call-enough = let q = numbers-made call-passed (call-fits .kept on) in omega (arith, call-fits .enough on)
+
+    listed : numbered (w .count) (w .list) ≡ numbered (length (numbersOf h c s)) (numbersOf h c s ++ drop (length (numbersOf h c s)) list)
+    listed =
+        after-list call-passed (call-fits .room) list ∙ ap (λ (live : Bool). putAll live (numbersOf h c s) (numbered 0 list)) on
+        ∙ put-live (numbersOf h c s) list call-enough
+
+    pub call-on : (k ≡ length (numbersOf h c s)) × (list′ ≡ numbersOf h c s ++ drop k list)
+    call-on =
+        let q : k ≡ length (numbersOf h c s) = call-answer .1 on ∙ ap (λ (x : Numbered). x .count) listed in
+        (q, call-list ∙ ap (λ (x : Numbered). x .list) listed ∙ ap (λ (n : ℕ). numbersOf h c s ++ drop n list) (sym q))

@@ -51,7 +51,8 @@ use Rattle.mapped.specs.Loop.{slot-of}
 use Rattle.modified.specs.Word.{hole-stays, valid-edited}
 use Rattle.modified.specs.Range.{areaOf}
 use Rattle.modified.specs.Splits.{whole-is, chunk-leaf, chunk-table}
-use Rattle.modified.specs.Numbers.{gathered, changedNumber, ownNumbers, lowerNumbers, tableNumbers, number-changed, number-same, number-hole, own-whole, own-part, own-none, lower-whole, lower-part, lower-into, leaf-number, leaf-page, gathered-both, gathered-none}
+use Rattle.modified.specs.Numbers.{gathered, changedNumber, ownNumbers, lowerNumbers, tableNumbers}
+use Rattle.modified.specs.Gathered.{number-changed, number-same, number-hole, own-whole, own-part, own-none, lower-whole, lower-part, lower-into, leaf-number, leaf-page, gathered-both, gathered-none}
 
 -- ---- a split of a hole lists nothing
 

@@ -44,7 +44,8 @@ use Rattle.mapped.specs.Loop.{slot-of, through, EachWorks, stepped}
 use Rattle.modified.specs.Word.{Bits, table-stays, hole-stays, valid-edited}
 use Rattle.modified.specs.Passes.{ownTo, downTo, takes-part, takes-into}
 use Rattle.modified.specs.Range.{editTakes, areaOf, through-chunks, none-taken, own-works, Edits, goes-down, down-works, down-pass, range-edits}
-use Rattle.modified.specs.Numbers.{gathered, changedNumber, ownNumbers, lowerNumbers, tableNumbers, number-changed, number-same, number-hole, lower-whole, lower-part, lower-into, leafNumbers, leaf-number, leaf-none, leaf-page, leaf-after, gathered-from, gathered-after}
+use Rattle.modified.specs.Numbers.{gathered, changedNumber, ownNumbers, lowerNumbers, tableNumbers}
+use Rattle.modified.specs.Gathered.{number-changed, number-same, number-hole, lower-whole, lower-part, lower-into, leafNumbers, leaf-number, leaf-none, leaf-page, leaf-after, gathered-from, gathered-after}
 use Rattle.modified.specs.Notes.{putAll, put-none, put-one, put-append}
 
 -- ---- a loop over the chunks of a table

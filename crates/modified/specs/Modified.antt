@@ -1,10 +1,11 @@
 -- DOCUMENT 01'S MODIFY, of the call itself: `callOf` is the definition `modifyCall` that the contract of the public call cites, `walkOf` the Arm walk of the words,
 -- and nothing is asked of the pool but that the call is accepted. `shown` is what "as before" compares: kind of answer, frame, flags. Assumes nothing.
 use mathlib.Core.Path.{_≡_, refl, sym, ap, _∙_}
-use mathlib.Core.Bool.{cond}
-use mathlib.Core.List.{List}
+use mathlib.Core.Bool.{true, false, cond}
+use mathlib.Core.List.{List, _++_}
+use lib.ListN.{length, drop}
 use mathlib.Core.Logic.{_↔_}
-use Prim.Native.Nat.{ℕ, suc, _+_, _*_, _/_, _%_, _<_}
+use Prim.Native.Nat.{ℕ, suc, _+_, _*_, _/_, _%_, _≤_, _<_}
 use native.Mathlib.Omega.{arith}
 use Rattle.pool.specs.State.{St}
 use Rattle.pool.specs.Number.{used, free}
@@ -27,8 +28,8 @@ use Rattle.mapped.specs.Terms.{walkOf, Shown, mapped, hole, shown, InSpan, left
 use Rattle.mapped.specs.Leaf.{root-fine}
 use Rattle.mapped.specs.Shown.{inBytes, walk-shown}
 use Rattle.mapped.specs.Place.{span-spans}
-use Rattle.modified.specs.Terms.{Call, callOf, Modifies, Passed, surveyed, InRegion, flagsAfter, pagesOf, treeAfter, madeBy}
-use Rattle.modified.specs.Call.{given, splits-made, call-full, full-passed, full-more, call-passed, call-shaped, call-sound, call-tree, call-answer}
+use Rattle.modified.specs.Terms.{Call, callOf, Modifies, Passed, surveyed, InRegion, flagsAfter, pagesOf, treeAfter, madeBy, numbersOf}
+use Rattle.modified.specs.Call.{given, splits-made, call-full, full-passed, full-more, call-passed, call-shaped, call-sound, call-tree, call-answer, call-off, call-enough, call-on, numbers-made}
 use Rattle.modified.specs.Place.{region-page, page-region, region-spans}
 
 -- ---- what a walk shows, read back
@@ -128,6 +129,16 @@ module _ {h : Handle} {c : Call} {s s′ : St} {list list′ : List ℕ} {n k : 
       let count = modify-tables (leftOf h) (rootIn h) (rootTree h s) (pagesOf c) in
       (call-answer modifies .0, omega arith)
 
+  -- ---- the list
+
+  -- not live, the list stays untouched;
+  pub modify-list-untouched : c .live ≡ false → list′ ≡ list
+  modify-list-untouched off = call-off modifies off
+
+  -- live, it is answered how many numbers there are, and the list holds them and then what it held: it has room for all of them
+  pub modify-list-exactly : c .live ≡ true → (k ≡ length (numbersOf h c s)) × (k ≤ length list) × (list′ ≡ numbersOf h c s ++ drop k list)
+  modify-list-exactly on = let p = call-on modifies on in (p .0, omega (arith, p .0, call-enough modifies on), p .1)
+
 -- ---- REFUSAL 9
 
 module _ (h : Handle) (c : Call) (s : St) (list : List ℕ) where
@@ -154,3 +165,7 @@ module _ (h : Handle) (c : Call) (s : St) (list : List ℕ) where
   -- the survey's count of splits is what the modify makes
   pub modify-splits-made : Passed h c s → surveyed h c s .splits ≡ madeBy h c s
   modify-splits-made passed = splits-made passed
+
+  -- the survey's count of numbers is the list's, where the house rule is kept
+  pub modify-numbers-counted : Passed h c s → surveyed h c s .broken ≡ false → surveyed h c s .numbers ≡ length (numbersOf h c s)
+  modify-numbers-counted passed kept = numbers-made passed kept

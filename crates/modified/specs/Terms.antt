@@ -23,6 +23,7 @@ use Rattle.sound.specs.Codec.{rootTree}
 use Rattle.tree.specs.Modify.{Modify, modifyTree, modifyMade}
 use Rattle.tree.specs.DocumentModify.{modifyPages}
 use Rattle.mapped.specs.Terms.{leftOf, rootIn}
+use Rattle.modified.specs.Numbers.{tableNumbers}
 
 -- ---- the call
 
@@ -81,3 +82,7 @@ treeAfter h c s = modifyTree (leftOf h) (rootIn h) (pagesOf c) (rootTree h s)
 
 abbrev pub madeBy : Handle → Call → St → ℕ
 madeBy h c s = modifyMade (leftOf h) (rootIn h) (pagesOf c) (rootTree h s)
+
+-- the numbers of the entries whose words change: "a lower table's numbers when that table is finished, a table's own last, ascending"
+abbrev pub numbersOf : Handle → Call → St → List ℕ
+numbersOf h c s = let e = askedOf c in tableNumbers (e .set) (e .clear) (leftOf h) (e .region) (rootTree h s)

@@ -14,7 +14,7 @@ use Rattle.pool.specs.declared.Refusal.{Refusal}
 use Rattle.pool.specs.declared.Refusal.the-variants.{End, InvalidFlags, FlagSet}
 use Rattle.pool.specs.declared.Outcome.{Outcome}
 use Rattle.pool.specs.declared.Outcome.the-variants.{Accepted, Refused}
-use Rattle.verify.specs.Verify.{endFits, verify}
+use Rattle.verify.specs.Verify.{endFits, verify, verified-forwards}
 use Rattle.edit.specs.declared.Edit.{Edit}
 use Rattle.modify.specs.Ask.{asked, verifyBits, thenRegion, verifyEdit, asked-span}
 use Rattle.mapped.specs.Terms.{rootOf}
@@ -77,6 +77,9 @@ module _ (h : Handle) (start end set clear : ℕ) (live : Bool) (ok : verifyEdit
     inside = pages-inside h start end 0 low (asked-passes .1) (omega arith);
     room = omega (arith, asked-span h start end set clear live ok);
   }
+
+  pub asked-forwards : e .region .start .0 ≤ e .region .end .0
+  asked-forwards = verified-forwards h (e .region) (asked-passes .1)
 
 -- ---- refusals 2 to 6 are none of the later ones
 

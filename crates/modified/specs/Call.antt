@@ -24,7 +24,7 @@ use Rattle.edit.specs.Range.{Work, work, modifyRange}
 use Rattle.survey.specs.declared.Survey.{Survey}
 use Rattle.modify.specs.declared.Modified.{Modified}
 use Rattle.modify.specs.declared.Modified.the-variants as modified
-use Rattle.modify.specs.Ask.{asked, verifyEdit, verifySurvey, survey-full}
+use Rattle.modify.specs.Ask.{asked, verifyEdit, verifySurvey, survey-full, survey-off, survey-broken, survey-short, survey-accepted}
 use Rattle.modify.specs.Call.{Modifying, modifying, refused, answerOf, editTables, modifySound, sound-not, sound-refused, sound-edited, call-misshaped, call-refused, call-asked}
 use Rattle.forest.specs.Tree.{Tree, node, treeAt-node}
 use Rattle.sound.specs.Clauses.{SoundPool}
@@ -39,13 +39,15 @@ use Rattle.mapped.specs.Moves.{slotShows, Ready, Worked, worked-shaped, worked-
 use Rattle.mapped.specs.Pieces.{Area}
 use Rattle.mapped.specs.Asked.{Early}
 use Rattle.modified.specs.Terms.{Call, callOf, accepted, Modifies, askedOf, Passed, surveyed, pagesOf, treeAfter, madeBy, numbersOf}
+use Rattle.modified.specs.Numbers.{occurs}
 use Rattle.modified.specs.Word.{Bits}
 use Rattle.modified.specs.Range.{editTable, editTakes, areaOf, range-edits}
 use Rattle.modified.specs.Splits.{survey-splits}
 use Rattle.modified.specs.Notes.{putAll, put-off, put-live}
 use Rattle.modified.specs.Listing.{range-lists}
 use Rattle.modified.specs.Counted.{survey-numbers}
-use Rattle.modified.specs.Asked.{passes-not, asked-bits, asked-area, asked-early}
+use Rattle.modified.specs.Once.{numbers-once}
+use Rattle.modified.specs.Asked.{passes-not, asked-bits, asked-area, asked-forwards, asked-early}
 
 -- the pool and the list that an accepted call leaves
 abbrev pub workAfter : Handle → Call → St → List ℕ → Work
@@ -96,6 +98,12 @@ module _ {h : Handle} {c : Call} {s : St} (passed : Passed h c s) where
   numbers-made kept =
       let a = survey-numbers (shaped-placed (passed .shape)) (leftOf h) (omega arith) (rootIn h) 0 0 e s (record { splits = 0; numbers = 0; broken = false; word = 0 }) area ready kept in
       omega (arith, a .numbers)
+
+  -- each once
+  pub numbers-one : (x : ℕ) → occurs x (numbersOf h c s) ≤ 1
+  numbers-one x =
+      numbers-once (e .set) (e .clear) x (leftOf h) (rootIn h) (areaOf e 0) (rootTree h s) (omega arith) area
+      (asked-forwards h (c .start) (c .end) (c .set) (c .clear) (c .live) (passed .asks))
 
   -- ---- with room
 
@@ -208,6 +216,33 @@ module _ {h : Handle} {c : Call} {s : St} (passed : Passed h c s) (list : List �
       let p = survey-pass (free (s .ledger)) (length list) (c .live) (surveyed h c s) ok in
       let few = p .0 in
       record { room = omega arith; kept = p .1; enough = p .2 }
+
+  pub call-accepted : Fits h c s list → let w = workAfter h c s list in
+      callOf h c s list ≡ modifying (accepted (c .live) (used (w .state .ledger)) (w .count)) (w .state) (w .list)
+  call-accepted fits = call-done (go (c .live) refl)
+    where
+      room : surveyed h c s .splits ≤ free (s .ledger)
+      room = omega (arith, fits .room, splits-made passed)
+
+      go : (live : Bool) → c .live ≡ live → verdict h c s list ≡ Accepted
+      go true q = sym (survey-accepted (free (s .ledger)) (length list) (c .live) (surveyed h c s) room q (fits .kept q) (fits .enough q))
+      go false q = sym (survey-off (free (s .ledger)) (length list) (c .live) (surveyed h c s) room q)
+
+  -- refusal 10
+  pub call-broken : madeBy h c s ≤ free (s .ledger) → c .live ≡ true → surveyed h c s .broken ≡ true
+      → callOf h c s list ≡ refused (HouseRule (surveyed h c s .word)) s list
+  call-broken room on broken =
+      let m = splits-made passed in
+      call-stopped (HouseRule (surveyed h c s .word)) (sym (survey-broken (free (s .ledger)) (length list) (c .live) (surveyed h c s) (omega arith) on broken))
+
+  -- refusal 11
+  pub call-short : madeBy h c s ≤ free (s .ledger) → c .live ≡ true → surveyed h c s .broken ≡ false → length list < length (numbersOf h c s)
+      → callOf h c s list ≡ refused (Short (length (numbersOf h c s))) s list
+  call-short room on kept short =
+      let m = splits-made passed in
+      let n = numbers-made passed kept in
+      call-stopped (Short (surveyed h c s .numbers)) (sym (survey-short (free (s .ledger)) (length list) (c .live) (surveyed h c s) (omega arith) on kept (omega arith)))
+      ∙ ap (λ (k : ℕ). refused (Short k) s list) n
 
 -- what is answered otherwise than by refusals 1 to 8 was left by them
 passed-by : (h : Handle) (c : Call) (s : St) (list : List ℕ) {x : Modifying} → callOf h c s list ≡ x → ((r : Refusal) → number r < 9 → refused r s list ≡ x → ⊥) → Passed h c s

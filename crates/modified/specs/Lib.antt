@@ -11,6 +11,7 @@ pub mod Gathered
 pub mod Notes
 pub mod Listing
 pub mod Counted
+pub mod Once
 -- the call
 pub mod Asked
 pub mod Call

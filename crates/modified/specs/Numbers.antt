@@ -2,7 +2,7 @@
 -- entry whose word changed: a lower table's numbers when that table is finished, a table's own last, ascending". Definitions alone. Assumes nothing.
 use mathlib.Core.Bool.{not, cond, _&&_}
 use mathlib.Core.List.{List, [], _∷_, _++_}
-use Prim.Native.Nat.{ℕ, zero, suc, _-_, _/_, _%_, _^_}
+use Prim.Native.Nat.{ℕ, zero, suc, _+_, _-_, _/_, _%_, _^_}
 use lib.Dec.{eqb}
 use Rattle.region.specs.Region.{entryIndex}
 use Rattle.region.specs.Chunks.{chunks}
@@ -42,3 +42,8 @@ module _ (set clear : ℕ) where
   tableNumbers (suc left) c t =
       let cs = chunks (3 - suc left) (c .start .0) (c .end .0) in
       gathered (suc left) (lowerNumbers (λ d u. tableNumbers left d u) left) cs t ++ gathered (suc left) (ownNumbers (suc left)) cs t
+
+-- how often x stands in a list
+unfoldable pub occurs : ℕ → List ℕ → ℕ
+occurs x [] = 0
+occurs x (y ∷ ys) = cond (eqb x y) 1 0 + occurs x ys

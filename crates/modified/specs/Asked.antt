@@ -26,7 +26,7 @@ use Rattle.modified.specs.Range.{areaOf}
 
 -- ---- the tests that are passed
 
-pub passes-not : (b : Bool) (r : Refusal) (x : Outcome) → cond b (Refused r) x ≡ Accepted → (b ≡ false) × (x ≡ Accepted)
+passes-not : (b : Bool) (r : Refusal) (x : Outcome) → cond b (Refused r) x ≡ Accepted → (b ≡ false) × (x ≡ Accepted)
 passes-not true r x e = let z : _≡_ {A = ℕ} 0 1 = cc in absurd (omega arith)
 passes-not false r x e = (refl, e)
 

@@ -1,14 +1,14 @@
 -- The call of modify on a pool that refusals 1 to 8 leave: it is refused 9 exactly when the tree's count exceeds what is free, and where it is accepted it leaves
 -- a sound pool whose root shows the tree after the modify. Assumes nothing.
 use mathlib.Core.Path.{_≡_, refl, sym, ap, subst, _∙_}
-use mathlib.Core.Bool.{Bool, true, false, cond}
+use mathlib.Core.Bool.{Bool, true, false}
 use mathlib.Core.List.{List, _++_}
+use mathlib.Core.Logic.{_⊎_, inl, inr}
 use Prim.Native.Nat.{ℕ, _≤_, _<_}
 use native.Mathlib.Omega.{arith}
-use lib.Dec.{ltb, lit<}
+use lib.Dec.{lit<, lit≤}
 use lib.ListN.{length, drop}
-use borrow.Author.Tests.{ltb-true, ltb-false}
-use Rattle.laws.specs.Test.{byBool, is-true}
+use Rattle.laws.specs.Test.{byBool, is-true, le-or}
 use Rattle.pool.specs.State.{St}
 use Rattle.pool.specs.Number.{used, free}
 use Rattle.pool.specs.Refuse.{number, shaped, Shaped, shaped-says, says-shaped}
@@ -21,7 +21,6 @@ use Rattle.pool.specs.declared.Outcome.the-variants.{Accepted, Refused}
 use Rattle.edit.specs.declared.Edit.{Edit}
 use Rattle.edit.specs.Own.{Numbered, numbered}
 use Rattle.edit.specs.Range.{Work, work, modifyRange}
-use Rattle.survey.specs.declared.Survey.{Survey}
 use Rattle.modify.specs.declared.Modified.{Modified}
 use Rattle.modify.specs.declared.Modified.the-variants as modified
 use Rattle.modify.specs.Ask.{asked, verifyEdit, verifySurvey, survey-full, survey-off, survey-broken, survey-short, survey-accepted}
@@ -47,7 +46,7 @@ use Rattle.modified.specs.Notes.{putAll, put-off, put-live}
 use Rattle.modified.specs.Listing.{range-lists}
 use Rattle.modified.specs.Counted.{survey-numbers}
 use Rattle.modified.specs.Once.{numbers-once}
-use Rattle.modified.specs.Asked.{passes-not, asked-bits, asked-area, asked-forwards, asked-early}
+use Rattle.modified.specs.Asked.{asked-bits, asked-area, asked-forwards, asked-early}
 
 -- the pool and the list that an accepted call leaves
 abbrev pub workAfter : Handle → Call → St → List ℕ → Work
@@ -133,44 +132,19 @@ pub record Fits (h : Handle) (c : Call) (s : St) (list : List ℕ) : Type 0 wher
   pub kept : c .live ≡ true → surveyed h c s .broken ≡ false
   pub enough : c .live ≡ true → surveyed h c s .numbers ≤ length list
 
+-- refusals 9, 10 and 11, or none of them
+pub data Judged (h : Handle) (c : Call) (s : St) (list : List ℕ) : Type 0 where
+  is-full : free (s .ledger) < madeBy h c s → Judged h c s list
+  is-broken : madeBy h c s ≤ free (s .ledger) → c .live ≡ true → surveyed h c s .broken ≡ true → Judged h c s list
+  is-short : madeBy h c s ≤ free (s .ledger) → c .live ≡ true → surveyed h c s .broken ≡ false → length list < length (numbersOf h c s) → Judged h c s list
+  is-fit : Fits h c s list → Judged h c s list
+
 -- what refusals 9 to 11 say
 abbrev verdict : Handle → Call → St → List ℕ → Outcome
 verdict h c s list = verifySurvey (free (s .ledger)) (length list) (c .live) (surveyed h c s)
 
 false-not : false ≡ true → ⊥
 false-not q = let z : _≡_ {A = ℕ} 0 1 = cc in omega arith
-
-survey-pass : (free room : ℕ) (live : Bool) (v : Survey) → verifySurvey free room live v ≡ Accepted
-    → (v .splits ≤ free) × (live ≡ true → v .broken ≡ false) × (live ≡ true → v .numbers ≤ room)
-unfolding verifySurvey
-survey-pass free room live v ok =
-    let a = passes-not (ltb free (v .splits)) (WantOfRoom (v .splits) free) _ ok in
-    (ltb-false free (v .splits) (a .0), λ on. rest live on (a .1) .0, λ on. rest live on (a .1) .1)
-  where
-    rest : (live : Bool) → live ≡ true
-        → cond live (cond (v .broken) (Refused (HouseRule (v .word))) (cond (ltb room (v .numbers)) (Refused (Short (v .numbers))) Accepted)) Accepted ≡ Accepted
-        → (v .broken ≡ false) × (v .numbers ≤ room)
-    rest true on ok =
-        let b = passes-not (v .broken) (HouseRule (v .word)) _ ok in
-        (b .0, ltb-false room (v .numbers) (passes-not (ltb room (v .numbers)) (Short (v .numbers)) Accepted (b .1) .0))
-    rest false on ok = absurd (false-not on)
-
--- refusal 9 is given for want of room alone
-survey-nine : (free room : ℕ) (live : Bool) (v : Survey) {a b : ℕ} → verifySurvey free room live v ≡ Refused (WantOfRoom a b) → free < v .splits
-unfolding verifySurvey
-survey-nine free room live v {a} {b} is = first (ltb free (v .splits)) refl is
-  where
-    later : (live broken short : Bool) → cond live (cond broken (Refused (HouseRule (v .word))) (cond short (Refused (Short (v .numbers))) Accepted)) Accepted ≡ Refused (WantOfRoom a b) → ⊥
-    later true true short q = let z : _≡_ {A = ℕ} 0 1 = cc in omega arith
-    later true false true q = let z : _≡_ {A = ℕ} 0 1 = cc in omega arith
-    later true false false q = let z : _≡_ {A = ℕ} 0 1 = cc in omega arith
-    later false broken short q = let z : _≡_ {A = ℕ} 0 1 = cc in omega arith
-
-    first : (full : Bool) → ltb free (v .splits) ≡ full
-        → cond full (Refused (WantOfRoom (v .splits) free)) (cond live (cond (v .broken) (Refused (HouseRule (v .word))) (cond (ltb room (v .numbers)) (Refused (Short (v .numbers))) Accepted)) Accepted)
-        ≡ Refused (WantOfRoom a b) → free < v .splits
-    first true e q = ltb-true free (v .splits) e
-    first false e q = absurd (later live (v .broken) (ltb room (v .numbers)) q)
 
 -- no refusal is an acceptance
 not-accepted : {r : Refusal} (live : Bool) (n k : ℕ) → modified.Refused r ≡ accepted live n k → ⊥
@@ -210,13 +184,6 @@ module _ {h : Handle} {c : Call} {s : St} (passed : Passed h c s) (list : List �
       ∙ ap (λ (n : ℕ). refused (WantOfRoom n (free (s .ledger))) s list) m
 
   -- accepted
-  fits-by : verdict h c s list ≡ Accepted → Fits h c s list
-  fits-by ok =
-      let m = splits-made passed in
-      let p = survey-pass (free (s .ledger)) (length list) (c .live) (surveyed h c s) ok in
-      let few = p .0 in
-      record { room = omega arith; kept = p .1; enough = p .2 }
-
   pub call-accepted : Fits h c s list → let w = workAfter h c s list in
       callOf h c s list ≡ modifying (accepted (c .live) (used (w .state .ledger)) (w .count)) (w .state) (w .list)
   call-accepted fits = call-done (go (c .live) refl)
@@ -244,6 +211,23 @@ module _ {h : Handle} {c : Call} {s : St} (passed : Passed h c s) (list : List �
       call-stopped (Short (surveyed h c s .numbers)) (sym (survey-short (free (s .ledger)) (length list) (c .live) (surveyed h c s) (omega arith) on kept (omega arith)))
       ∙ ap (λ (k : ℕ). refused (Short k) s list) n
 
+  -- one of these it is
+  judged : Judged h c s list
+  judged = go (le-or (madeBy h c s) (free (s .ledger)))
+    where
+      long : surveyed h c s .broken ≡ false → (length (numbersOf h c s) ≤ length list) ⊎ (length list < length (numbersOf h c s)) → madeBy h c s ≤ free (s .ledger) → c .live ≡ true → Judged h c s list
+      long kept (inl enough) room on = is-fit (record { room = room; kept = λ q. kept; enough = λ q. omega (arith, numbers-made passed kept) })
+      long kept (inr short) room on = is-short room on kept short
+
+      live : madeBy h c s ≤ free (s .ledger) → (b : Bool) → c .live ≡ b → Judged h c s list
+      live room true on = byBool (surveyed h c s .broken) (λ broken. is-broken room on broken)
+          (λ kept. long kept (le-or (length (numbersOf h c s)) (length list)) room on)
+      live room false off = is-fit (record { room = room; kept = λ on. absurd (false-not (sym off ∙ on)); enough = λ on. absurd (false-not (sym off ∙ on)) })
+
+      go : (madeBy h c s ≤ free (s .ledger)) ⊎ (free (s .ledger) < madeBy h c s) → Judged h c s list
+      go (inl room) = live room (c .live) refl
+      go (inr full) = is-full full
+
 -- what is answered otherwise than by refusals 1 to 8 was left by them
 passed-by : (h : Handle) (c : Call) (s : St) (list : List ℕ) {x : Modifying} → callOf h c s list ≡ x → ((r : Refusal) → number r < 9 → refused r s list ≡ x → ⊥) → Passed h c s
 passed-by h c s list {x} is later =
@@ -265,27 +249,61 @@ passed-by h c s list {x} is later =
     shape : shaped h s ≡ true → Passed h c s
     shape e = asks e (verifyEdit h (c .end) (askedOf c)) refl (asked-early h (c .end) (askedOf c))
 
--- ---- refused 9
+-- ---- refused 9, 10, 11
 
-module _ (h : Handle) (c : Call) (s : St) (list : List ℕ) {a b : ℕ} {s′ : St} {list′ : List ℕ}
-    (is : callOf h c s list ≡ modifying (modified.Refused (WantOfRoom a b)) s′ list′) where
-  pub full-passed : Passed h c s
-  full-passed = passed-by h c s list is (λ r early e.
-      let same : r ≡ WantOfRoom a b = let p = answer-of e in cc in
-      let nine : number r ≡ 9 = ap number same in
+module _ (h : Handle) (c : Call) (s : St) (list : List ℕ) {y : Refusal} {s′ : St} {list′ : List ℕ} (is : callOf h c s list ≡ modifying (modified.Refused y) s′ list′) where
+  refused-passed : 9 ≤ number y → Passed h c s
+  refused-passed late = passed-by h c s list is (λ r early q.
+      let same : r ≡ y = let p = answer-of q in cc in
+      let nine : number r ≡ number y = ap number same in
       omega arith)
 
-  pub full-more : free (s .ledger) < madeBy h c s
-  full-more = go (verdict h c s list) refl
+  -- the refusal is the one that is due
+  refused-is : {r : Refusal} → callOf h c s list ≡ refused r s list → y ≡ r
+  refused-is {r} q = let p = answer-of (sym q ∙ is) in let same : r ≡ y = cc in sym same
+
+  refused-not : Passed h c s → Fits h c s list → ⊥
+  refused-not passed fits =
+      not-accepted (c .live) (used (workAfter h c s list .state .ledger)) (workAfter h c s list .count) (ap (λ (x : Modifying). x .answer) (sym is ∙ call-accepted passed list fits))
+
+module _ (h : Handle) (c : Call) (s : St) (list : List ℕ) {s′ : St} {list′ : List ℕ} where
+  pub full-back : {a b : ℕ} → callOf h c s list ≡ modifying (modified.Refused (WantOfRoom a b)) s′ list′ → Passed h c s × (free (s .ledger) < madeBy h c s)
+  full-back {a} {b} is = (passed, go (judged passed list))
     where
-      go : (x : Outcome) → verdict h c s list ≡ x → free (s .ledger) < madeBy h c s
-      go Accepted q =
-          let p = ap (λ (x : Modifying). x .answer) (sym is ∙ call-done full-passed list q) in
-          absurd (not-accepted (c .live) (used (workAfter h c s list .state .ledger)) (workAfter h c s list .count) p)
-      go (Refused r) q =
-          let same : r ≡ WantOfRoom a b = let p = answer-of (sym (call-stopped full-passed list r q) ∙ is) in cc in
-          let more = survey-nine (free (s .ledger)) (length list) (c .live) (surveyed h c s) (q ∙ ap Refused same) in
-          omega (arith, splits-made full-passed)
+      passed : Passed h c s
+      passed = refused-passed h c s list is (lit≤ tt)
+
+      go : Judged h c s list → free (s .ledger) < madeBy h c s
+      go (is-full full) = full
+      go (is-broken room on broken) = absurd (let e = ap number (refused-is h c s list is (call-broken passed list room on broken)) in omega arith)
+      go (is-short room on kept short) = absurd (let e = ap number (refused-is h c s list is (call-short passed list room on kept short)) in omega arith)
+      go (is-fit fits) = absurd (refused-not h c s list is passed fits)
+
+  pub broken-back : {w : ℕ} → callOf h c s list ≡ modifying (modified.Refused (HouseRule w)) s′ list′
+      → Passed h c s × (madeBy h c s ≤ free (s .ledger)) × (c .live ≡ true) × (surveyed h c s .broken ≡ true)
+  broken-back {w} is = go (judged passed list)
+    where
+      passed : Passed h c s
+      passed = refused-passed h c s list is (lit≤ tt)
+
+      go : Judged h c s list → Passed h c s × (madeBy h c s ≤ free (s .ledger)) × (c .live ≡ true) × (surveyed h c s .broken ≡ true)
+      go (is-full full) = absurd (let e = ap number (refused-is h c s list is (call-full passed list full)) in omega arith)
+      go (is-broken room on broken) = (passed, room, on, broken)
+      go (is-short room on kept short) = absurd (let e = ap number (refused-is h c s list is (call-short passed list room on kept short)) in omega arith)
+      go (is-fit fits) = absurd (refused-not h c s list is passed fits)
+
+  pub short-back : {n : ℕ} → callOf h c s list ≡ modifying (modified.Refused (Short n)) s′ list′
+      → Passed h c s × (madeBy h c s ≤ free (s .ledger)) × (c .live ≡ true) × (surveyed h c s .broken ≡ false) × (length list < length (numbersOf h c s))
+  short-back {n} is = go (judged passed list)
+    where
+      passed : Passed h c s
+      passed = refused-passed h c s list is (lit≤ tt)
+
+      go : Judged h c s list → Passed h c s × (madeBy h c s ≤ free (s .ledger)) × (c .live ≡ true) × (surveyed h c s .broken ≡ false) × (length list < length (numbersOf h c s))
+      go (is-full full) = absurd (let e = ap number (refused-is h c s list is (call-full passed list full)) in omega arith)
+      go (is-broken room on broken) = absurd (let e = ap number (refused-is h c s list is (call-broken passed list room on broken)) in omega arith)
+      go (is-short room on kept short) = (passed, room, on, kept, short)
+      go (is-fit fits) = absurd (refused-not h c s list is passed fits)
 
 -- ---- accepted
 
@@ -293,21 +311,23 @@ module _ {h : Handle} {c : Call} {s s′ : St} {list list′ : List ℕ} {n k : 
   pub call-passed : Passed h c s
   call-passed = passed-by h c s list (modifies .answers) (λ r early e. not-accepted (c .live) n k (answer-of e))
 
-  fits-verdict : verdict h c s list ≡ Accepted
-  fits-verdict = go (verdict h c s list) refl
-    where
-      go : (x : Outcome) → verdict h c s list ≡ x → verdict h c s list ≡ Accepted
-      go Accepted q = q
-      go (Refused r) q = absurd (not-accepted (c .live) n k (answer-of (sym (call-stopped call-passed list r q) ∙ modifies .answers)))
-
   pub call-fits : Fits h c s list
-  call-fits = fits-by call-passed list fits-verdict
+  call-fits = go (judged call-passed list)
+    where
+      never : {r : Refusal} → callOf h c s list ≡ refused r s list → ⊥
+      never q = not-accepted (c .live) n k (answer-of (sym q ∙ modifies .answers))
+
+      go : Judged h c s list → Fits h c s list
+      go (is-full full) = absurd (never (call-full call-passed list full))
+      go (is-broken room on broken) = absurd (never (call-broken call-passed list room on broken))
+      go (is-short room on kept short) = absurd (never (call-short call-passed list room on kept short))
+      go (is-fit fits) = fits
 
   abbrev w : Work
   w = workAfter h c s list
 
   done : modifying (accepted (c .live) n k) s′ list′ ≡ modifying (accepted (c .live) (used (w .state .ledger)) (w .count)) (w .state) (w .list)
-  done = sym (modifies .answers) ∙ call-done call-passed list fits-verdict
+  done = sym (modifies .answers) ∙ call-accepted call-passed list call-fits
 
   pub call-state : s′ ≡ w .state
   call-state = ap (λ (x : Modifying). x .state) done

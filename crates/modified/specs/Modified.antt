@@ -29,7 +29,7 @@ use Rattle.mapped.specs.Leaf.{root-fine}
 use Rattle.mapped.specs.Shown.{inBytes, walk-shown}
 use Rattle.mapped.specs.Place.{span-spans}
 use Rattle.modified.specs.Terms.{Call, callOf, Modifies, Passed, surveyed, InRegion, flagsAfter, pagesOf, treeAfter, madeBy, numbersOf}
-use Rattle.modified.specs.Call.{given, splits-made, call-full, full-passed, full-more, call-passed, call-shaped, call-sound, call-tree, call-answer, call-off, call-enough, call-on, numbers-made}
+use Rattle.modified.specs.Call.{given, splits-made, call-full, full-back, call-passed, call-shaped, call-sound, call-tree, call-answer, call-off, call-enough, call-on, numbers-made}
 use Rattle.modified.specs.Place.{region-page, page-region, region-spans}
 
 -- ---- what a walk shows, read back
@@ -146,7 +146,7 @@ module _ (h : Handle) (c : Call) (s : St) (list : List ℕ) where
   pub modify-refused-9-exactly : ((a b : ℕ) × (s′ : St) × (list′ : List ℕ) × (callOf h c s list ≡ modifying (Refused (WantOfRoom a b)) s′ list′))
       ↔ (Passed h c s × (free (s .ledger) < madeBy h c s))
   modify-refused-9-exactly = (
-    λ at. (full-passed h c s list (at .4), full-more h c s list (at .4)),
+    λ at. full-back h c s list (at .4),
     λ full. (madeBy h c s, free (s .ledger), s, list, call-full (full .0) list (full .1)),
   )
 
@@ -154,7 +154,8 @@ module _ (h : Handle) (c : Call) (s : St) (list : List ℕ) where
   pub modify-refusal-9-carries : {a b : ℕ} {s′ : St} {list′ : List ℕ} → callOf h c s list ≡ modifying (Refused (WantOfRoom a b)) s′ list′
       → (a ≡ madeBy h c s) × (b ≡ free (s .ledger)) × (s′ ≡ s) × (list′ ≡ list)
   modify-refusal-9-carries {a} {b} is =
-      let same = sym is ∙ call-full (full-passed h c s list is) list (full-more h c s list is) in
+      let back = full-back h c s list is in
+      let same = sym is ∙ call-full (back .0) list (back .1) in
       let p : Refused (WantOfRoom a b) ≡ Refused (WantOfRoom (madeBy h c s) (free (s .ledger))) = ap (λ (x : Modifying). x .answer) same in (
         let e : a ≡ madeBy h c s = cc in e,
         let e : b ≡ free (s .ledger) = cc in e,

@@ -37,7 +37,7 @@ use Rattle.mapped.specs.Leaf.{root-used}
 use Rattle.mapped.specs.Moves.{slotShows, Ready, Worked, worked-shaped, worked-pool}
 use Rattle.mapped.specs.Pieces.{Area}
 use Rattle.mapped.specs.Asked.{Early}
-use Rattle.modified.specs.Terms.{Call, callOf, accepted, Modifies, askedOf, Passed, surveyed, pagesOf, treeAfter, madeBy, numbersOf}
+use Rattle.modified.specs.Terms.{Call, callOf, accepted, Modifies, askedOf, Passed, surveyed, pagesOf, treeAfter, madeBy, numbersOf, Fits}
 use Rattle.modified.specs.Numbers.{occurs}
 use Rattle.modified.specs.Word.{Bits}
 use Rattle.modified.specs.Range.{editTable, editTakes, areaOf, range-edits}
@@ -125,12 +125,6 @@ module _ {h : Handle} {c : Call} {s : St} (passed : Passed h c s) where
     after-tree = worked .work .tree ∙ done-tree
 
 -- ---- what the call answers
-
--- refusals 9 to 11 are not given
-pub record Fits (h : Handle) (c : Call) (s : St) (list : List ℕ) : Type 0 where
-  pub room : madeBy h c s ≤ free (s .ledger)
-  pub kept : c .live ≡ true → surveyed h c s .broken ≡ false
-  pub enough : c .live ≡ true → surveyed h c s .numbers ≤ length list
 
 -- refusals 9, 10 and 11, or none of them
 pub data Judged (h : Handle) (c : Call) (s : St) (list : List ℕ) : Type 0 where

@@ -10,7 +10,7 @@ use native.Mathlib.Omega.{arith}
 use Rattle.pool.specs.State.{St}
 use Rattle.pool.specs.Number.{used, free}
 use Rattle.pool.specs.declared.Handle.{Handle}
-use Rattle.pool.specs.declared.Refusal.the-variants.{WantOfRoom}
+use Rattle.pool.specs.declared.Refusal.the-variants.{WantOfRoom, HouseRule, Short}
 use Rattle.modify.specs.declared.Modified.the-variants.{Refused}
 use Rattle.modify.specs.Ask.{asked}
 use Rattle.modify.specs.Call.{Modifying, modifying}
@@ -28,8 +28,9 @@ use Rattle.mapped.specs.Terms.{walkOf, Shown, mapped, hole, shown, InSpan, left
 use Rattle.mapped.specs.Leaf.{root-fine}
 use Rattle.mapped.specs.Shown.{inBytes, walk-shown}
 use Rattle.mapped.specs.Place.{span-spans}
-use Rattle.modified.specs.Terms.{Call, callOf, Modifies, Passed, surveyed, InRegion, flagsAfter, pagesOf, treeAfter, madeBy, numbersOf}
-use Rattle.modified.specs.Call.{given, splits-made, call-full, full-back, call-passed, call-shaped, call-sound, call-tree, call-answer, call-off, call-enough, call-on, numbers-made}
+use Rattle.modified.specs.Terms.{Call, callOf, Modifies, Passed, surveyed, InRegion, flagsAfter, pagesOf, treeAfter, madeBy, numbersOf, Fits}
+use Rattle.modified.specs.Numbers.{occurs}
+use Rattle.modified.specs.Call.{workAfter, given, splits-made, numbers-made, numbers-one, call-full, call-broken, call-short, call-accepted, full-back, broken-back, short-back, call-passed, call-fits, call-shaped, call-sound, call-tree, call-answer, call-off, call-enough, call-on}
 use Rattle.modified.specs.Place.{region-page, page-region, region-spans}
 
 -- ---- what a walk shows, read back
@@ -139,10 +140,10 @@ module _ {h : Handle} {c : Call} {s s′ : St} {list list′ : List ℕ} {n k : 
   pub modify-list-exactly : c .live ≡ true → (k ≡ length (numbersOf h c s)) × (k ≤ length list) × (list′ ≡ numbersOf h c s ++ drop k list)
   modify-list-exactly on = let p = call-on modifies on in (p .0, omega (arith, p .0, call-enough modifies on), p .1)
 
--- ---- REFUSAL 9
+-- ---- THE REFUSALS 9 TO 11
 
 module _ (h : Handle) (c : Call) (s : St) (list : List ℕ) where
-  -- it is given exactly when none of refusals 1 to 8 is, and more tables are made than are free at entry, live or not;
+  -- 9 is given exactly when none of refusals 1 to 8 is, and more tables are made than are free at entry, live or not;
   pub modify-refused-9-exactly : ((a b : ℕ) × (s′ : St) × (list′ : List ℕ) × (callOf h c s list ≡ modifying (Refused (WantOfRoom a b)) s′ list′))
       ↔ (Passed h c s × (free (s .ledger) < madeBy h c s))
   modify-refused-9-exactly = (
@@ -163,10 +164,46 @@ module _ (h : Handle) (c : Call) (s : St) (list : List ℕ) where
         ap (λ (x : Modifying). x .list) same,
       )
 
-  -- the survey's count of splits is what the modify makes
+  -- the survey's count of splits is what the modify makes;
   pub modify-splits-made : Passed h c s → surveyed h c s .splits ≡ madeBy h c s
   modify-splits-made passed = splits-made passed
 
-  -- the survey's count of numbers is the list's, where the house rule is kept
+  -- 10 is given exactly when none of refusals 1 to 9 is, and a live call breaks the house rule;
+  pub modify-refused-10-exactly : ((w : ℕ) × (s′ : St) × (list′ : List ℕ) × (callOf h c s list ≡ modifying (Refused (HouseRule w)) s′ list′))
+      ↔ (Passed h c s × (madeBy h c s ≤ free (s .ledger)) × (c .live ≡ true) × (surveyed h c s .broken ≡ true))
+  modify-refused-10-exactly = (
+    λ at. broken-back h c s list (at .3),
+    λ broken. (surveyed h c s .word, s, list, call-broken (broken .0) list (broken .1) (broken .2) (broken .3)),
+  )
+
+  -- 11 is given exactly when none of refusals 1 to 10 is, and a live call would list more numbers than the list has room for;
+  pub modify-refused-11-exactly : ((n : ℕ) × (s′ : St) × (list′ : List ℕ) × (callOf h c s list ≡ modifying (Refused (Short n)) s′ list′))
+      ↔ (Passed h c s × (madeBy h c s ≤ free (s .ledger)) × (c .live ≡ true) × (surveyed h c s .broken ≡ false) × (length list < length (numbersOf h c s)))
+  modify-refused-11-exactly = (
+    λ at. short-back h c s list (at .3),
+    λ short. (length (numbersOf h c s), s, list, call-short (short .0) list (short .1) (short .2) (short .3) (short .4)),
+  )
+
+  -- it carries the length that is needed, and leaves the state and the list as they were;
+  pub modify-refusal-11-carries : {n : ℕ} {s′ : St} {list′ : List ℕ} → callOf h c s list ≡ modifying (Refused (Short n)) s′ list′
+      → (n ≡ length (numbersOf h c s)) × (s′ ≡ s) × (list′ ≡ list)
+  modify-refusal-11-carries {n} is =
+      let back = short-back h c s list is in
+      let same = sym is ∙ call-short (back .0) list (back .1) (back .2) (back .3) (back .4) in
+      let p : Refused (Short n) ≡ Refused (Short (length (numbersOf h c s))) = ap (λ (x : Modifying). x .answer) same in
+      (let e : n ≡ length (numbersOf h c s) = cc in e, ap (λ (x : Modifying). x .state) same, ap (λ (x : Modifying). x .list) same)
+
+  -- the survey's count of numbers is the list's, where the house rule is kept;
   pub modify-numbers-counted : Passed h c s → surveyed h c s .broken ≡ false → surveyed h c s .numbers ≡ length (numbersOf h c s)
   modify-numbers-counted passed kept = numbers-made passed kept
+
+  -- no number stands in it twice;
+  pub modify-numbers-once : Passed h c s → (x : ℕ) → occurs x (numbersOf h c s) ≤ 1
+  modify-numbers-once passed x = numbers-one passed x
+
+  -- the call is accepted exactly when none of refusals 1 to 11 is given
+  pub modify-accepted-exactly : ((n k : ℕ) × (s′ : St) × (list′ : List ℕ) × Modifies h c s list n k s′ list′) ↔ (Passed h c s × Fits h c s list)
+  modify-accepted-exactly = (
+    λ at. (call-passed (at .4), call-fits (at .4)),
+    λ fits. let w = workAfter h c s list in (used (w .state .ledger), w .count, w .state, w .list, record { answers = call-accepted (fits .0) list (fits .1) }),
+  )

@@ -1,12 +1,14 @@
 -- The words in which document 01's Modify is said of the call: the call and its answer, its region, the flags after it, the tree after it and the tables that it
 -- makes. Definitions alone; the walk and the root's span are those of `mapped`. Assumes nothing.
 use mathlib.Core.Path.{_≡_}
-use mathlib.Core.Bool.{Bool, false, cond}
+use mathlib.Core.Bool.{Bool, true, false, cond}
 use mathlib.Core.List.{List}
 use Prim.Native.Nat.{ℕ, _-_, _^_, _≤_, _<_}
 use lib.Bits.{bitAnd, bitOr}
 use Rattle.region.specs.Region.{rounded}
+use lib.ListN.{length}
 use Rattle.pool.specs.State.{St}
+use Rattle.pool.specs.Number.{free}
 use Rattle.pool.specs.Refuse.{Shaped}
 use Rattle.pool.specs.declared.Handle.{Handle}
 use Rattle.pool.specs.declared.Outcome.the-variants.{Accepted}
@@ -86,3 +88,9 @@ madeBy h c s = modifyMade (leftOf h) (rootIn h) (pagesOf c) (rootTree h s)
 -- the numbers of the entries whose words change: "a lower table's numbers when that table is finished, a table's own last, ascending"
 abbrev pub numbersOf : Handle → Call → St → List ℕ
 numbersOf h c s = let e = askedOf c in tableNumbers (e .set) (e .clear) (leftOf h) (e .region) (rootTree h s)
+
+-- refusals 9 to 11 are not given
+pub record Fits (h : Handle) (c : Call) (s : St) (list : List ℕ) : Type 0 where
+  pub room : madeBy h c s ≤ free (s .ledger)
+  pub kept : c .live ≡ true → surveyed h c s .broken ≡ false
+  pub enough : c .live ≡ true → surveyed h c s .numbers ≤ length list

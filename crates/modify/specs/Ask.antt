@@ -19,7 +19,7 @@ use Rattle.pool.specs.declared.Refusal.{Refusal}
 use Rattle.pool.specs.declared.Refusal.the-variants.{End, InvalidFlags, FlagSet, WantOfRoom, HouseRule, Short}
 use Rattle.pool.specs.declared.Outcome.{Outcome}
 use Rattle.pool.specs.declared.Outcome.the-variants.{Accepted, Refused}
-use Rattle.verify.specs.Verify.{endFits, verify, verified-span}
+use Rattle.verify.specs.Verify.{endFits, verify, verified-span, span-length}
 use Rattle.edit.specs.declared.Edit.{Edit}
 use Rattle.survey.specs.declared.Survey.{Survey}
 
@@ -160,5 +160,6 @@ asked-span h start end set clear live ok =
     byBool (endFits end) (λ f. bits f (verifyBits h set clear) refl) (λ f. absurd (refused-not (End end) (edit-end h end (asked start end set clear live) f) ok))
   where
     bits : endFits end ≡ true → (x : Outcome) → verifyBits h set clear ≡ x → rounded start end .end .0 - rounded start end .start .0 ≤ 2 ^ 48
-    bits f Accepted q = verified-span h (rounded start end) (edit-region h end (asked start end set clear live) f (sym q) refl ∙ ok) (up-below end 4096)
+    bits f Accepted q =
+        span-length (h .range) (h .level) (rounded start end) (verified-span h (rounded start end) (edit-region h end (asked start end set clear live) f (sym q) refl ∙ ok)) (up-below end 4096)
     bits f (Refused r) q = absurd (refused-not r (edit-bits h end (asked start end set clear live) f (sym q) r refl) ok)

@@ -20,12 +20,13 @@ use Rattle.sound.specs.Clauses.{SoundPool}
 use Rattle.sound.specs.Codec.{shaped-placed, rootTree}
 use Rattle.sound.specs.Hanging.{used-tree}
 use Rattle.walk.specs.Arm.{says}
+use Rattle.walked.specs.AsBefore.{walkOf, mapped, hole, shown}
 use Rattle.walked.specs.Any.{slotsOf, met}
 use Rattle.walked.specs.Walked.{walk-of-tree}
 use Rattle.tree.specs.Word.{valid-of, valid-none}
 use Rattle.tree.specs.Walk.{seen}
 use Rattle.tree.specs.Demands.{region-mapped, region-holes, others-as-before, tables-after, valid-map-frees-none}
-use Rattle.mapped.specs.Terms.{Call, callOf, Maps, askedOf, Passed, InRegion, frameFor, InTurn, Apart, walkOf, mapped, hole, shown, InSpan, leftOf, rootIn, pagesOf, treeAfter, madeBy, freedBy}
+use Rattle.mapped.specs.Terms.{Call, callOf, Maps, askedOf, Passed, InRegion, frameFor, InTurn, Apart, InSpan, leftOf, rootIn, pagesOf, treeAfter, madeBy, freedBy}
 use Rattle.mapped.specs.Leaf.{root-fine}
 use Rattle.mapped.specs.Shown.{inBytes, walk-shown}
 use Rattle.mapped.specs.Call.{stateAfter, given, needed-made, call-full, call-maps, full-passed, full-more, call-passed, call-room, call-count, call-shaped, call-sound, call-tree}

@@ -1,11 +1,10 @@
--- The words in which the demands on the call are said: the call and its answer, its region, the root's span, what a walk shows, the tables that a map makes and
--- frees. Definitions alone. Assumes nothing.
+-- The words in which the demands on the call are said: the call and its answer, its region, the root's span, the tables that a map makes and frees. Definitions alone. Assumes nothing.
 use mathlib.Core.Path.{_≡_}
 use mathlib.Core.Bool.{true}
 use Prim.Native.Nat.{ℕ, _+_, _-_, _%_, _^_, _≤_, _<_}
 use Rattle.laws.specs.Size.{down}
 use Rattle.region.specs.Region.{rounded}
-use Rattle.pool.specs.State.{St, tables}
+use Rattle.pool.specs.State.{St}
 use Rattle.pool.specs.Refuse.{Shaped, Out, out}
 use Rattle.pool.specs.declared.Handle.{Handle}
 use Rattle.pool.specs.declared.VaRange.{VaRange}
@@ -19,7 +18,6 @@ use Rattle.map.specs.Call.{mapCall}
 use Rattle.forest.specs.Tree.{Tree}
 use Rattle.sound.specs.Clauses.{SoundPool}
 use Rattle.sound.specs.Codec.{rootTree}
-use Rattle.walk.specs.Arm.{Walked, hole as armHole, block as armBlock, page as armPage, outside, walk}
 use Rattle.walk.specs.LookUp.{spanned}
 use Rattle.tree.specs.Rules.{Map as TreeMap}
 use Rattle.tree.specs.Chunks.{inPages}
@@ -75,23 +73,7 @@ pub record Apart (c d : Call) : Type 0 where
   pub valid-second : d .flags % 2 ≡ 1
   pub no-page : (va : ℕ) → InRegion c va → ¬ (InRegion d va)
 
--- ---- the walk
-
--- the Arm walk of an address in the pool s
-abbrev pub walkOf : Handle → St → ℕ → Walked
-walkOf h s va = walk (h .base .0) (tables s) (s .words) va (h .level)
-
--- what "as before" compares: kind of answer (mapped or hole), frame and flags; `away` where a table word leads away from the pool
-pub data Shown : Type 0 where
-  mapped : (flags frame : ℕ) → Shown
-  hole : (flags : ℕ) → Shown
-  away : Shown
-
-unfoldable pub shown : Walked → Shown
-shown (armHole level flags) = hole flags
-shown (armBlock level flags frame) = mapped flags frame
-shown (armPage level flags frame) = mapped flags frame
-shown outside = away
+-- ---- the span
 
 -- the address lies in the root's span
 pub record InSpan (h : Handle) (va : ℕ) : Type 0 where

@@ -74,12 +74,18 @@ pub compact-told : (h : Handle) (s : St) → Told (CheckSlip h s) counted.Refuse
 unfolding CheckSlip
 compact-told h s = byBool (shaped h s)
     (λ fits. byBool (soundb h s)
-    (λ is. inr ((λ q. check-below h s 12 (not-misshaped h s fits) (λ l g. g (sound h s fits is)) q (number-range q .1)),
-    λ r e. let z = told (call-compacted h s fits is refl refl) ∙ e in let o : _≡_ {A = ℕ} 0 1 = cc in omega arith))
-    (λ un. inl (Unsound, sym (told (compact-unsound h s fits un)), record {
-      given = unsound h s fits un;
-      lower = check-below h s 8 (not-misshaped h s fits) (λ l. absurd (omega arith))
-    })))
+    (λ is. inr (
+      (λ q. check-below h s 12 (not-misshaped h s fits) (λ l g. g (sound h s fits is)) q (number-range q .1)),
+      λ r e. let z = told (call-compacted h s fits is refl refl) ∙ e in let o : _≡_ {A = ℕ} 0 1 = cc in omega arith,
+    ))
+    (λ un. inl (
+      Unsound,
+      sym (told (compact-unsound h s fits un)),
+      record {
+        given = unsound h s fits un;
+        lower = check-below h s 8 (not-misshaped h s fits) (λ l. absurd (omega arith));
+      },
+    )))
     (λ fails. inl (Shape, sym (told (compact-misshaped h s fails)), shape-lowest (CheckSlip h s) (misshaped h s fails)))
   where
     told : {x y : Out Counted} → x ≡ y → x .answer ≡ y .answer

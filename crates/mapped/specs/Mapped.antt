@@ -1,7 +1,7 @@
 -- DEMANDS 2 AND 3, of the call itself. `callOf` is the definition that the contract of the public call cites, `walkOf` the Arm walk of the words; nothing is asked of the
 -- pool but that the call is accepted (`Maps`), which it is in a sound pool alone. `Terms` has the words that are used here. Assumes nothing.
 use mathlib.Core.Path.{_≡_, refl, sym, ap, _∙_}
-use mathlib.Core.List.{List, [], _∷_, map, List·Permᴰ, List·Permᴰ·swap, Permᴰ·symm}
+use mathlib.Core.List.{List, [], _∷_, map, List·Permᴰ·swap, Permᴰ·symm}
 use mathlib.Core.Logic.{_↔_}
 use Prim.Native.Nat.{ℕ, suc, _+_, _/_, _%_, _≤_, _<_}
 use native.Mathlib.Omega.{arith}
@@ -21,14 +21,14 @@ use Rattle.sound.specs.Codec.{shaped-placed, rootTree}
 use Rattle.sound.specs.Hanging.{used-tree}
 use Rattle.tree.specs.Word.{valid-of, valid-none}
 use Rattle.tree.specs.Walk.{seen}
-use Rattle.tree.specs.Order.{madeAll}
+use Rattle.tree.specs.Order.{Reorders, Each, Pairs, each-reorders, pairs-reorders, madeAll}
 use Rattle.tree.specs.Demands.{region-mapped, region-holes, others-as-before, tables-after, valid-map-frees-none}
-use Rattle.mapped.specs.Terms.{Call, callOf, Maps, askedOf, Asks, Passed, InRegion, frameFor, Valid, Apart, Each, Pairwise, InTurn, next, walkOf, mapped, hole, shown, InSpan, leftOf, rootIn, pagesOf, treeAfter, madeBy, freedBy}
+use Rattle.mapped.specs.Terms.{Call, callOf, Maps, askedOf, Asks, Passed, InRegion, frameFor, Valid, Apart, InTurn, next, walkOf, mapped, hole, shown, InSpan, leftOf, rootIn, pagesOf, treeAfter, madeBy, freedBy}
 use Rattle.mapped.specs.Leaf.{root-fine}
 use Rattle.mapped.specs.Shown.{inBytes, walk-shown}
 use Rattle.mapped.specs.Call.{stateAfter, given, needed-made, call-full, call-maps, full-passed, full-more, call-passed, call-room, call-count, call-shaped, call-sound, call-tree}
 use Rattle.mapped.specs.Place.{region-page, page-region, region-spans, frame-is, span-spans}
-use Rattle.mapped.specs.Order.{Lawful, each-reorders, pairwise-reorders, order-accepted, order-walks, order-tables, order-shown, turn-enough}
+use Rattle.mapped.specs.Order.{Lawful, apart-flip, order-accepted, order-walks, order-tables, order-shown, turn-enough}
 
 -- ---- DEMAND 2
 
@@ -125,11 +125,11 @@ pub record EitherOrder (h : Handle) (cs ds : List Call) (s : St) : Type 0 where
   pub tables : (s′ t′ : St) → InTurn h cs s s′ → InTurn h ds s t′ → used (s′ .ledger) ≡ used (t′ .ledger)
 
 -- any number of them, in any order (Q-13), in a pool that refusals 1 and 8 leave;
-pub maps-any-order : (h : Handle) (cs ds : List Call) (s : St) → Lawful h s → List·Permᴰ cs ds → Pairwise cs → Each Valid cs → EitherOrder h cs ds s
+pub maps-any-order : (h : Handle) (cs ds : List Call) (s : St) → Lawful h s → Reorders cs ds → Pairs Apart cs → Each Valid cs → EitherOrder h cs ds s
 maps-any-order h cs ds s law reorders apart valid = record {
   accepted = (
     λ at. order-accepted law reorders apart valid (at .1),
-    λ at. order-accepted law (Permᴰ·symm reorders) (pairwise-reorders reorders apart) (each-reorders Valid reorders valid) (at .1),
+    λ at. order-accepted law (Permᴰ·symm reorders) (pairs-reorders Apart apart-flip reorders apart) (each-reorders Valid reorders valid) (at .1),
   );
   walks = λ s′ t′ turn turn′. order-walks law reorders apart turn turn′ valid;
   tables = λ s′ t′ turn turn′. order-tables law reorders apart turn turn′ valid;
@@ -157,6 +157,6 @@ module _ (h : Handle) (cs : List Call) (s : St) (law : Lawful h s) where
   maps-enough-room asks room = turn-enough h cs s law asks room
 
   -- where all are accepted in two orders, every address of the span shows the same kind of answer, frame and flags
-  pub maps-any-order-shown : (ds : List Call) (s′ t′ : St) → List·Permᴰ cs ds → Pairwise cs → InTurn h cs s s′ → InTurn h ds s t′ → (va : ℕ) → InSpan h va
+  pub maps-any-order-shown : (ds : List Call) (s′ t′ : St) → Reorders cs ds → Pairs Apart cs → InTurn h cs s s′ → InTurn h ds s t′ → (va : ℕ) → InSpan h va
       → shown (walkOf h s′ va) ≡ shown (walkOf h t′ va)
   maps-any-order-shown ds s′ t′ reorders apart turn turn′ va at = order-shown law reorders apart turn turn′ va at

@@ -1,7 +1,7 @@
 -- Calls one after the other are the maps of a list on the root's tree: accepted where each passes and there is room on the way. So a list of VALID calls whose
 -- regions share no page may be reordered (Q-13); demand 3 is the case of two. Assumes nothing.
-use mathlib.Core.Path.{_≡_, refl, sym, ap, subst, subst₂, _∙_}
-use mathlib.Core.List.{List, [], _∷_, map, List·Permᴰ, List·Permᴰ·nil, List·Permᴰ·cons, List·Permᴰ·swap, List·Permᴰ·trans, Permᴰ·map}
+use mathlib.Core.Path.{_≡_, refl, sym, ap, subst₂, _∙_}
+use mathlib.Core.List.{List, [], _∷_, map, Permᴰ·map}
 use Prim.Native.Nat.{ℕ, suc, _*_, _-_, _/_, _≤_}
 use native.Mathlib.Omega.{arith}
 use Rattle.pool.specs.State.{St, tables}
@@ -22,9 +22,9 @@ use Rattle.tree.specs.Walk.{seen}
 use Rattle.tree.specs.Shown.{FineTable}
 use Rattle.tree.specs.Rules.{Given}
 use Rattle.tree.specs.Commute.{Apart as ApartPages}
-use Rattle.tree.specs.Order.{Room, run, madeAll, run-reorders, room-reorders, ValidMap, Each as EachMap, Pairwise as PairwiseMaps}
+use Rattle.tree.specs.Order.{Room, run, madeAll, run-reorders, room-reorders, ValidMap, Each, Pairwise, Pairs, Reorders, each-reorders}
 use Rattle.tree.specs.Demands.{any-order-seen, enough-room}
-use Rattle.mapped.specs.Terms.{Call, Maps, Asks, Passed, Valid, Apart, Each, Pairwise, InTurn, none, next, walkOf, shown, InSpan, leftOf, rootIn, pagesOf}
+use Rattle.mapped.specs.Terms.{Call, Maps, Asks, Passed, Valid, Apart, InTurn, none, next, walkOf, shown, InSpan, leftOf, rootIn, pagesOf}
 use Rattle.mapped.specs.Leaf.{root-fine}
 use Rattle.mapped.specs.Shown.{inBytes, walk-shown}
 use Rattle.mapped.specs.Call.{stateAfter, given, call-maps, call-passed, call-room, call-shaped, call-sound, call-tree, call-tables}
@@ -91,45 +91,30 @@ module _ (h : Handle) where
       (page-region two (page * 4096) (record { from = omega arith; below = omega arith }))
 
   module _ (s : St) (law : Lawful h s) where
-    all-given : (cs : List Call) → Each (Asks h) cs → EachMap Given (map pagesOf cs)
+    all-given : (cs : List Call) → Each (Asks h) cs → Each Given (map pagesOf cs)
     all-given [] asks = tt
     all-given (c ∷ cs) asks = (given (passes law (asks .0)), all-given cs (asks .1))
 
-    all-valid : (cs : List Call) → Each (Asks h) cs → Each Valid cs → EachMap ValidMap (map pagesOf cs)
+    all-valid : (cs : List Call) → Each (Asks h) cs → Each Valid cs → Each ValidMap (map pagesOf cs)
     unfolding asked
     all-valid [] asks valid = tt
     all-valid (c ∷ cs) asks valid =
         (record { given = given (passes {c = c} law (asks .0)); valid = valid-of (c .flags) (valid .0) }, all-valid cs (asks .1) (valid .1))
 
-    all-apart : (c : Call) (cs : List Call) → Asks h c → Each (Asks h) cs → Each (Apart c) cs → EachMap (ApartPages (pagesOf c)) (map pagesOf cs)
+    all-apart : (c : Call) (cs : List Call) → Asks h c → Each (Asks h) cs → Each (Apart c) cs → Each (ApartPages (pagesOf c)) (map pagesOf cs)
     all-apart c [] own asks apart = tt
     all-apart c (d ∷ cs) own asks apart = (pages-apart (passes law own) (passes law (asks .0)) (apart .0), all-apart c cs own (asks .1) (apart .1))
 
-    pairwise-pages : (cs : List Call) → Each (Asks h) cs → Pairwise cs → PairwiseMaps (map pagesOf cs)
+    pairwise-pages : (cs : List Call) → Each (Asks h) cs → Pairs Apart cs → Pairwise (map pagesOf cs)
     pairwise-pages [] asks apart = tt
     pairwise-pages (c ∷ cs) asks apart = (all-apart c cs (asks .0) (asks .1) (apart .0), pairwise-pages cs (asks .1) (apart .1))
 
--- ---- a reordering keeps what is asked of a list
-
-pub each-reorders : (P : Call → Type 0) {cs ds : List Call} → List·Permᴰ cs ds → Each P cs → Each P ds
-each-reorders P List·Permᴰ·nil h = h
-each-reorders P (List·Permᴰ·cons e d) h = (subst P e (h .0), each-reorders P d (h .1))
-each-reorders P (List·Permᴰ·swap p q) h = (subst P q (h .1 .0), (subst P p (h .0), h .1 .1))
-each-reorders P (List·Permᴰ·trans c d) h = each-reorders P d (each-reorders P c h)
-
-apart-flip : (c d : Call) → Apart c d → Apart d c
+pub apart-flip : (c d : Call) → Apart c d → Apart d c
 apart-flip c d apart va at of = apart va of at
-
-pub pairwise-reorders : {cs ds : List Call} → List·Permᴰ cs ds → Pairwise cs → Pairwise ds
-pairwise-reorders List·Permᴰ·nil h = h
-pairwise-reorders (List·Permᴰ·cons {a = a} {l₂ = k} e d) h = (subst (λ (c : Call). Each (Apart c) k) e (each-reorders (Apart a) d (h .0)), pairwise-reorders d (h .1))
-pairwise-reorders (List·Permᴰ·swap {a = a} {b = b} {l = k} p q) h =
-    ((subst₂ Apart q p (apart-flip a b (h .0 .0)), subst (λ (c : Call). Each (Apart c) k) q (h .1 .0)), (subst (λ (c : Call). Each (Apart c) k) p (h .0 .1), h .1 .1))
-pairwise-reorders (List·Permᴰ·trans c d) h = pairwise-reorders d (pairwise-reorders c h)
 
 -- ---- in another order
 
-module _ {h : Handle} {s : St} (law : Lawful h s) {cs ds : List Call} (reorders : List·Permᴰ cs ds) (apart : Pairwise cs) where
+module _ {h : Handle} {s : St} (law : Lawful h s) {cs ds : List Call} (reorders : Reorders cs ds) (apart : Pairs Apart cs) where
   fine : FineTable (leftOf h) (rootTree h s)
   fine = root-fine (shaped-placed (law .shape)) (law .pool)
 

@@ -77,17 +77,7 @@ Valid c = c .flags % 2 ≡ 1
 abbrev pub Apart : Call → Call → Type 0
 Apart c d = (va : ℕ) → InRegion c va → ¬ (InRegion d va)
 
--- a fact of every call of a list
-abbrev pub Each : (Call → Type 0) → List Call → Type 0
-Each P [] = Unit {0}
-Each P (c ∷ cs) = P c × Each P cs
-
--- no two of them share a page
-abbrev pub Pairwise : List Call → Type 0
-Pairwise [] = Unit {0}
-Pairwise (c ∷ cs) = Each (Apart c) cs × Pairwise cs
-
--- one after the other they are all accepted, and leave s′
+-- the calls of a list, one after the other, are all accepted, and leave s′
 pub data InTurn (h : Handle) : List Call → St → St → Type 0 where
   none : {s : St} → InTurn h [] s s
   next : {c : Call} {cs : List Call} {s t s′ : St} {n : ℕ} → Maps h c s n t → InTurn h cs t s′ → InTurn h (c ∷ cs) s s′

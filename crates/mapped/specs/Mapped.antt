@@ -23,12 +23,12 @@ use Rattle.tree.specs.Word.{valid-of, valid-none}
 use Rattle.tree.specs.Walk.{seen}
 use Rattle.tree.specs.Order.{Reorders, Each, Pairs, each-reorders, pairs-reorders, madeAll}
 use Rattle.tree.specs.Demands.{region-mapped, region-holes, others-as-before, tables-after, valid-map-frees-none}
-use Rattle.mapped.specs.Terms.{Call, callOf, Maps, askedOf, Asks, Passed, InRegion, frameFor, Valid, Apart, InTurn, next, walkOf, mapped, hole, shown, InSpan, leftOf, rootIn, pagesOf, treeAfter, madeBy, freedBy}
+use Rattle.mapped.specs.Terms.{Call, callOf, Maps, askedOf, Asks, Lawful, Passed, InRegion, frameFor, Valid, Apart, InTurn, next, walkOf, mapped, hole, shown, InSpan, leftOf, rootIn, pagesOf, treeAfter, madeBy, freedBy}
 use Rattle.mapped.specs.Leaf.{root-fine}
 use Rattle.mapped.specs.Shown.{inBytes, walk-shown}
 use Rattle.mapped.specs.Call.{stateAfter, given, needed-made, call-full, call-maps, full-passed, full-more, call-passed, call-room, call-count, call-shaped, call-sound, call-tree}
 use Rattle.mapped.specs.Place.{region-page, page-region, region-spans, frame-is, span-spans}
-use Rattle.mapped.specs.Order.{Lawful, apart-flip, order-accepted, order-walks, order-tables, order-shown, turn-enough}
+use Rattle.mapped.specs.Order.{apart-flip, order-accepted, order-walks, order-tables, order-shown, turn-enough}
 
 -- ---- DEMAND 2
 
@@ -43,7 +43,7 @@ module _ {h : Handle} {c : Call} {s s′ : St} {n : ℕ} (maps : Maps h c s n s�
 
   module _ (va : ℕ) where
     -- each page of the region walks to its frame and flags;
-    pub map-region-walks : InRegion c va → c .flags % 2 ≡ 1 → shown (walkOf h s′ va) ≡ mapped (c .flags) (frameFor c va)
+    pub map-region-walks : InRegion c va → Valid c → shown (walkOf h s′ va) ≡ mapped (c .flags) (frameFor c va)
     unfolding asked inBytes
     map-region-walks at v =
         let passed = call-passed maps in
@@ -81,7 +81,7 @@ module _ {h : Handle} {c : Call} {s s′ : St} {n : ℕ} (maps : Maps h c s n s�
       (call-count maps, omega arith)
 
   -- a VALID map frees none
-  pub map-valid-frees-none : c .flags % 2 ≡ 1 → freedBy h c s ≡ 0
+  pub map-valid-frees-none : Valid c → freedBy h c s ≡ 0
   unfolding asked
   map-valid-frees-none v = valid-map-frees-none (leftOf h) (rootIn h) (rootTree h s) (pagesOf c) (valid-of (c .flags) v)
 

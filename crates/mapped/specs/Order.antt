@@ -6,13 +6,11 @@ use Prim.Native.Nat.{ℕ, suc, _*_, _-_, _/_, _≤_}
 use native.Mathlib.Omega.{arith}
 use Rattle.pool.specs.State.{St, tables}
 use Rattle.pool.specs.Number.{used, free, used-free}
-use Rattle.pool.specs.Refuse.{Shaped}
 use Rattle.pool.specs.declared.Handle.{Handle}
 use Rattle.map.specs.Ask.{asked}
 use Rattle.forest.specs.Tree.{Tree}
 use Rattle.forest.specs.Nodes.{nodes}
 use Rattle.forest.specs.Walk.{walkTree}
-use Rattle.sound.specs.Clauses.{SoundPool}
 use Rattle.sound.specs.Codec.{shaped-placed, rootTree}
 use Rattle.sound.specs.Hanging.{used-tree}
 use Rattle.walk.specs.Arm.{says}
@@ -24,16 +22,11 @@ use Rattle.tree.specs.Rules.{Given}
 use Rattle.tree.specs.Commute.{Apart as ApartPages}
 use Rattle.tree.specs.Order.{Room, run, madeAll, run-reorders, room-reorders, ValidMap, Each, Pairwise, Pairs, Reorders, each-reorders}
 use Rattle.tree.specs.Demands.{any-order-seen, enough-room}
-use Rattle.mapped.specs.Terms.{Call, Maps, Asks, Passed, Valid, Apart, InTurn, none, next, walkOf, shown, InSpan, leftOf, rootIn, pagesOf}
+use Rattle.mapped.specs.Terms.{Call, Maps, Asks, Lawful, Passed, Valid, Apart, InTurn, none, next, walkOf, shown, InSpan, leftOf, rootIn, pagesOf}
 use Rattle.mapped.specs.Leaf.{root-fine}
 use Rattle.mapped.specs.Shown.{inBytes, walk-shown}
 use Rattle.mapped.specs.Call.{stateAfter, given, call-maps, call-passed, call-room, call-shaped, call-sound, call-tree, call-tables}
 use Rattle.mapped.specs.Place.{page-region, span-spans}
-
--- refusals 1 and 8 are not given
-pub record Lawful (h : Handle) (s : St) : Type 0 where
-  pub shape : Shaped h s
-  pub pool : SoundPool h s
 
 passes : {h : Handle} {c : Call} {s : St} → Lawful h s → Asks h c → Passed h c s
 passes law asks = record { shape = law .shape; asks = asks; pool = law .pool }

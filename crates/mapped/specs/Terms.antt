@@ -44,15 +44,24 @@ callOf h c s = mapCall h (c .start) (c .end) (c .frame) (c .flags) (c .constrain
 pub record Maps (h : Handle) (c : Call) (s : St) (n : ℕ) (s′ : St) : Type 0 where
   pub answers : callOf h c s ≡ out (Tables n) s′
 
+-- VALID, bit 0 of the flags
+abbrev pub Valid : Call → Type 0
+Valid c = c .flags % 2 ≡ 1
+
 -- the map that it asks for
 abbrev pub askedOf : Call → Map
 askedOf c = asked (c .start) (c .end) (c .frame) (c .flags) (c .constraints)
 
--- refusals 2 to 7 are not given to it
+-- refusals 2 to 7 are not given
 abbrev pub Asks : Handle → Call → Type 0
 Asks h c = verifyMap h (c .end) (askedOf c) ≡ Accepted
 
--- nor refusals 1 and 8
+-- refusals 1 and 8 are not given
+pub record Lawful (h : Handle) (s : St) : Type 0 where
+  pub shape : Shaped h s
+  pub pool : SoundPool h s
+
+-- refusals 1 to 8 are not given
 pub record Passed (h : Handle) (c : Call) (s : St) : Type 0 where
   pub shape : Shaped h s
   pub asks : Asks h c
@@ -68,10 +77,6 @@ abbrev pub frameFor : Call → ℕ → ℕ
 frameFor c va = c .frame + (down va 4096 - rounded (c .start) (c .end) .start .0)
 
 -- ---- several calls
-
--- the region's pages are mapped
-abbrev pub Valid : Call → Type 0
-Valid c = c .flags % 2 ≡ 1
 
 -- the regions share no page
 abbrev pub Apart : Call → Call → Type 0

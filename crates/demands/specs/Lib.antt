@@ -5,3 +5,5 @@ pub mod Decided
 pub mod Refused
 pub mod Unchanged
 pub mod Modify
+pub mod Demands
+pub mod ShutOut

@@ -24,7 +24,8 @@ use Rattle.sound.specs.Hanging.{root-left, used-tree}
 use Rattle.sound.specs.Step.{used-inside}
 use Rattle.walk.specs.Arm.{bits, flagsIn, Walked, hole, block, page, outside, says, walk}
 use Rattle.walk.specs.Walk.{slot-below}
-use Rattle.walked.specs.Walked.{slotsOf, met, walk-of-tree}
+use Rattle.walked.specs.Any.{slotsOf, met}
+use Rattle.walked.specs.Walked.{walk-of-tree}
 use Rattle.compact.specs.Call.{compacted, compactCall, call-compacted}
 use Rattle.compacted.specs.Empty.{not-all-zero}
 use Rattle.compacted.specs.Run.{Ready, Worked, pool-again, shaped-again, table-worked}

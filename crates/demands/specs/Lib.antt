@@ -4,3 +4,4 @@ pub mod Told
 pub mod Decided
 pub mod Refused
 pub mod Unchanged
+pub mod Modify

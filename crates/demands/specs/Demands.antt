@@ -25,7 +25,6 @@ use Rattle.map.specs.Call.{mapCall}
 use Rattle.mapped.specs.Terms.{Call, Maps, Valid, InRegion, frameFor, Apart, InTurn, none, next, InSpan}
 use Rattle.mapped.specs.Call.{call-shaped}
 use Rattle.mapped.specs.Mapped.{map-keeps-sound, map-region-walks, map-elsewhere-as-before}
-use Rattle.cases.specs.Listed.{starred}
 use Rattle.demands.specs.Slip.{MakeSlip, CheckSlip, LookUpSlip, ImageSlip, ListSlip, MapSlip}
 use Rattle.demands.specs.Told.{Lowest, exactly}
 use Rattle.demands.specs.Refused.{make-told, check-told, compact-told, look-up-told, image-told, list-told, map-told}

@@ -27,7 +27,7 @@ fn map_sound(words: &mut [u64], ledger: &mut [u32], handle: Handle, map: Map) ->
         return Counted::Refused(Refusal::Unsound);
     }
     let free = (ledger.len() - ledger::count_used(ledger)) as u64;
-    let needed = need::count_needed(words, ledger, handle, 0, handle.level, map);
+    let needed = need::count_over(words, ledger, handle, map, free);
     if free < needed {
         return Counted::Refused(Refusal::WantOfRoom(needed, free));
     }

@@ -38,7 +38,8 @@ add-result c =
 
 -- src/check.rt:199:18
 count-used-requires : tie.Need-count-used-requires
-count-used-requires c κs = omega arith
+unfolding maxTables
+count-used-requires c κs = omega (arith, c .before .before .before .before .before .before .pre .limit)
 
 -- src/check.rt:191:1
 returns-2 : tie.Need-returns-2

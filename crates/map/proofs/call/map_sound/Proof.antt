@@ -8,6 +8,10 @@ use borrow.Author.Tests.{not-true, not-false}
 use Rattle.pool.specs.State.{st}
 use Rattle.pool.specs.Number.{used, free, used-free}
 use Rattle.pool.specs.Sound.{soundb}
+use Rattle.pool.specs.Refuse.{maxTables}
+use Rattle.need.specs.Needed.{needed}
+use Rattle.need.specs.Closed.{closed}
+use Rattle.need.specs.CountLaws.{over-past, over-within}
 use Rattle.need.specs.SoundCount.{closed-needed}
 use Rattle.map.specs.Call.{sound-not, sound-full, sound-mapped, put-down}
 use Rattle.map.proofs.call.map_sound.Statement.{statement}
@@ -16,12 +20,17 @@ use Rattle.map.proofs.call.map_sound.Reads as reads
 use Rattle.map.proofs.call.map_sound.Lts as lts
 use Rattle.checker.proofs.is_sound.Reads as is-sound-reads
 use Rattle.map.proofs.range.map_range.Reads as map-range-reads
-use Rattle.need.proofs.count_needed.Reads as count-needed-reads
+use Rattle.need.proofs.count_over.Reads as count-over-reads
 use Rattle.pool.proofs.ledger.count_used.Reads as count-used-reads
 
 -- past the first test the pool is sound
 sound : (c : tie.Else1) → let a = c .before .before .before .before .before .before .args in soundb (a .handle) (st (a .words .now) (a .ledger .now)) ≡ true
 sound c = sym (c .before .is-sound .ensures) ∙ not-false _ (c .if1 .left)
+
+-- refusal 9's count, as it is computed, is document 01's there
+counts : (c : tie.Else1) → let a = c .before .before .before .before .before .before .args in let s = st (a .words .now) (a .ledger .now) in
+    soundb (a .handle) s ≡ true → closed (3 - a .handle .level) (a .handle) s 0 (a .map) ≡ needed (3 - a .handle .level) (a .handle) s 0 (a .map)
+counts c is = let start = c .before .before .before .before .before .before in let a = start .args in closed-needed (a .handle) (st (a .words .now) (a .ledger .now)) (start .pre .0) (rw is tt) (a .map)
 
 room : (c : tie.After-count-used) → let a = c .before .before .before .before .before .before .before .before .args in length (a .ledger .now) - c .count-used .result ≡ free (a .ledger .now)
 room c = let a = c .before .before .before .before .before .before .before .before .args in let u = used-free (a .ledger .now) in let e = c .count-used .ensures in omega arith
@@ -44,15 +53,16 @@ returns c = let a = c .before .before .before .before .before .before .args in s
 
 -- src/call.rt:29:32
 count-used-requires : tie.Need-count-used-requires
-count-used-requires c κs = tt
+unfolding maxTables
+count-used-requires c κs = omega (arith, c .before .before .before .before .before .before .before .pre .0 .limit)
 
 -- src/call.rt:29:17
 sub-free : tie.Need-sub-free
 sub-free c = let a = c .before .before .before .before .before .before .before .before .args in let u = used-free (a .ledger .now) in let e = c .count-used .ensures in omega arith
 
 -- src/call.rt:30:9
-count-needed-requires : tie.Need-count-needed-requires
-count-needed-requires c κs = let p = c .before .before .before .before .before .before .before .before .before .before .pre in (p .0 .sized, p .0 .some, p .0 .level, p .1)
+count-over-requires : tie.Need-count-over-requires
+count-over-requires c κs = let p = c .before .before .before .before .before .before .before .before .before .before .pre in (p .0 .sized, p .0 .some, p .0 .level, p .1)
 
 -- src/call.rt:32:9
 same-length-3 : tie.Need-same-length-3
@@ -64,7 +74,11 @@ same-length-4 c = omega arith
 
 -- src/call.rt:32:9
 returns-2 : tie.Need-returns-2
-returns-2 c = let a = c .before .before .before .before .before .before .before .before .before .before .before .before .args in let p = c .before .before .before .before .before .before .before .before .before .before .before .before .pre in sound-full (a .handle) (a .map) (st (a .words .now) (a .ledger .now)) (sound (c .before .before .before .before .before .before)) (c .before .count-needed .ensures ∙ closed-needed (a .handle) (st (a .words .now) (a .ledger .now)) (p .0) (rw (sound (c .before .before .before .before .before .before)) tt) (a .map)) (room (c .before .before .before .before)) (c .if2 .taken)
+returns-2 c =
+    let a = c .before .before .before .before .before .before .before .before .before .before .before .before .args in
+    let s = st (a .words .now) (a .ledger .now) in
+    let is = sound (c .before .before .before .before .before .before) in
+    sound-full (a .handle) (a .map) s is (over-past _ _ (c .before .count-over .ensures) (c .if2 .taken) ∙ counts (c .before .before .before .before .before .before) is) (room (c .before .before .before .before)) (c .if2 .taken)
 
 -- src/call.rt:34:5
 map-range-requires : tie.Need-map-range-requires
@@ -72,7 +86,8 @@ map-range-requires c κs = let p = c .before .before .before .before .before .be
 
 -- src/call.rt:35:21
 count-used-requires-2 : tie.Need-count-used-requires-2
-count-used-requires-2 c κs = tt
+unfolding maxTables
+count-used-requires-2 c κs = omega (arith, c .before .before .before .before .before .before .before .before .before .before .before .before .before .before .before .before .before .before .before .before .pre .0 .limit)
 
 -- src/call.rt:22:1
 same-length-5 : tie.Need-same-length-5
@@ -84,7 +99,12 @@ same-length-6 c = search needs
 
 -- src/call.rt:22:1
 returns-3 : tie.Need-returns-3
-returns-3 c = let a = c .before .before .before .before .before .before .before .before .before .before .before .before .before .before .before .before .before .before .before .before .before .args in let p = c .before .before .before .before .before .before .before .before .before .before .before .before .before .before .before .before .before .before .before .before .before .pre in put-down (a .handle) (a .map) (st (a .words .now) (a .ledger .now)) (c .before .before .before .before .before .before .map-range .ensures) (c .count-used2 .ensures) ∙ sound-mapped (a .handle) (a .map) (st (a .words .now) (a .ledger .now)) (sound (c .before .before .before .before .before .before .before .before .before .before .before .before .before .before .before)) (c .before .before .before .before .before .before .before .before .before .before .count-needed .ensures ∙ closed-needed (a .handle) (st (a .words .now) (a .ledger .now)) (p .0) (rw (sound (c .before .before .before .before .before .before .before .before .before .before .before .before .before .before .before)) tt) (a .map)) (room (c .before .before .before .before .before .before .before .before .before .before .before .before .before)) (c .before .before .before .before .before .before .before .before .before .if2 .left)
+returns-3 c =
+    let a = c .before .before .before .before .before .before .before .before .before .before .before .before .before .before .before .before .before .before .before .before .before .args in
+    let s = st (a .words .now) (a .ledger .now) in
+    let is = sound (c .before .before .before .before .before .before .before .before .before .before .before .before .before .before .before) in
+    put-down (a .handle) (a .map) s (c .before .before .before .before .before .before .map-range .ensures) (c .count-used2 .ensures)
+    ∙ sound-mapped (a .handle) (a .map) s is (counts (c .before .before .before .before .before .before .before .before .before .before .before .before .before .before .before) is) (room (c .before .before .before .before .before .before .before .before .before .before .before .before .before)) (over-within _ _ (c .before .before .before .before .before .before .before .before .before .before .count-over .ensures) (c .before .before .before .before .before .before .before .before .before .if2 .left))
 
 pub map-sound-spec : {M : Type 1} → statement M
 map-sound-spec =
@@ -96,7 +116,7 @@ map-sound-spec =
     returns
     count-used-requires
     sub-free
-    count-needed-requires
+    count-over-requires
     same-length-3
     same-length-4
     returns-2

@@ -202,14 +202,22 @@ pub data Missed (level : ℕ) (m : Map) (w : ℕ) : Type 0 where
   hole : w % 2 ≡ 0 → addressOf w ≡ 0 → startOf m % sizeAt level < frameOf m → Missed level m w
   block : w % 4 ≡ 1 → addressOf w % sizeAt level ≡ 0 → (flagsOf w ≡ m .flags → frameOf m ≡ addressOf w + startOf m % sizeAt level → ⊥) → Missed level m w
 
--- as it is tested, where rule 2 doesn't fit the chunk itself
-unfoldable pub missedb : ℕ → Map → ℕ → Bool
-missedb level m w =
+-- as it is tested, where rule 2 doesn't fit the chunk itself and the chunk begins with an entry of the next level
+unfoldable pub missedCase : ℕ → Map → ℕ → Bool
+missedCase level m w =
     cond (eqb (w % 2) 0) (eqb (addressOf w) 0 && ltb (startOf m % sizeAt level) (frameOf m)) (not (tableWord w) && eqb (addressOf w % sizeAt level) 0)
 
+unfoldable pub missedb : ℕ → Map → ℕ → Bool
+missedb level m w = eqb (startOf m % sizeAt (level + 1)) 0 && missedCase level m w
+
+pub missed-starts : (level : ℕ) (m : Map) (w : ℕ) → missedb level m w ≡ true → startOf m % sizeAt (level + 1) ≡ 0
+unfolding missedb
+missed-starts level m w e =
+    eqb→eq (startOf m % sizeAt (level + 1)) 0 (and-l (eqb (startOf m % sizeAt (level + 1)) 0) (missedCase level m w) (rw e tt))
+
 pub missed-says : (level : ℕ) (m : Map) (w : ℕ) → rule2 level m w ≡ false → missedb level m w ≡ true → Missed level m w
-unfolding missedb tableWord
-missed-says level m w misses holds = byBool (eqb (w % 2) 0) even odd
+unfolding missedb missedCase tableWord
+missed-says level m w misses e = byBool (eqb (w % 2) 0) even odd
   where
     a : Bool
     a = eqb (addressOf w) 0 && ltb (startOf m % sizeAt level) (frameOf m)
@@ -219,6 +227,9 @@ missed-says level m w misses holds = byBool (eqb (w % 2) 0) even odd
 
     tells : {x : Bool} → x ≡ true → T x
     tells e = rw e tt
+
+    holds : cond (eqb (w % 2) 0) a b ≡ true
+    holds = is-true (cond (eqb (w % 2) 0) a b) (and-r (eqb (startOf m % sizeAt (level + 1)) 0) (cond (eqb (w % 2) 0) a b) (tells e))
 
     even : eqb (w % 2) 0 ≡ true → Missed level m w
     even e =
@@ -296,20 +307,25 @@ missed-later level c w a z l =
 -- ---- is_missed
 
 module _ (level : ℕ) (m : Map) (w : ℕ) where
-  module _ (low : w % 2 ≡ 0) where
-    pub test-address : (addressOf w ≡ 0 → ⊥) → false ≡ missedb level m w
-    unfolding missedb
-    test-address n = rw (eq-eqb (w % 2) 0 low, ne-eqb (addressOf w) 0 n)
+  pub test-start : (startOf m % sizeAt (level + 1) ≡ 0 → ⊥) → false ≡ missedb level m w
+  unfolding missedb
+  test-start n = rw (ne-eqb (startOf m % sizeAt (level + 1)) 0 n)
 
-    pub test-hole : addressOf w ≡ 0 → ltb (startOf m % sizeAt level) (frameOf m) ≡ missedb level m w
-    unfolding missedb
-    test-hole e = rw (eq-eqb (w % 2) 0 low, eq-eqb (addressOf w) 0 e)
+  module _ (starts : startOf m % sizeAt (level + 1) ≡ 0) where
+    module _ (low : w % 2 ≡ 0) where
+      pub test-address : (addressOf w ≡ 0 → ⊥) → false ≡ missedb level m w
+      unfolding missedb missedCase
+      test-address n = rw (eq-eqb (startOf m % sizeAt (level + 1)) 0 starts, eq-eqb (w % 2) 0 low, ne-eqb (addressOf w) 0 n)
 
-  module _ (odd : w % 2 ≡ 0 → ⊥) where
-    pub test-table : w % 4 ≡ 3 → false ≡ missedb level m w
-    unfolding missedb tableWord
-    test-table e = rw (ne-eqb (w % 2) 0 odd, eq-eqb (w % 4) 3 e)
+      pub test-hole : addressOf w ≡ 0 → ltb (startOf m % sizeAt level) (frameOf m) ≡ missedb level m w
+      unfolding missedb missedCase
+      test-hole e = rw (eq-eqb (startOf m % sizeAt (level + 1)) 0 starts, eq-eqb (w % 2) 0 low, eq-eqb (addressOf w) 0 e)
 
-    pub test-block : (w % 4 ≡ 3 → ⊥) → eqb (addressOf w % sizeAt level) 0 ≡ missedb level m w
-    unfolding missedb tableWord
-    test-block n = rw (ne-eqb (w % 2) 0 odd, ne-eqb (w % 4) 3 n)
+    module _ (odd : w % 2 ≡ 0 → ⊥) where
+      pub test-table : w % 4 ≡ 3 → false ≡ missedb level m w
+      unfolding missedb missedCase tableWord
+      test-table e = rw (eq-eqb (startOf m % sizeAt (level + 1)) 0 starts, ne-eqb (w % 2) 0 odd, eq-eqb (w % 4) 3 e)
+
+      pub test-block : (w % 4 ≡ 3 → ⊥) → eqb (addressOf w % sizeAt level) 0 ≡ missedb level m w
+      unfolding missedb missedCase tableWord
+      test-block n = rw (eq-eqb (startOf m % sizeAt (level + 1)) 0 starts, ne-eqb (w % 2) 0 odd, ne-eqb (w % 4) 3 n)

@@ -12,6 +12,8 @@ ghost use lib.ListN.{length};
 ghost use Rattle.laws.specs.Size.{sizeAt};
 ghost use Rattle.region.specs.Chunks.{met};
 ghost use Rattle.pool.specs.State.{st};
+ghost use Rattle.region.specs.Region.{region};
+ghost use Rattle.rules.specs.Rules.{chunkMap};
 ghost use Rattle.rules.specs.Fit.{Fit};
 ghost use Rattle.need.specs.Needed.{childWord};
 ghost use Rattle.need.specs.Closed.{restAt, rests, mets, closedLeaf, closed};
@@ -144,10 +146,15 @@ fn count_leaf(level: usize, map: Map, word: u64) -> u64
 }
 
 // Whether rule 2, where it doesn't fit the chunk, fits no part of it: a hole without address below the chunk's frame, or a block at a multiple of its size.
+// Asked of chunks that begin with an entry of the next level.
 fn is_missed(level: usize, map: Map, word: u64) -> bool
+    requires { ⌜ level < 2 ⌝ }
     ensures { λ r. ⌜ r ≡ missedb level map word ⌝ }
 {
     let address = word & entry::ADDRESS_BITS;
+    if map.region.start.0 & (address::granularity_at_level(level + 1) - 1) != 0 {
+        return false;
+    }
     let last = address::granularity_at_level(level) - 1;
     if word % 2 == 0 {
         if address != 0 {
@@ -161,22 +168,38 @@ fn is_missed(level: usize, map: Map, word: u64) -> bool
     address & last == 0
 }
 
-// The new tables for a chunk of an entry that is no table: from the chunk's ends at once, where rule 2 fits no part of it.
-fn count_entry(level: usize, map: Map, word: u64) -> u64
-    requires { ⌜ Fit map × Chunk level map × (level < 2) ⌝ }
-    ensures { λ r. ⌜ r ≡ closedLeaf (3 - level) map word ⌝ }
+// The new tables for a chunk of an entry that is no table: from the chunk's ends at once, where rule 2 fits no part of it. The chunk that is looked into is
+// another record, so that the first is never in memory.
+fn count_entry(level: usize, map: Map, start: u64, end: u64, frame: u64, word: u64) -> u64
+    requires { ⌜ Fit (chunkMap map (region start end) frame) × Chunk level (chunkMap map (region start end) frame) × (level < 2) ⌝ }
+    ensures { λ r. ⌜ r ≡ closedLeaf (3 - level) (chunkMap map (region start end) frame) word ⌝ }
 {
-    let rule = rules::rule_of(level, map, word);
+    let chunk = Map {
+        region: MemoryRegion {
+            start: VirtualAddress(start),
+            end: VirtualAddress(end),
+        },
+        frame: PhysicalAddress(frame),
+        flags: map.flags,
+        blocks: map.blocks,
+    };
+    let rule = rules::rule_of(level, chunk, word);
     let Rule::Down = rule else {
         return 0;
     };
-    if map.region.start.0 & (address::granularity_at_level(level + 1) - 1) != 0 {
-        return count_leaf(level, map, word);
+    if is_missed(level, chunk, word) {
+        return 1 + count_rest(level + 1, chunk);
     }
-    if !is_missed(level, map, word) {
-        return count_leaf(level, map, word);
-    }
-    1 + count_rest(level + 1, map)
+    let looked = Map {
+        region: MemoryRegion {
+            start: VirtualAddress(start),
+            end: VirtualAddress(end),
+        },
+        frame: PhysicalAddress(frame),
+        flags: map.flags,
+        blocks: map.blocks,
+    };
+    count_leaf(level, looked, word)
 }
 
 // The new tables for every chunk of the map in table k of level 2: one for each entry that is no table and is split.
@@ -240,16 +263,9 @@ pub fn count_needed(
     let mut count = 0;
     while at < end {
         let stop = region::chunk_end(at, end, level);
-        let chunk = Map {
-            region: MemoryRegion {
-                start: VirtualAddress(at),
-                end: VirtualAddress(stop),
-            },
-            frame: PhysicalAddress(frame),
-            flags: map.flags,
-            blocks: map.blocks,
-        };
         let i = region::entry_index(at, level);
+        let start = at;
+        let first = frame;
         frame += stop - at;
         at = stop;
         let word = words[512 * k + i];
@@ -258,8 +274,17 @@ pub fn count_needed(
             let Sub::Leaf = kind else {
                 continue;
             };
-            count += count_entry(level, chunk, word);
+            count += count_entry(level, map, start, stop, first, word);
             continue;
+        };
+        let chunk = Map {
+            region: MemoryRegion {
+                start: VirtualAddress(start),
+                end: VirtualAddress(stop),
+            },
+            frame: PhysicalAddress(first),
+            flags: map.flags,
+            blocks: map.blocks,
         };
         let rule = rules::rule_of(level, chunk, word);
         let Rule::Down = rule else {

@@ -22,7 +22,7 @@ use Rattle.pool.specs.declared.Refusal.{Refusal}
 use Rattle.pool.specs.declared.Refusal.the-variants.{Shape, End, Unsound, Short}
 use Rattle.pool.specs.declared.Outcome.{Outcome}
 use Rattle.pool.specs.declared.Outcome.the-variants.{Accepted, Refused}
-use Rattle.verify.specs.Verify.{endFits, verify, verified-span}
+use Rattle.verify.specs.Verify.{endFits, verify, refused-never, verified-span}
 use Rattle.list.specs.Lines.{Line, numbers, length-numbers, linesFrom}
 use Rattle.list.specs.declared.Listed.{Listed}
 use Rattle.list.specs.declared.Listed.the-variants.{Lines, Refused as refused}
@@ -117,7 +117,4 @@ up-below v a = byBool (ltb (up v a) (2 ^ 64)) (λ e. rw e (ltb→lt (up v a) (2 
 
 pub verified-length : (h : Handle) (start end : ℕ) → verifyEnds h start end ≡ Accepted → {r : MemoryRegion} → r ≡ rounded start end → r .end .0 - r .start .0 ≤ 2 ^ 48
 unfolding verifyEnds rounded
-verified-length h start end e q = rw q (byBool (endFits end) (λ f. verified-span h (rounded start end) (rw f at e) (up-below end 4096)) (λ f. absurd (never (rw f at e))))
-  where
-    never : {x : Refusal} → _≡_ {A = Outcome} (Refused x) Accepted → ⊥
-    never q = let z : _≡_ {A = ℕ} 0 1 = cc in omega arith
+verified-length h start end e q = rw q (byBool (endFits end) (λ f. verified-span h (rounded start end) (rw f at e) (up-below end 4096)) (λ f. absurd (refused-never (rw f at e))))

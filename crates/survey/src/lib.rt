@@ -162,6 +162,9 @@ pub fn survey_range(
         let word = words[512 * k + i];
         let kind = entry::subtable(handle.base, ledger.len(), level, word);
         let Sub::Table(j) = kind else {
+            let Sub::Leaf = kind else {
+                continue;
+            };
             seen = survey_entry(handle, level, part, word, seen);
             continue;
         };

@@ -13,7 +13,8 @@ modify-range-requires c κs = let p = c .before .before .before .before .before 
 
 -- src/call.rt:32:9
 count-used-requires : tie.Need-count-used-requires
-count-used-requires c κs = tt
+unfolding maxTables
+count-used-requires c κs = omega (arith, c .before .before .before .before .before .before .before .before .before .pre .limit)
 
 -- src/call.rt:34:9
 same-length : tie.Need-same-length

@@ -43,7 +43,8 @@ returns c = let a = c .before .before .before .before .before .before .before .a
 
 -- src/call.rt:54:32
 count-used-requires : tie.Need-count-used-requires
-count-used-requires c κs = tt
+unfolding maxTables
+count-used-requires c κs = omega (arith, c .before .before .before .before .before .before .before .before .before .pre .0 .limit)
 
 -- src/call.rt:54:17
 sub-free : tie.Need-sub-free

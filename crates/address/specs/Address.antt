@@ -3,8 +3,9 @@ use mathlib.Core.Path.{_≡_, refl, sym, ap, _∙_}
 use mathlib.Core.Bool.{cond}
 use Prim.Native.Nat.{ℕ, _+_, _-_, _%_, _^_, _≤_, _<_}
 use native.Mathlib.Omega.{arith}
-use lib.Dec.{ltb}
+use lib.Dec.{ltb, ltb→lt}
 use borrow.Author.Tests.{lt-ltb, le-ltb}
+use Rattle.laws.specs.Test.{byBool}
 use Rattle.laws.specs.Size.{down, up, up-zero, up-exact, up-next, down-rest}
 
 -- the multiple of the alignment at or above the value where it fits 64 bits, and 0 where it doesn't or the alignment is 0
@@ -32,3 +33,8 @@ align-up-past v a h n f = sym (align-up-is v a (v - v % a + a) (up-above v a h n
 
 pub align-up-next : (v a : ℕ) → 0 < a → (v % a ≡ 0 → ⊥) → v - v % a + a < 2 ^ 64 → v - v % a + a ≡ alignUp v a
 align-up-next v a h n f = sym (align-up-is v a (v - v % a + a) (up-above v a h n) ∙ rw (lt-ltb (v - v % a + a) (2 ^ 64) f))
+
+-- what is rounded up fits 64 bits
+pub up-below : (v a : ℕ) → alignUp v a < 2 ^ 64
+unfolding alignUp
+up-below v a = byBool (ltb (up v a) (2 ^ 64)) (λ e. rw e (ltb→lt (up v a) (2 ^ 64) (rw e tt))) (λ e. rw e (omega arith))

@@ -20,8 +20,7 @@ use Rattle.walk.specs.Arm.{bits, lowBit, index, fetch}
 use Rattle.list.specs.Lines.{numbers, each, subLines, chunkLines, linesAt, linesFrom}
 use Rattle.list.specs.Listing.{verifyEnds, listing, put, listLines, linesOf, listSound, listVerified, listCall}
 use Rattle.list.specs.declared.Listed.the-variants.{Lines}
-use Rattle.cases.specs.Bench.{handle, fresh, word, table, poolB, Made, made, Maps, starred-maps}
-use Rattle.cases.specs.Compacted.{G, case-G}
+use Rattle.cases.specs.Bench.{handle, fresh, word, table, poolB}
 
 -- three lines; the rest of the list stays
 abbrev pub J : Type 0
@@ -32,8 +31,3 @@ J =
 pub case-J : J
 unfolding sizeAt down up putPart allBelow allFrom alignUp addressOf kindOf linkOf only el1Flags inPool leads subOf rounded entryLast chunkEnd met chunksIn chunks rootNumber putTable zeros maxTables shaped flagSet plainFlags fits leafb namesb hangsb tableb linkb refersb slotb soundb endFits span inRange verify bits lowBit index fetch numbers each subLines chunkLines linesAt linesFrom verifyEnds put listLines linesOf listSound listVerified listCall handle fresh word table poolB
 case-J = refl
-
--- ---- the table: the pools as make gives them, every starred case of map, of list and of compact
-
-pub starred : Made × Maps × J × G
-starred = (made, starred-maps, case-J, case-G)

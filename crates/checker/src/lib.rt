@@ -1,4 +1,5 @@
 // The pool check: it accepts exactly the sound pools, whoever wrote the words, and reads each word once.
+use pool::Found;
 use pool::Handle;
 use pool::Outcome;
 use pool::Refusal;
@@ -12,7 +13,7 @@ ghost use Rattle.pool.specs.Refuse.{Shaped};
 ghost use Rattle.pool.specs.Sound.{hangsb, tableb, soundb};
 ghost use Rattle.checker.specs.Stream.{runOf, freeRun, pagesRun, linksRun, tablesRun, allowedAt};
 ghost use Rattle.checker.specs.Mask.{PlainSet};
-ghost use Rattle.checker.specs.Check.{checkCall};
+ghost use Rattle.checker.specs.Check.{soundCount, checkCall};
 
 // A run of words that passed, with how many of them refer to tables; or one that holds a wrong word.
 pub enum Run {
@@ -185,16 +186,32 @@ fn scan_tables(words: &[u64], ledger: &[u32], handle: Handle) -> Run
     }
 }
 
-// Whether the pool is sound: where every used table hangs, as many links as used tables but the root leave no other link.
+// The tables in use, if the pool is sound: where every used table hangs, as many links as used tables but the root leave no other link.
+pub fn count_sound(words: &[u64], ledger: &[u32], handle: Handle) -> Found
+    requires { ⌜ Shaped handle (st (now words) (now ledger)) ⌝ }
+    ensures { λ r. ⌜ r ≡ soundCount handle (st (now (words .entry)) (now (ledger .entry))) ⌝ }
+{
+    let found = scan_tables(words, ledger, handle);
+    let Run::Passed(links) = found else {
+        return Found::Nothing;
+    };
+    let used = ledger::count_used(ledger);
+    if links + 1 != used {
+        return Found::Nothing;
+    }
+    Found::At(used)
+}
+
+// Whether the pool is sound.
 pub fn is_sound(words: &[u64], ledger: &[u32], handle: Handle) -> bool
     requires { ⌜ Shaped handle (st (now words) (now ledger)) ⌝ }
     ensures { λ r. ⌜ r ≡ soundb handle (st (now (words .entry)) (now (ledger .entry))) ⌝ }
 {
-    let found = scan_tables(words, ledger, handle);
-    let Run::Passed(links) = found else {
-        return false;
-    };
-    links + 1 == ledger::count_used(ledger)
+    let counted = count_sound(words, ledger, handle);
+    match counted {
+        Found::At(_) => true,
+        Found::Nothing => false,
+    }
 }
 
 // The pool check.

@@ -22,8 +22,9 @@ use Rattle.sound.specs.Clauses.{InUse, SoundPool}
 use Rattle.sound.specs.Decide.{sound-decide}
 use Rattle.sound.specs.Hanging.{root-left, used-tree}
 use Rattle.sound.specs.Step.{used-inside}
-use Rattle.walk.specs.Arm.{bits, flagsIn, Walked, hole, block, page, outside, says, walk}
+use Rattle.walk.specs.Arm.{bits, flagsIn, says}
 use Rattle.walk.specs.Walk.{slot-below}
+use Rattle.walked.specs.AsBefore.{walkOf, Shown, hole, shown}
 use Rattle.walked.specs.Any.{slotsOf, met}
 use Rattle.walked.specs.Walked.{walk-of-tree}
 use Rattle.compact.specs.Call.{compacted, compactCall, call-compacted}
@@ -31,24 +32,8 @@ use Rattle.compacted.specs.Empty.{not-all-zero}
 use Rattle.compacted.specs.Run.{Ready, Worked, pool-again, shaped-again, table-worked}
 use Rattle.compacted.specs.Tight.{NoneEmpty, tight-none, table-same}
 
--- what "as before" compares of a walk's answer: mapped or hole, frame and flags. The level may differ.
-pub data Shown : Type 0 where
-  mapped : (flags frame : ℕ) → Shown
-  unmapped : (flags : ℕ) → Shown
-  away : Shown
-
-unfoldable pub shown : Walked → Shown
-shown (hole level flags) = unmapped flags
-shown (block level flags frame) = mapped flags frame
-shown (page level flags frame) = mapped flags frame
-shown outside = away
-
--- what the walk of an address shows in a pool
-unfoldable pub walkShows : Handle → St → ℕ → Shown
-walkShows h s va = shown (walk (h .base .0) (tables s) (s .words) va (h .level))
-
 -- a word of 0 shows the same at every level
-zero-shows : (va left : ℕ) → shown (says va (met (record { word = 0; left = left }))) ≡ unmapped 0
+zero-shows : (va left : ℕ) → shown (says va (met (record { word = 0; left = left }))) ≡ hole 0
 unfolding shown met says bits flagsIn
 zero-shows va left = refl
 
@@ -88,12 +73,11 @@ module _ {h : Handle} {s : St} (shape : Shaped h s) (P : SoundPool h s) where
   compact-keeps-shape = shaped-again (shaped-placed shape) shape (worked .size)
 
   -- EVERY ADDRESS WALKS AS BEFORE, to the same frame and flags
-  pub compact-walks-as-before : (va : ℕ) → walkShows h (compacted h s) va ≡ walkShows h s va
-  unfolding walkShows
+  pub compact-walks-as-before : (va : ℕ) → shown (walkOf h (compacted h s) va) ≡ shown (walkOf h s va)
   compact-walks-as-before va =
       ap shown (walk-of-tree compact-keeps-shape compact-keeps-sound va)
       ∙ ap (λ (t : Tree). shown (says va (met (walkTree (slotsOf va) (suc (3 - h .level)) t)))) compact-of-tree
-      ∙ compact-walk (slotsOf va) (slots-below va) (λ e. shown (says va (met e))) (unmapped 0) (zero-shows va) (3 - h .level) (rootTree h s)
+      ∙ compact-walk (slotsOf va) (slots-below va) (λ e. shown (says va (met e))) (hole 0) (zero-shows va) (3 - h .level) (rootTree h s)
       ∙ sym (ap shown (walk-of-tree shape P va))
 
   -- NO TABLE BUT THE ROOT IS ALL ZERO

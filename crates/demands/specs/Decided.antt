@@ -25,7 +25,7 @@ use Rattle.pool.specs.declared.Outcome.{Outcome}
 use Rattle.pool.specs.declared.Outcome.the-variants.{Accepted, Refused}
 use Rattle.sound.specs.Clauses.{SoundPool}
 use Rattle.sound.specs.Decide.{sound-exactly}
-use Rattle.verify.specs.Verify.{endFits, inRange, verify, lower-start, lower-end, lower-in, upper-start, upper-in, verify-backwards, verify-forwards}
+use Rattle.verify.specs.Verify.{endFits, inRange, verify, refused-never, lower-start, lower-end, lower-in, upper-start, upper-in, verify-backwards, verify-forwards}
 use Rattle.walk.specs.LookUp.{spanned, span-lower, span-upper}
 use Rattle.map.specs.Ask.{frameAsked, frame-part, frame-past, frame-fits}
 use Rattle.demands.specs.Slip.{Misshaped, BadEnd, OutsideSet, Backwards, BeyondRange, BeyondSpan, BadFrame}
@@ -104,7 +104,7 @@ region-told h r = ⊎-elim ahead (λ l. inl (sym (verify-backwards h r l), l)) (
 
 -- no refusal is an acceptance
 pub accepted-not : (r : Refusal) → Accepted ≢ Refused r
-accepted-not r e = let z : _≡_ {A = ℕ} 0 1 = cc in omega arith
+accepted-not r e = refused-never (sym e)
 
 -- 2
 pub end-told : (end : ℕ) → ((endFits end ≡ false) × BadEnd end) ⊎ ((endFits end ≡ true) × (¬ (BadEnd end)))

@@ -24,6 +24,7 @@ use Rattle.pool.specs.declared.Counted.{Counted}
 use Rattle.pool.specs.declared.Counted.the-variants as counted
 use Rattle.sound.specs.Clauses.{SoundPool}
 use Rattle.checker.specs.Check.{checkCall, check-misshaped, check-unsound, check-sound}
+use Rattle.compact.specs.Call.{compactCall, call-misshaped as compact-misshaped, call-unsound as compact-unsound, call-compacted}
 use Rattle.verify.specs.Verify.{endFits, verify}
 use Rattle.walk.specs.Arm.{Walked, hole, block, page as one-page, outside, walk}
 use Rattle.walk.specs.LookUp.{answer, lookUpCall, look-misshaped, look-beyond, look-walks}
@@ -54,17 +55,41 @@ make-told h s = byBool (shaped h s)
 
 -- ---- check: 1, 8
 
+check-below : (h : Handle) (s : St) (n : ℕ) → ¬ (Misshaped h s) → (8 < n → ¬ (¬ (SoundPool h s))) → (q : Refusal) → number q < n → ¬ (CheckSlip h s q)
+unfolding CheckSlip
+check-below h s n one eight = none-below (CheckSlip h s) n (λ l. one) (λ l e g. g) (λ l f g. g) (λ l f g. g) (λ l r g. g) (λ l a g. g) (λ l f g. g) eight (λ l k f g. g)
+    (λ l w g. g) (λ l k g. g)
+
 pub check-told : (h : Handle) (s : St) → Told (CheckSlip h s) Refused (checkCall h s)
 unfolding CheckSlip
 check-told h s = byBool (shaped h s)
     (λ fits. byBool (soundb h s)
-    (λ is. inr ((λ q. below 12 (not-misshaped h s fits) (λ l g. g (sound h s fits is)) q (number-range q .1)), λ r e. accepted-not r (check-sound h s fits is ∙ e)))
-    (λ un. inl (Unsound, sym (check-unsound h s fits un), record { given = unsound h s fits un; lower = below 8 (not-misshaped h s fits) (λ l. absurd (omega arith)) })))
+    (λ is. inr ((λ q. check-below h s 12 (not-misshaped h s fits) (λ l g. g (sound h s fits is)) q (number-range q .1)), λ r e. accepted-not r (check-sound h s fits is ∙ e)))
+    (λ un. inl (Unsound, sym (check-unsound h s fits un), record { given = unsound h s fits un; lower = check-below h s 8 (not-misshaped h s fits) (λ l. absurd (omega arith)) })))
     (λ fails. inl (Shape, sym (check-misshaped h s fails), shape-lowest (CheckSlip h s) (misshaped h s fails)))
+
+-- ---- compact: 1, 8
+
+pub compact-told : (h : Handle) (s : St) → Told (CheckSlip h s) counted.Refused (compactCall h s .answer)
+unfolding CheckSlip
+compact-told h s = byBool (shaped h s)
+    (λ fits. byBool (soundb h s)
+    (λ is. inr (
+      (λ q. check-below h s 12 (not-misshaped h s fits) (λ l g. g (sound h s fits is)) q (number-range q .1)),
+      λ r e. let z = told (call-compacted h s fits is refl refl) ∙ e in let o : _≡_ {A = ℕ} 0 1 = cc in omega arith,
+    ))
+    (λ un. inl (
+      Unsound,
+      sym (told (compact-unsound h s fits un)),
+      record {
+        given = unsound h s fits un;
+        lower = check-below h s 8 (not-misshaped h s fits) (λ l. absurd (omega arith));
+      },
+    )))
+    (λ fails. inl (Shape, sym (told (compact-misshaped h s fails)), shape-lowest (CheckSlip h s) (misshaped h s fails)))
   where
-    below : (n : ℕ) → ¬ (Misshaped h s) → (8 < n → ¬ (¬ (SoundPool h s))) → (q : Refusal) → number q < n → ¬ (CheckSlip h s q)
-    below n one eight = none-below (CheckSlip h s) n (λ l. one) (λ l e g. g) (λ l f g. g) (λ l f g. g) (λ l r g. g) (λ l a g. g) (λ l f g. g) eight (λ l k f g. g) (λ l w g. g)
-        (λ l k g. g)
+    told : {x y : Out Counted} → x ≡ y → x .answer ≡ y .answer
+    told e = ap (λ (x : Out Counted). x .answer) e
 
 -- ---- page image: 1, 11
 

@@ -1,6 +1,7 @@
 -- Document 01, "The refusal slip", as a table of its own: when each refusal is given and what it carries, call by call. Definitions alone, in the slip's
 -- order and words; no test of the code is cited. Assumes nothing.
 use mathlib.Core.Path.{_≡_}
+use mathlib.Core.Bool.{Bool, true}
 use mathlib.Core.List.{List}
 use mathlib.Core.Logic.{_⊎_, _≢_}
 use Prim.Native.Nat.{ℕ, _+_, _*_, _-_, _/_, _%_, _^_, _≤_, _<_}
@@ -24,6 +25,8 @@ use Rattle.walk.specs.Arm.{walk, outside}
 use Rattle.list.specs.Listing.{linesOf}
 use Rattle.need.specs.Needed.{needed}
 use Rattle.map.specs.Ask.{asked}
+use Rattle.modify.specs.Ask.{asked as askedEdit}
+use Rattle.modify.specs.Call.{surveyOf}
 
 -- ---- "Given exactly when"
 
@@ -149,3 +152,29 @@ MapSlip h s start end frame flags constraints (WantOfRoom n f) =
     (n ≡ needed (3 - h .level) h s 0 (asked start end frame flags constraints)) × (f ≡ free (s .ledger)) × (f < n)
 MapSlip h s start end frame flags constraints (HouseRule w) = ⊥
 MapSlip h s start end frame flags constraints (Short n) = ⊥
+
+-- 3, modify: "that argument, set before clear"
+abbrev pub BadBit : ℕ → ℕ → ℕ → Type 0
+BadBit set clear f = ((f ≡ set) × HasBit1 set) ⊎ ((f ≡ clear) × (¬ (HasBit1 set)) × HasBit1 clear)
+
+-- 4, modify: "a flag outside the set; bit 0 to set, or a bit both set and cleared"; "for a clash, set"
+abbrev pub BadToSet : Handle → ℕ → ℕ → Type 0
+BadToSet h set clear = OutsideSet h set ⊎ ((set % 2 ≡ 1) ⊎ (bitAnd set clear ≢ 0))
+
+abbrev pub BadFlags : Handle → ℕ → ℕ → ℕ → Type 0
+BadFlags h set clear f = ((f ≡ set) × BadToSet h set clear) ⊎ ((f ≡ clear) × (¬ (BadToSet h set clear)) × OutsideSet h clear)
+
+-- "modify 1 to 6, 8, 9 and, live, 10, 11": the survey of an edit counts its splits and its numbers, and has the first entry that breaks the house rule
+unfoldable pub ModifySlip : Handle → St → ℕ → ℕ → ℕ → ℕ → Bool → List ℕ → Refusal → Type 0
+ModifySlip h s start end set clear live list Shape = Misshaped h s
+ModifySlip h s start end set clear live list (End e) = (e ≡ end) × BadEnd end
+ModifySlip h s start end set clear live list (InvalidFlags f) = BadBit set clear f
+ModifySlip h s start end set clear live list (FlagSet f) = BadFlags h set clear f
+ModifySlip h s start end set clear live list (RegionBackwards r) = (r ≡ rounded start end) × Backwards r
+ModifySlip h s start end set clear live list (AddressRange a) = BeyondRange (h .range) (h .level) (rounded start end) a
+ModifySlip h s start end set clear live list (Frame f) = ⊥
+ModifySlip h s start end set clear live list Unsound = ¬ (SoundPool h s)
+ModifySlip h s start end set clear live list (WantOfRoom n f) = (n ≡ surveyOf h (askedEdit start end set clear live) s .splits) × (f ≡ free (s .ledger)) × (f < n)
+ModifySlip h s start end set clear live list (HouseRule w) =
+    let v = surveyOf h (askedEdit start end set clear live) s in (live ≡ true) × (v .broken ≡ true) × (w ≡ v .word)
+ModifySlip h s start end set clear live list (Short n) = (live ≡ true) × (n ≡ surveyOf h (askedEdit start end set clear live) s .numbers) × (length list < n)

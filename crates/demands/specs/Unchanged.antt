@@ -20,6 +20,7 @@ use Rattle.pool.specs.declared.Outcome.{Outcome}
 use Rattle.pool.specs.declared.Outcome.the-variants.{Accepted, Refused}
 use Rattle.pool.specs.declared.Counted.{Counted}
 use Rattle.pool.specs.declared.Counted.the-variants as counted
+use Rattle.compact.specs.Call.{compactCall, call-misshaped as compact-misshaped, call-unsound as compact-unsound, call-compacted}
 use Rattle.list.specs.Listing.{Listing, listing, verifyEnds, linesOf, listLines, listCall, list-misshaped, list-region, list-unsound, list-sound, list-short, list-written}
 use Rattle.list.specs.declared.Listed.{Listed}
 use Rattle.list.specs.declared.Listed.the-variants as listed
@@ -45,6 +46,13 @@ module _ (h : Handle) (s : St) {r : Refusal} where
   make-leaves q = byBool (shaped h s)
       (λ fits. absurd (accepted-not r (ap (λ (x : Out Outcome). x .answer) (make-accepted h s fits) ∙ q)))
       (λ fails. stays (make-refused h s fails) q)
+
+  pub compact-leaves : compactCall h s .answer ≡ counted.Refused r → compactCall h s ≡ out (counted.Refused r) s
+  compact-leaves q = byBool (shaped h s)
+      (λ fits. byBool (soundb h s)
+      (λ is. absurd (let z = ap (λ (x : Out Counted). x .answer) (call-compacted h s fits is refl refl) ∙ q in let o : _≡_ {A = ℕ} 0 1 = cc in omega arith))
+      (λ un. stays (compact-unsound h s fits un) q))
+      (λ fails. stays (compact-misshaped h s fails) q)
 
 module _ (h : Handle) (s : St) (k : ℕ) (page : List ℕ) {r : Refusal} where
   page-stays : {x : Imaged} {a : Outcome} → imaged a page ≡ x → x .answer ≡ Refused r → x ≡ imaged (Refused r) page

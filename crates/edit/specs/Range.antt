@@ -61,8 +61,8 @@ ownWork level k e w =
 unfoldable pub modifyRange : ℕ → Handle → ℕ → Edit → Work → Work
 modifyRange zero h k e w = ownWork 3 k e w
 modifyRange (suc left) h k e w =
-    ownWork (3 - suc left) k e
-    (eachChunk (3 - suc left) (downChunk (λ j c. modifyRange left h j (chunkEdit e c)) h (3 - suc left) k) (e .region) w)
+    let lower = eachChunk (3 - suc left) (downChunk (λ j c. modifyRange left h j (chunkEdit e c)) h (3 - suc left) k) (e .region) w in
+    ownWork (3 - suc left) k e lower
 
 -- ---- laws: one for each way through the code
 

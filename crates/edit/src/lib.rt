@@ -25,11 +25,12 @@ pub struct Edit {
 pub fn edit_word(level: usize, edit: Edit, word: u64) -> u64
     ensures { λ r. ⌜ r ≡ editWord level edit word ⌝ }
 {
+    let new = (word | edit.set) & !edit.clear;
     let kind = entry::kind_of(level, word);
     match kind {
         Kind::Table => word,
-        Kind::Block => (word | edit.set) & !edit.clear,
-        Kind::Page => (word | edit.set) & !edit.clear,
+        Kind::Block => new,
+        Kind::Page => new,
         Kind::Hole => word,
     }
 }

@@ -4,13 +4,12 @@ use mathlib.Core.Bool.{true, false, cond}
 use mathlib.Core.List.{List, _++_}
 use Prim.Native.Nat.{ℕ, _+_, _*_, _-_, _^_, _≤_, _<_}
 use native.Mathlib.Omega.{arith}
-use lib.Dec.{leb, ltb, ltb→lt}
+use lib.Dec.{leb}
 use lib.ListN.{length, drop}
 use borrow.Author.Tests.{le-leb, lt-leb}
-use Rattle.laws.specs.Size.{up}
 use Rattle.laws.specs.Part.{putPart}
 use Rattle.laws.specs.Test.{byBool}
-use Rattle.address.specs.Address.{alignUp}
+use Rattle.address.specs.Address.{up-below}
 use Rattle.region.specs.Region.{rounded}
 use Rattle.region.specs.declared.MemoryRegion.{MemoryRegion}
 use Rattle.pool.specs.State.{St, tables}
@@ -21,7 +20,7 @@ use Rattle.pool.specs.declared.Refusal.{Refusal}
 use Rattle.pool.specs.declared.Refusal.the-variants.{Shape, End, Unsound, Short}
 use Rattle.pool.specs.declared.Outcome.{Outcome}
 use Rattle.pool.specs.declared.Outcome.the-variants.{Accepted, Refused}
-use Rattle.verify.specs.Verify.{endFits, verify, verified-span, span-length}
+use Rattle.verify.specs.Verify.{endFits, verify, refused-never, verified-span, span-length}
 use Rattle.list.specs.Lines.{Line, numbers, length-numbers, linesFrom}
 use Rattle.list.specs.declared.Listed.{Listed}
 use Rattle.list.specs.declared.Listed.the-variants.{Lines, Refused as refused}
@@ -110,16 +109,9 @@ list-written ls list l =
 
 -- ---- a region that was verified is no longer than the largest span
 
-up-below : (v a : ℕ) → alignUp v a < 2 ^ 64
-unfolding alignUp
-up-below v a = byBool (ltb (up v a) (2 ^ 64)) (λ e. rw e (ltb→lt (up v a) (2 ^ 64) (rw e tt))) (λ e. rw e (omega arith))
-
 pub ends-verified : (h : Handle) (start end : ℕ) → verifyEnds h start end ≡ Accepted → verify h (rounded start end) ≡ Accepted
 unfolding verifyEnds
-ends-verified h start end e = byBool (endFits end) (λ f. rw f at e) (λ f. absurd (never (rw f at e)))
-  where
-    never : {x : Refusal} → _≡_ {A = Outcome} (Refused x) Accepted → ⊥
-    never q = let z : _≡_ {A = ℕ} 0 1 = cc in omega arith
+ends-verified h start end e = byBool (endFits end) (λ f. rw f at e) (λ f. absurd (refused-never (rw f at e)))
 
 pub verified-length : (h : Handle) (start end : ℕ) → verifyEnds h start end ≡ Accepted → {r : MemoryRegion} → r ≡ rounded start end → r .end .0 - r .start .0 ≤ 2 ^ 48
 unfolding rounded

@@ -10,7 +10,7 @@ use lib.Dec.{T, eqb, eqb→eq, leb, ltb}
 use borrow.Author.Tests.{eq-eqb, ne-eqb, le-leb, lt-leb}
 use Rattle.laws.specs.Bit.{sub-none}
 use Rattle.entry.specs.Word.{only, el1Flags, addressOf, flagsOf, mask-address, address-and-flags}
-use Rattle.laws.specs.Size.{down, up}
+use Rattle.laws.specs.Size.{sizeAt, down, up, down-paged}
 use Rattle.laws.specs.Test.{byBool, eq-or, le-or}
 use Rattle.address.specs.Address.{alignUp}
 use Rattle.region.specs.Region.{rounded}
@@ -21,7 +21,7 @@ use Rattle.pool.specs.declared.Refusal.{Refusal}
 use Rattle.pool.specs.declared.Refusal.the-variants.{End, InvalidFlags, FlagSet, Frame}
 use Rattle.pool.specs.declared.Outcome.{Outcome}
 use Rattle.pool.specs.declared.Outcome.the-variants.{Accepted, Refused}
-use Rattle.verify.specs.Verify.{endFits, verify, verified-forwards}
+use Rattle.verify.specs.Verify.{endFits, verify, refused-never, verified-forwards}
 use Rattle.rules.specs.declared.Map.{Map}
 use Rattle.rules.specs.Fit.{Plain, Fit}
 
@@ -110,10 +110,6 @@ only-plain h f e =
     let both = address-and-flags f in
     omega arith
 
--- no refusal is an acceptance
-refused-not : {x : Outcome} (r : Refusal) → Refused r ≡ x → x ≡ Accepted → ⊥
-refused-not r e q = let z : _≡_ {A = ℕ} 0 1 = cc in omega arith
-
 pub record Passes (h : Handle) (end : ℕ) (m : Map) : Type 0 where
   pub ends : endFits end ≡ true
   pub plain : m .flags / 2 % 2 ≡ 0
@@ -123,45 +119,41 @@ pub record Passes (h : Handle) (end : ℕ) (m : Map) : Type 0 where
 
 -- an accepted map passes each of them
 pub passes : (h : Handle) (end : ℕ) (m : Map) → verifyMap h end m ≡ Accepted → Passes h end m
-passes h end m ok = byBool (endFits end) ended (λ e. absurd (refused-not (End end) (ask-end h end m e) ok))
+passes h end m ok = byBool (endFits end) ended (λ e. absurd (refused-never (ask-end h end m e ∙ ok)))
   where
     framed : (ends : endFits end ≡ true) (plain : m .flags / 2 % 2 ≡ 1 → ⊥) (from : only (flagSet h) (m .flags) ≡ true) (x : Outcome)
         → verify h (m .region) ≡ x → Passes h end m
     framed ends plain from Accepted e =
         record { ends = ends; plain = omega arith; from = from; region = e; frame = ask-frame h end m ends plain from (sym e) refl ∙ ok }
-    framed ends plain from (Refused r) e = absurd (refused-not r (ask-region h end m ends plain from (sym e) r refl) ok)
+    framed ends plain from (Refused r) e = absurd (refused-never (ask-region h end m ends plain from (sym e) r refl ∙ ok))
 
     ended : endFits end ≡ true → Passes h end m
     ended ends = ⊎-elim
-        (λ e. absurd (refused-not (InvalidFlags (m .flags)) (ask-invalid h end m ends e) ok))
+        (λ e. absurd (refused-never (ask-invalid h end m ends e ∙ ok)))
         (λ plain. byBool (only (flagSet h) (m .flags)) (λ from. framed ends plain from (verify h (m .region)) refl)
-        (λ e. absurd (refused-not (FlagSet (m .flags)) (ask-set h end m ends plain e) ok)))
+        (λ e. absurd (refused-never (ask-set h end m ends plain e ∙ ok))))
         (eq-or (m .flags / 2 % 2) 1)
 
 frame-says : (frame length : ℕ) → frameAsked frame length ≡ Accepted → (frame % 4096 ≡ 0) × (frame + length ≤ 2 ^ 48)
 frame-says frame length ok = ⊎-elim
-    (λ e. ⊎-elim (λ l. (e, l)) (λ l. absurd (refused-not (Frame (record { 0 = frame })) (frame-past frame length e l) ok)) (le-or (frame + length) (2 ^ 48)))
-    (λ n. absurd (refused-not (Frame (record { 0 = frame })) (frame-part frame length n) ok))
+    (λ e. ⊎-elim (λ l. (e, l)) (λ l. absurd (refused-never (frame-past frame length e l ∙ ok))) (le-or (frame + length) (2 ^ 48)))
+    (λ n. absurd (refused-never (frame-part frame length n ∙ ok)))
     (eq-or (frame % 4096) 0)
 
 -- both ends are multiples of 4096
-pub down-pages : (a : ℕ) → down a 4096 % 4096 ≡ 0
-unfolding down
-down-pages a = omega arith
-
 pub up-pages : (a : ℕ) → alignUp a 4096 % 4096 ≡ 0
-unfolding alignUp up
-up-pages a = byBool (ltb (up a 4096) (2 ^ 64)) (λ e. rw e (down-pages (a + 4095))) (λ e. rw e refl)
+unfolding alignUp up sizeAt
+up-pages a = byBool (ltb (up a 4096) (2 ^ 64)) (λ e. rw e (down-paged 3 (a + 4095))) (λ e. rw e refl)
 
 -- what is put down is whole pages, with frames below 2^48 and flags that share no bit with them
 pub asked-fit : (h : Handle) (start end frame flags constraints : ℕ) → flags < 2 ^ 64 → let m = asked start end frame flags constraints in verifyMap h end m ≡ Accepted → Fit m
-unfolding asked rounded
+unfolding asked rounded sizeAt
 asked-fit h start end frame flags constraints low ok =
     let m = asked start end frame flags constraints in
     let p = passes h end m ok in
     let f = frame-says frame (m .region .end .0 - m .region .start .0) (p .frame) in
     record {
-      from = down-pages start;
+      from = down-paged 3 start;
       to = up-pages end;
       some = verified-forwards h (m .region) (p .region);
       frame = f .0;

@@ -5,6 +5,7 @@ use crate::range;
 use address::PhysicalAddress;
 use address::VirtualAddress;
 use pool::Counted;
+use pool::Found;
 use pool::Handle;
 use pool::Outcome;
 use pool::Refusal;
@@ -23,11 +24,12 @@ fn map_sound(words: &mut [u64], ledger: &mut [u32], handle: Handle, map: Map) ->
     requires { ⌜ Shaped handle (st (now words) (now ledger)) × Fit map ⌝ }
     ensures { λ r. ⌜ out r (st (now (words .exit)) (now (ledger .exit))) ≡ mapSound handle map (st (now (words .entry)) (now (ledger .entry))) ⌝ }
 {
-    if !checker::is_sound(words, ledger, handle) {
+    let found = checker::count_sound(words, ledger, handle);
+    let Found::At(used) = found else {
         return Counted::Refused(Refusal::Unsound);
-    }
-    let free = (ledger.len() - ledger::count_used(ledger)) as u64;
-    let needed = need::count_needed(words, ledger, handle, 0, handle.level, map);
+    };
+    let free = (ledger.len() - used) as u64;
+    let needed = need::count_over(words, ledger, handle, map, free);
     if free < needed {
         return Counted::Refused(Refusal::WantOfRoom(needed, free));
     }

@@ -8,7 +8,7 @@ use lib.Bits.{bitAnd, and-le-r}
 use lib.Dec.{eqb, eqb→eq, leb, ltb, lit<}
 use borrow.Author.Tests.{ltb-true}
 use Rattle.laws.specs.Bit.{Sub}
-use Rattle.laws.specs.Size.{sizeAt, size-high, up}
+use Rattle.laws.specs.Size.{sizeAt, size-high, up, down-paged}
 use Rattle.laws.specs.Test.{byBool, le-or}
 use Rattle.address.specs.Address.{alignUp}
 use Rattle.entry.specs.Word.{only}
@@ -26,7 +26,7 @@ use Rattle.pool.specs.declared.Outcome.the-variants.{Accepted, Refused}
 use Rattle.verify.specs.Verify.{endFits, span as wide, inRange, verify, lower-start, lower-end, upper-start, verify-forwards, verified-forwards}
 use Rattle.rules.specs.declared.Map.{Map}
 use Rattle.rules.specs.Fit.{Fit}
-use Rattle.map.specs.Ask.{asked, frameAsked, first as firstOf, verifyMap, passes, only-plain, asked-fit, down-pages, up-pages}
+use Rattle.map.specs.Ask.{asked, frameAsked, first as firstOf, verifyMap, passes, only-plain, asked-fit, up-pages}
 use Rattle.tree.specs.Page.{span, span-size, span-suc, first, in-from}
 use Rattle.tree.specs.Root.{upperRoot, upper-span}
 use Rattle.tree.specs.Chunks.{Inside}
@@ -79,14 +79,14 @@ aligned-below a = byBool (ltb (up a 4096) (2 ^ 64)) (λ e. rw e (ltb-true (up a 
 pub pages-inside : (h : Handle) (start end frame : ℕ) → h .level ≤ 3 → verify h (rounded start end) ≡ Accepted → frame % 4096 ≡ 0
     → let left = 3 - h .level in let r = rounded start end in
     Inside (first (suc left) (rootOf (h .range) left)) (span (suc left)) (r .start .0) (r .end .0) frame
-unfolding rounded
+unfolding rounded sizeAt
 pages-inside h start end frame low ok paged =
     let r : MemoryRegion = rounded start end in
     let some = verified-forwards h r ok in
     let e : h .level ≡ 3 - (3 - h .level) = omega arith in
     let range : inRange (h .range) (3 - (3 - h .level)) r ≡ Accepted = ap (λ (l : ℕ). inRange (h .range) l r) (sym e) ∙ verify-forwards h r some ∙ ok in
     let pages = root-pages (h .range) (3 - h .level) r (omega arith) range some (aligned-below end) (up-pages end) in
-    record { startPage = down-pages start; endPage = up-pages end; framePage = paged; low = pages .0; high = pages .1 }
+    record { startPage = down-paged 3 start; endPage = up-pages end; framePage = paged; low = pages .0; high = pages .1 }
 
 -- flags that refusals 3 and 4 leave
 pub flags-allowed : (h : Handle) (f : ℕ) → only (flagSet h) f ≡ true → f / 2 % 2 ≡ 0 → Allowed h f

@@ -17,6 +17,6 @@ pub mod Asked
 pub mod Shown
 pub mod Call
 pub mod Place
-pub mod Turn
--- what follows
+pub mod Order
+-- the demands
 pub mod Mapped

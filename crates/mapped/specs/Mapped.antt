@@ -1,6 +1,7 @@
 -- DEMANDS 2 AND 3, of the call itself. `callOf` is the definition that the contract of the public call cites, `walkOf` the Arm walk of the words; nothing is asked of the
 -- pool but that the call is accepted (`Maps`), which it is in a sound pool alone. `Terms` has the words that are used here. Assumes nothing.
-use mathlib.Core.Path.{_≡_, sym, ap, _∙_}
+use mathlib.Core.Path.{_≡_, refl, sym, ap, _∙_}
+use mathlib.Core.List.{List, [], _∷_, map, List·Permᴰ·swap, Permᴰ·symm}
 use mathlib.Core.Logic.{_↔_}
 use Prim.Native.Nat.{ℕ, suc, _+_, _/_, _%_, _≤_, _<_}
 use native.Mathlib.Omega.{arith}
@@ -15,22 +16,20 @@ use Rattle.need.specs.Needed.{needed}
 use Rattle.map.specs.Ask.{asked}
 use Rattle.forest.specs.Tree.{Tree}
 use Rattle.forest.specs.Nodes.{nodes}
-use Rattle.forest.specs.Walk.{walkTree}
 use Rattle.sound.specs.Clauses.{SoundPool}
 use Rattle.sound.specs.Codec.{shaped-placed, rootTree}
 use Rattle.sound.specs.Hanging.{used-tree}
-use Rattle.walk.specs.Arm.{says}
-use Rattle.walked.specs.Any.{slotsOf, met}
-use Rattle.walked.specs.Walked.{walk-of-tree}
+use Rattle.walked.specs.AsBefore.{walkOf, mapped, hole, shown}
 use Rattle.tree.specs.Word.{valid-of, valid-none}
 use Rattle.tree.specs.Walk.{seen}
+use Rattle.tree.specs.Order.{Reorders, Each, Pairs, each-reorders, pairs-reorders, madeAll}
 use Rattle.tree.specs.Demands.{region-mapped, region-holes, others-as-before, tables-after, valid-map-frees-none}
-use Rattle.mapped.specs.Terms.{Call, callOf, Maps, askedOf, Passed, InRegion, frameFor, InTurn, Apart, walkOf, mapped, hole, shown, InSpan, leftOf, rootIn, pagesOf, treeAfter, madeBy, freedBy}
+use Rattle.mapped.specs.Terms.{Call, callOf, Maps, askedOf, Asks, Lawful, Passed, InRegion, frameFor, Valid, Apart, InTurn, next, InSpan, leftOf, rootIn, pagesOf, treeAfter, madeBy, freedBy}
 use Rattle.mapped.specs.Leaf.{root-fine}
 use Rattle.mapped.specs.Shown.{inBytes, walk-shown}
 use Rattle.mapped.specs.Call.{stateAfter, given, needed-made, call-full, call-maps, full-passed, full-more, call-passed, call-room, call-count, call-shaped, call-sound, call-tree}
 use Rattle.mapped.specs.Place.{region-page, page-region, region-spans, frame-is, span-spans}
-use Rattle.mapped.specs.Turn.{apart-flip, other-turn, same-tree}
+use Rattle.mapped.specs.Order.{apart-flip, order-accepted, order-walks, order-tables, order-shown, turn-enough}
 
 -- ---- DEMAND 2
 
@@ -45,7 +44,7 @@ module _ {h : Handle} {c : Call} {s s′ : St} {n : ℕ} (maps : Maps h c s n s�
 
   module _ (va : ℕ) where
     -- each page of the region walks to its frame and flags;
-    pub map-region-walks : InRegion c va → c .flags % 2 ≡ 1 → shown (walkOf h s′ va) ≡ mapped (c .flags) (frameFor c va)
+    pub map-region-walks : InRegion c va → Valid c → shown (walkOf h s′ va) ≡ mapped (c .flags) (frameFor c va)
     unfolding asked inBytes
     map-region-walks at v =
         let passed = call-passed maps in
@@ -83,7 +82,7 @@ module _ {h : Handle} {c : Call} {s s′ : St} {n : ℕ} (maps : Maps h c s n s�
       (call-count maps, omega arith)
 
   -- a VALID map frees none
-  pub map-valid-frees-none : c .flags % 2 ≡ 1 → freedBy h c s ≡ 0
+  pub map-valid-frees-none : Valid c → freedBy h c s ≡ 0
   unfolding asked
   map-valid-frees-none v = valid-map-frees-none (leftOf h) (rootIn h) (rootTree h s) (pagesOf c) (valid-of (c .flags) v)
 
@@ -116,32 +115,49 @@ module _ (h : Handle) (c : Call) (s : St) where
     λ room. (used (stateAfter h c s .ledger), stateAfter h c s, record { answers = call-maps (room .0) (room .1) }),
   )
 
--- ---- DEMAND 3: two VALID calls whose regions share no page
+-- ---- DEMAND 3: VALID calls whose regions share no page
 
-module _ {h : Handle} {c d : Call} {s s′ t′ : St} {n k : ℕ} (apart : Apart c d) (turn : InTurn h c d s n s′) (turn′ : InTurn h d c s k t′) where
-  same-walk : (va : ℕ) → walkOf h s′ va ≡ walkOf h t′ va
-  same-walk va =
-      walk-of-tree (call-shaped (turn .second)) (call-sound (turn .second)) va
-      ∙ ap (λ (t : Tree). says va (met (walkTree (slotsOf va) (suc (leftOf h)) t))) (same-tree apart turn turn′)
-      ∙ sym (walk-of-tree (call-shaped (turn′ .second)) (call-sound (turn′ .second)) va)
-
-  same-tables : n ≡ k
-  same-tables =
-      let a = used-tree (call-shaped (turn .second)) (call-sound (turn .second)) in
-      let b = used-tree (call-shaped (turn′ .second)) (call-sound (turn′ .second)) in
-      call-count (turn .second) ∙ a ∙ ap nodes (same-tree apart turn turn′) ∙ sym b ∙ sym (call-count (turn′ .second))
-
-pub record EitherOrder (h : Handle) (c d : Call) (s : St) : Type 0 where
-  -- both are accepted in one order exactly when both are in the other;
-  pub accepted : ((n : ℕ) × (s′ : St) × InTurn h c d s n s′) ↔ ((n : ℕ) × (s′ : St) × InTurn h d c s n s′)
+pub record EitherOrder (h : Handle) (cs ds : List Call) (s : St) : Type 0 where
+  -- all are accepted in one order exactly when all are in the other;
+  pub accepted : ((s′ : St) × InTurn h cs s s′) ↔ ((t′ : St) × InTurn h ds s t′)
   -- then every address has the same walk answer, level included,
-  pub walks : (n k : ℕ) (s′ t′ : St) → InTurn h c d s n s′ → InTurn h d c s k t′ → (va : ℕ) → walkOf h s′ va ≡ walkOf h t′ va
-  -- and equally many tables are in use, which is the answer
-  pub tables : (n k : ℕ) (s′ t′ : St) → InTurn h c d s n s′ → InTurn h d c s k t′ → n ≡ k
+  pub walks : (s′ t′ : St) → InTurn h cs s s′ → InTurn h ds s t′ → (va : ℕ) → walkOf h s′ va ≡ walkOf h t′ va
+  -- and equally many tables are in use
+  pub tables : (s′ t′ : St) → InTurn h cs s s′ → InTurn h ds s t′ → used (s′ .ledger) ≡ used (t′ .ledger)
 
-pub maps-commute : (h : Handle) (c d : Call) (s : St) → Apart c d → EitherOrder h c d s
-maps-commute h c d s apart = record {
-  accepted = (λ at. other-turn apart (at .2), λ at. other-turn (apart-flip apart) (at .2));
-  walks = λ n k s′ t′ turn turn′. same-walk apart turn turn′;
-  tables = λ n k s′ t′ turn turn′. same-tables apart turn turn′;
+-- any number of them, in any order (Q-13), in a pool that refusals 1 and 8 leave;
+pub maps-any-order : (h : Handle) (cs ds : List Call) (s : St) → Lawful h s → Reorders cs ds → Pairs Apart cs → Each Valid cs → EitherOrder h cs ds s
+maps-any-order h cs ds s law reorders apart valid = record {
+  accepted = (
+    λ at. order-accepted law reorders apart valid (at .1),
+    λ at. order-accepted law (Permᴰ·symm reorders) (pairs-reorders Apart apart-flip reorders apart) (each-reorders Valid reorders valid) (at .1),
+  );
+  walks = λ s′ t′ turn turn′. order-walks law reorders apart turn turn′ valid;
+  tables = λ s′ t′ turn turn′. order-tables law reorders apart turn turn′ valid;
 }
+
+-- two of them, whatever the pool
+pub maps-commute : (h : Handle) (c d : Call) (s : St) → Apart c d → Valid c → Valid d → EitherOrder h (c ∷ d ∷ []) (d ∷ c ∷ []) s
+maps-commute h c d s apart vc vd = record {
+  accepted = (λ at. both (law (at .1)) .accepted .0 at, λ at. both (law (at .1)) .accepted .1 at);
+  walks = λ s′ t′ turn turn′. both (law turn) .walks s′ t′ turn turn′;
+  tables = λ s′ t′ turn turn′. both (law turn) .tables s′ t′ turn turn′;
+}
+  where
+    law : {e : Call} {es : List Call} {s′ : St} → InTurn h (e ∷ es) s s′ → Lawful h s
+    law (next maps rest) = let passed = call-passed maps in record { shape = passed .shape; pool = passed .pool }
+
+    both : Lawful h s → EitherOrder h (c ∷ d ∷ []) (d ∷ c ∷ []) s
+    both l = maps-any-order h (c ∷ d ∷ []) (d ∷ c ∷ []) s l (List·Permᴰ·swap refl refl) ((apart, tt), (tt, tt)) (vc, (vd, tt))
+
+-- ---- with and without VALID (Q-13)
+
+module _ (h : Handle) (cs : List Call) (s : St) (law : Lawful h s) where
+  -- where as many tables are free at entry as the calls of a list make, want of room aside, none of them is refused 9;
+  pub maps-enough-room : Each (Asks h) cs → madeAll (leftOf h) (rootIn h) (map pagesOf cs) (rootTree h s) ≤ free (s .ledger) → (s′ : St) × InTurn h cs s s′
+  maps-enough-room asks room = turn-enough h cs s law asks room
+
+  -- where all are accepted in two orders, every address of the span shows the same kind of answer, frame and flags
+  pub maps-any-order-shown : (ds : List Call) (s′ t′ : St) → Reorders cs ds → Pairs Apart cs → InTurn h cs s s′ → InTurn h ds s t′ → (va : ℕ) → InSpan h va
+      → shown (walkOf h s′ va) ≡ shown (walkOf h t′ va)
+  maps-any-order-shown ds s′ t′ reorders apart turn turn′ va at = order-shown law reorders apart turn turn′ va at

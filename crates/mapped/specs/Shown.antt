@@ -17,6 +17,7 @@ use Rattle.sound.specs.Clauses.{SoundPool}
 use Rattle.sound.specs.Codec.{shaped-placed, rootTree}
 use Rattle.walk.specs.Arm.{frameOf, flagsIn, at, says}
 use Rattle.walk.specs.Walk.{index-is, flags-is, frame-is, says-hole, says-block, says-page}
+use Rattle.walked.specs.AsBefore.{walkOf, Shown, mapped, hole, shown}
 use Rattle.walked.specs.Any.{slotsOf, met}
 use Rattle.walked.specs.Walked.{walk-of-tree}
 use Rattle.tree.specs.Page.{span, entry-number, entry-rest, slotOf, slot-lt}
@@ -24,7 +25,6 @@ use Rattle.tree.specs.Word.{valid, frameOf as frameIn, plain, address-frame, va
 use Rattle.tree.specs.Fine.{Fine}
 use Rattle.tree.specs.Walk.{Seen, mapped as seenMapped, hole as seenHole, seenIn, walk as walkIn, seen, seen-fine}
 use Rattle.tree.specs.Shown.{FineTree, FineTable}
-use Rattle.mapped.specs.Terms.{walkOf, Shown, mapped, hole, shown}
 use Rattle.mapped.specs.Leaf.{root-fine}
 
 -- what a page shows, with its frame as an address

@@ -1,11 +1,11 @@
--- The words in which the demands on the call are said: the call and its answer, its region, the root's span, what a walk shows, the tables that a map makes and
--- frees. Definitions alone. Assumes nothing.
+-- The words in which the demands on the call are said: the call and its answer, its region, the root's span, the tables that a map makes and frees. Definitions alone. Assumes nothing.
 use mathlib.Core.Path.{_≡_}
 use mathlib.Core.Bool.{true}
+use mathlib.Core.List.{List, [], _∷_}
 use Prim.Native.Nat.{ℕ, _+_, _-_, _%_, _^_, _≤_, _<_}
 use Rattle.laws.specs.Size.{down}
 use Rattle.region.specs.Region.{rounded}
-use Rattle.pool.specs.State.{St, tables}
+use Rattle.pool.specs.State.{St}
 use Rattle.pool.specs.Refuse.{Shaped, Out, out}
 use Rattle.pool.specs.declared.Handle.{Handle}
 use Rattle.pool.specs.declared.VaRange.{VaRange}
@@ -19,7 +19,6 @@ use Rattle.map.specs.Call.{mapCall}
 use Rattle.forest.specs.Tree.{Tree}
 use Rattle.sound.specs.Clauses.{SoundPool}
 use Rattle.sound.specs.Codec.{rootTree}
-use Rattle.walk.specs.Arm.{Walked, hole as armHole, block as armBlock, page as armPage, outside, walk}
 use Rattle.walk.specs.LookUp.{spanned}
 use Rattle.tree.specs.Rules.{Map as TreeMap}
 use Rattle.tree.specs.Chunks.{inPages}
@@ -43,14 +42,27 @@ callOf h c s = mapCall h (c .start) (c .end) (c .frame) (c .flags) (c .constrain
 pub record Maps (h : Handle) (c : Call) (s : St) (n : ℕ) (s′ : St) : Type 0 where
   pub answers : callOf h c s ≡ out (Tables n) s′
 
+-- VALID, bit 0 of the flags
+abbrev pub Valid : Call → Type 0
+Valid c = c .flags % 2 ≡ 1
+
 -- the map that it asks for
 abbrev pub askedOf : Call → Map
 askedOf c = asked (c .start) (c .end) (c .frame) (c .flags) (c .constraints)
 
+-- refusals 2 to 7 are not given
+abbrev pub Asks : Handle → Call → Type 0
+Asks h c = verifyMap h (c .end) (askedOf c) ≡ Accepted
+
+-- refusals 1 and 8 are not given
+pub record Lawful (h : Handle) (s : St) : Type 0 where
+  pub shape : Shaped h s
+  pub pool : SoundPool h s
+
 -- refusals 1 to 8 are not given
 pub record Passed (h : Handle) (c : Call) (s : St) : Type 0 where
   pub shape : Shaped h s
-  pub asks : verifyMap h (c .end) (askedOf c) ≡ Accepted
+  pub asks : Asks h c
   pub pool : SoundPool h s
 
 -- the address lies in the call's region: "start is rounded down and end up to 4096"
@@ -62,36 +74,18 @@ pub record InRegion (c : Call) (va : ℕ) : Type 0 where
 abbrev pub frameFor : Call → ℕ → ℕ
 frameFor c va = c .frame + (down va 4096 - rounded (c .start) (c .end) .start .0)
 
--- two calls one after the other are both accepted: the second answers n and leaves s′
-pub record InTurn (h : Handle) (c d : Call) (s : St) (n : ℕ) (s′ : St) : Type 0 where
-  pub count : ℕ
-  pub between : St
-  pub first : Maps h c s count between
-  pub second : Maps h d between n s′
+-- ---- several calls
 
--- two VALID calls whose regions share no page
-pub record Apart (c d : Call) : Type 0 where
-  pub valid-first : c .flags % 2 ≡ 1
-  pub valid-second : d .flags % 2 ≡ 1
-  pub no-page : (va : ℕ) → InRegion c va → ¬ (InRegion d va)
+-- the regions share no page
+abbrev pub Apart : Call → Call → Type 0
+Apart c d = (va : ℕ) → InRegion c va → ¬ (InRegion d va)
 
--- ---- the walk
+-- the calls of a list, one after the other, are all accepted, and leave s′
+pub data InTurn (h : Handle) : List Call → St → St → Type 0 where
+  none : {s : St} → InTurn h [] s s
+  next : {c : Call} {cs : List Call} {s t s′ : St} {n : ℕ} → Maps h c s n t → InTurn h cs t s′ → InTurn h (c ∷ cs) s s′
 
--- the Arm walk of an address in the pool s
-abbrev pub walkOf : Handle → St → ℕ → Walked
-walkOf h s va = walk (h .base .0) (tables s) (s .words) va (h .level)
-
--- what "as before" compares: kind of answer (mapped or hole), frame and flags; `away` where a table word leads away from the pool
-pub data Shown : Type 0 where
-  mapped : (flags frame : ℕ) → Shown
-  hole : (flags : ℕ) → Shown
-  away : Shown
-
-unfoldable pub shown : Walked → Shown
-shown (armHole level flags) = hole flags
-shown (armBlock level flags frame) = mapped flags frame
-shown (armPage level flags frame) = mapped flags frame
-shown outside = away
+-- ---- the span
 
 -- the address lies in the root's span
 pub record InSpan (h : Handle) (va : ℕ) : Type 0 where

@@ -4,12 +4,11 @@ use mathlib.Core.Path.{_≡_, refl, sym, ap, _∙_}
 use mathlib.Core.Bool.{Bool, true, false, cond}
 use Prim.Native.Nat.{ℕ, _+_, _-_, _/_, _%_, _^_, _≤_, _<_}
 use lib.Bits.{bitAnd}
-use lib.Dec.{eqb, ltb, ltb→lt}
+use lib.Dec.{eqb, ltb}
 use native.Mathlib.Omega.{arith}
 use borrow.Author.Tests.{eq-eqb, ne-eqb, lt-ltb, le-ltb}
-use Rattle.laws.specs.Size.{up}
 use Rattle.laws.specs.Test.{byBool}
-use Rattle.address.specs.Address.{alignUp}
+use Rattle.address.specs.Address.{up-below}
 use Rattle.entry.specs.Word.{only}
 use Rattle.region.specs.Region.{rounded}
 use Rattle.region.specs.declared.MemoryRegion.{MemoryRegion}
@@ -19,7 +18,7 @@ use Rattle.pool.specs.declared.Refusal.{Refusal}
 use Rattle.pool.specs.declared.Refusal.the-variants.{End, InvalidFlags, FlagSet, WantOfRoom, HouseRule, Short}
 use Rattle.pool.specs.declared.Outcome.{Outcome}
 use Rattle.pool.specs.declared.Outcome.the-variants.{Accepted, Refused}
-use Rattle.verify.specs.Verify.{endFits, verify, verified-span, span-length}
+use Rattle.verify.specs.Verify.{endFits, verify, refused-never, verified-span, span-length}
 use Rattle.edit.specs.declared.Edit.{Edit}
 use Rattle.survey.specs.declared.Survey.{Survey}
 
@@ -145,22 +144,13 @@ module _ (free room : ℕ) (live : Bool) (v : Survey) where
 
 -- ---- a region that was verified is no longer than the largest span
 
-up-below : (v a : ℕ) → alignUp v a < 2 ^ 64
-unfolding alignUp
-up-below v a = byBool (ltb (up v a) (2 ^ 64)) (λ e. rw e (ltb→lt (up v a) (2 ^ 64) (rw e tt))) (λ e. rw e (omega arith))
-
--- no refusal is an acceptance
-refused-not : {x : Outcome} (r : Refusal) → Refused r ≡ x → x ≡ Accepted → ⊥
-refused-not r e q = let z : _≡_ {A = ℕ} 0 1 = cc in omega arith
-
 pub asked-span : (h : Handle) (start end set clear : ℕ) (live : Bool) → let e = asked start end set clear live in
     verifyEdit h end e ≡ Accepted → e .region .end .0 - e .region .start .0 ≤ 2 ^ 48
 unfolding asked rounded
 asked-span h start end set clear live ok =
-    byBool (endFits end) (λ f. bits f (verifyBits h set clear) refl) (λ f. absurd (refused-not (End end) (edit-end h end (asked start end set clear live) f) ok))
+    byBool (endFits end) (λ f. bits f (verifyBits h set clear) refl) (λ f. absurd (refused-never (edit-end h end (asked start end set clear live) f ∙ ok)))
   where
     bits : endFits end ≡ true → (x : Outcome) → verifyBits h set clear ≡ x → rounded start end .end .0 - rounded start end .start .0 ≤ 2 ^ 48
     bits f Accepted q =
-        let verified = edit-region h end (asked start end set clear live) f (sym q) refl ∙ ok in
-        span-length (h .range) (h .level) (rounded start end) (verified-span h (rounded start end) verified) (up-below end 4096)
-    bits f (Refused r) q = absurd (refused-not r (edit-bits h end (asked start end set clear live) f (sym q) r refl) ok)
+        span-length (h .range) (h .level) (rounded start end) (verified-span h (rounded start end) (edit-region h end (asked start end set clear live) f (sym q) refl ∙ ok)) (up-below end 4096)
+    bits f (Refused r) q = absurd (refused-never (edit-bits h end (asked start end set clear live) f (sym q) r refl ∙ ok))

@@ -4,7 +4,7 @@ use mathlib.Core.Path.{_≡_, refl, sym, ap, ap₂, _∙_}
 use mathlib.Core.Bool.{Bool, true, false, not, cond, _&&_}
 use mathlib.Core.Logic.{_⊎_, inl, inr}
 use Prim.Native.Nat.{ℕ, zero, suc, _+_, _*_, _-_, _%_, _≤_, _<_}
-use native.Mathlib.Nat.{mul-add, suc-mul}
+use native.Mathlib.Nat.{suc-mul}
 use native.Mathlib.Omega.{arith}
 use lib.Dec.{eqb, ltb}
 use borrow.Author.Tests.{eq-eqb, ne-eqb, lt-ltb, le-ltb}
@@ -14,7 +14,7 @@ use Rattle.entry.specs.Sub.{subOf}
 use Rattle.entry.specs.declared.Sub.{Sub}
 use Rattle.entry.specs.declared.Sub.the-variants.{Table, Outside, Leaf}
 use Rattle.region.specs.Region.{region, entryLast, entryIndex, chunkEnd}
-use Rattle.region.specs.Chunks.{met, met-none, met-one, met-most, met-split, met-step, chunk-fits}
+use Rattle.region.specs.Chunks.{met, met-none, met-one, met-most, met-split, met-step, chunk-fits, chunk-stops}
 use Rattle.pool.specs.State.{St, tables, wordAt}
 use Rattle.pool.specs.declared.Handle.{Handle}
 use Rattle.rules.specs.declared.Map.{Map}
@@ -45,6 +45,11 @@ restAt level m = cond (m .blocks && eqb (frameOf m % sizeAt level) 0) (lastPart 
 unfoldable pub rests : ℕ → Map → ℕ
 rests zero m = 0
 rests (suc left) m = restAt (3 - suc left) m + rests left m
+
+-- the entries of those levels that a region meets: no map of it needs more tables
+unfoldable pub mets : ℕ → ℕ → ℕ → ℕ
+mets zero s e = 0
+mets (suc left) s e = met (3 - suc left) s e + mets left s e
 
 -- as `neededLeaf`, but only the first of the chunks below is looked into: in the others rule 2 fits nothing
 unfoldable pub closedLeaf : ℕ → Map → ℕ → ℕ
@@ -80,13 +85,13 @@ part-end : (level s x e : ℕ) → s < e → x < e → lastPart level s e ≡ la
 unfolding lastPart
 part-end level s x e h k = rw (lt-ltb s e h, lt-ltb x e k)
 
-part-most : (level s e : ℕ) → lastPart level s e ≤ e - s
-part-most level s e = go (le-or e s) (eq-or (e % sizeAt level) 0)
+part-one : (level s e : ℕ) → lastPart level s e ≤ 1
+unfolding lastPart
+part-one level s e = go (ltb s e && not (eqb (e % sizeAt level) 0))
   where
-    go : (e ≤ s) ⊎ (s < e) → (e % sizeAt level ≡ 0) ⊎ (e % sizeAt level ≡ 0 → ⊥) → lastPart level s e ≤ e - s
-    go (inl h) z = let r = part-none level s e h in omega arith
-    go (inr h) (inl z) = let r = part-whole level s e z in omega arith
-    go (inr h) (inr z) = let r = part-some level s e h z in omega arith
+    go : (b : Bool) → cond b 1 0 ≤ 1
+    go true = omega arith
+    go false = omega arith
 
 -- ---- one level
 
@@ -101,13 +106,17 @@ rest-none level m h = go (m .blocks && eqb (frameOf m % sizeAt level) 0)
     go true = part-none level (startOf m) (endOf m) h
     go false = met-none level (startOf m) (endOf m) h
 
-pub rest-most : (level : ℕ) (m : Map) → restAt level m ≤ endOf m - startOf m
+rest-met : (level : ℕ) (m : Map) → restAt level m ≤ met level (startOf m) (endOf m)
 unfolding restAt
-rest-most level m = go (m .blocks && eqb (frameOf m % sizeAt level) 0)
+rest-met level m = go (m .blocks && eqb (frameOf m % sizeAt level) 0)
   where
-    go : (b : Bool) → choose b level (startOf m) (endOf m) ≤ endOf m - startOf m
-    go true = part-most level (startOf m) (endOf m)
-    go false = met-most level (startOf m) (endOf m)
+    part : (endOf m ≤ startOf m) ⊎ (startOf m < endOf m) → lastPart level (startOf m) (endOf m) ≤ met level (startOf m) (endOf m)
+    part (inl h) = let z = part-none level (startOf m) (endOf m) h in omega arith
+    part (inr h) = let k = met-step level (startOf m) (endOf m) h in let o = part-one level (startOf m) (endOf m) in omega arith
+
+    go : (b : Bool) → choose b level (startOf m) (endOf m) ≤ met level (startOf m) (endOf m)
+    go true = part (le-or (endOf m) (startOf m))
+    go false = omega arith
 
 -- where rule 3 fits none is split
 pub rest-blocks : (level : ℕ) (m : Map) → m .blocks ≡ true → frameOf m % sizeAt level ≡ 0 → endOf m % sizeAt level ≡ 0 → restAt level m ≡ 0
@@ -203,12 +212,36 @@ rests-cut (suc left) m x l h z c =
     deeper (inl e) = inl e
     deeper (inr d) = inr (d .0, left-next left x l (d .1))
 
--- ---- no more tables than levels times addresses, so that the count fits 64 bits
+-- ---- no more tables than entries met
+
+mets-none : (left s e : ℕ) → e ≤ s → mets left s e ≡ 0
+unfolding mets
+mets-none zero s e h = refl
+mets-none (suc left) s e h = let a = met-none (3 - suc left) s e h in let b = mets-none left s e h in omega arith
+
+-- cut where the region ends, or where an entry begins
+mets-cut : (left s x e : ℕ) → left ≤ 3 → s < x → (x ≡ e) ⊎ ((x < e) × (x % sizeAt (3 - left) ≡ 0)) → mets left s e ≡ mets left s x + mets left x e
+unfolding mets
+mets-cut left s x e l h (inl q) = let z = mets-none left x e (omega arith) in let r : mets left s x ≡ mets left s e = ap (λ (y : ℕ). mets left s y) q in omega arith
+mets-cut zero s x e l h (inr c) = refl
+mets-cut (suc left) s x e l h (inr c) =
+    let a = met-split (3 - suc left) s x e h (c .0) (c .1) in
+    let b = mets-cut left s x e (omega arith) h (inr (c .0, left-next left x l (c .1))) in
+    omega arith
+
+-- no more than levels times addresses, so that the count fits 64 bits
+pub mets-most : (left s e : ℕ) → mets left s e ≤ left * (e - s)
+unfolding mets
+mets-most zero s e = omega arith
+mets-most (suc left) s e = let a = met-most (3 - suc left) s e in let b = mets-most left s e in let c = suc-mul left (e - s) in omega arith
+
+rests-met : (left : ℕ) (m : Map) → rests left m ≤ mets left (startOf m) (endOf m)
+unfolding rests mets
+rests-met zero m = omega arith
+rests-met (suc left) m = let a = rest-met (3 - suc left) m in let b = rests-met left m in omega arith
 
 pub rests-most : (left : ℕ) (m : Map) → rests left m ≤ left * (endOf m - startOf m)
-unfolding rests
-rests-most zero m = omega arith
-rests-most (suc left) m = let a = rest-most (3 - suc left) m in let b = rests-most left m in let c = suc-mul left (endOf m - startOf m) in omega arith
+rests-most left m = let a = rests-met left m in let b = mets-most left (startOf m) (endOf m) in omega arith
 
 down-most : (r : Rule) (n : ℕ) → ifDown r n ≤ n
 unfolding ifDown
@@ -217,54 +250,56 @@ down-most Keep n = omega arith
 down-most (Drop x) n = omega arith
 down-most Down n = omega arith
 
-pub leaf-levels : (left : ℕ) (m : Map) (w : ℕ) → startOf m < endOf m → closedLeaf left m w ≤ left * (endOf m - startOf m)
-unfolding closedLeaf
-leaf-levels zero m w h = omega arith
-leaf-levels (suc left) m w h =
+leaf-met : (left : ℕ) (m : Map) (w : ℕ) → left ≤ 3 → startOf m < endOf m → closedLeaf left m w ≤ mets left (startOf m) (endOf m)
+unfolding closedLeaf mets
+leaf-met zero m w l h = omega arith
+leaf-met (suc left) m w l h =
     let f = chunk-fits (3 - left) (startOf m) (endOf m) h in
     let stop = chunkEnd (3 - left) (startOf m) (endOf m) in
-    let a = leaf-levels left (firstChunk (3 - left) m) (childWord (3 - suc left) w (startOf m)) (f .0) in
-    let b = rests-most left (afterFirst (3 - left) m) in
-    let t : left * (stop - startOf m) + left * (endOf m - stop) ≡ left * (endOf m - startOf m)
-    = sym (mul-add left (stop - startOf m) (endOf m - stop)) ∙ ap (λ (x : ℕ). left * x) (omega (arith, f .0, f .1)) in
+    let a = leaf-met left (firstChunk (3 - left) m) (childWord (3 - suc left) w (startOf m)) (omega arith) (f .0) in
+    let b = rests-met left (afterFirst (3 - left) m) in
+    let t = mets-cut left (startOf m) stop (endOf m) (omega arith) (f .0) (chunk-stops (3 - left) (startOf m) (endOf m)) in
     let d = down-most (ruleOf (3 - suc left) m w) (1 + closedLeaf left (firstChunk (3 - left) m) (childWord (3 - suc left) w (startOf m)) + rests left (afterFirst (3 - left) m)) in
-    let c = suc-mul left (endOf m - startOf m) in
+    let c = met-step (3 - suc left) (startOf m) (endOf m) h in
     omega arith
 
--- a sum over chunks, where no summand passes q times its chunk's addresses
-pub sum-levels : (level q : ℕ) (f : Map → ℕ) → ((c : Map) → startOf c < endOf c → f c ≤ q * (endOf c - startOf c)) → (m : Map) → sumChunks level f m ≤ q * (endOf m - startOf m)
-sum-levels level q f each m = go (met level (startOf m) (endOf m)) m refl
-  where
-    none : (m : Map) → endOf m ≤ startOf m → sumChunks level f m ≤ q * (endOf m - startOf m)
-    none m h = let z = sum-none level f m h in omega arith
+pub leaf-most : (left : ℕ) (m : Map) (w : ℕ) → left ≤ 3 → startOf m < endOf m → closedLeaf left m w ≤ left * (endOf m - startOf m)
+leaf-most left m w l h = let a = leaf-met left m w l h in let b = mets-most left (startOf m) (endOf m) in omega arith
 
-    go : (n : ℕ) (m : Map) → met level (startOf m) (endOf m) ≡ n → sumChunks level f m ≤ q * (endOf m - startOf m)
+-- a sum over chunks, where no summand passes what its chunk meets
+sum-met : (left : ℕ) (f : Map → ℕ) → left ≤ 3 → ((c : Map) → startOf c < endOf c → f c ≤ mets left (startOf c) (endOf c)) → (m : Map)
+    → sumChunks (3 - left) f m ≤ mets left (startOf m) (endOf m)
+sum-met left f l each m = go (met (3 - left) (startOf m) (endOf m)) m refl
+  where
+    none : (m : Map) → endOf m ≤ startOf m → sumChunks (3 - left) f m ≤ mets left (startOf m) (endOf m)
+    none m h = let z = sum-none (3 - left) f m h in omega arith
+
+    go : (n : ℕ) (m : Map) → met (3 - left) (startOf m) (endOf m) ≡ n → sumChunks (3 - left) f m ≤ mets left (startOf m) (endOf m)
     go zero m e = first (le-or (endOf m) (startOf m))
       where
-        first : (endOf m ≤ startOf m) ⊎ (startOf m < endOf m) → sumChunks level f m ≤ q * (endOf m - startOf m)
+        first : (endOf m ≤ startOf m) ⊎ (startOf m < endOf m) → sumChunks (3 - left) f m ≤ mets left (startOf m) (endOf m)
         first (inl h) = none m h
-        first (inr h) = absurd (let k = met-step level (startOf m) (endOf m) h in omega arith)
-    go (suc n) m e = more (le-or (endOf m) (startOf m)) (go n (afterFirst level m))
+        first (inr h) = absurd (let k = met-step (3 - left) (startOf m) (endOf m) h in omega arith)
+    go (suc n) m e = more (le-or (endOf m) (startOf m)) (go n (afterFirst (3 - left) m))
       where
         more : (endOf m ≤ startOf m) ⊎ (startOf m < endOf m)
-            → (met level (startOf (afterFirst level m)) (endOf m) ≡ n → sumChunks level f (afterFirst level m) ≤ q * (endOf m - startOf (afterFirst level m)))
-            → sumChunks level f m ≤ q * (endOf m - startOf m)
+            → (met (3 - left) (startOf (afterFirst (3 - left) m)) (endOf m) ≡ n → sumChunks (3 - left) f (afterFirst (3 - left) m) ≤ mets left (startOf (afterFirst (3 - left) m)) (endOf m))
+            → sumChunks (3 - left) f m ≤ mets left (startOf m) (endOf m)
         more (inl h) ih = none m h
         more (inr h) ih =
-            let s = chunk-fits level (startOf m) (endOf m) h in
-            let stop = chunkEnd level (startOf m) (endOf m) in
-            let k = met-step level (startOf m) (endOf m) h in
-            let a = each (firstChunk level m) (s .0) in
+            let s = chunk-fits (3 - left) (startOf m) (endOf m) h in
+            let stop = chunkEnd (3 - left) (startOf m) (endOf m) in
+            let k = met-step (3 - left) (startOf m) (endOf m) h in
+            let a = each (firstChunk (3 - left) m) (s .0) in
             let b = ih (omega arith) in
-            let t : q * (stop - startOf m) + q * (endOf m - stop) ≡ q * (endOf m - startOf m)
-            = sym (mul-add q (stop - startOf m) (endOf m - stop)) ∙ ap (λ (x : ℕ). q * x) (omega (arith, s .0, s .1)) in
-            let e = sum-first level f m h in
+            let t = mets-cut left (startOf m) stop (endOf m) l (s .0) (chunk-stops (3 - left) (startOf m) (endOf m)) in
+            let e = sum-first (3 - left) f m h in
             omega arith
 
-pub chunk-levels : (left : ℕ) (rec : ℕ → Map → ℕ) (leaf : Map → ℕ → ℕ) (h : Handle) (s : St) (level k : ℕ) (c : Map)
-    → ((j : ℕ) → rec j c ≤ left * (endOf c - startOf c)) → ((w : ℕ) → leaf c w ≤ left * (endOf c - startOf c)) → needChunk rec leaf h s level k c ≤ left * (endOf c - startOf c)
+chunk-met : (most : ℕ) (rec : ℕ → Map → ℕ) (leaf : Map → ℕ → ℕ) (h : Handle) (s : St) (level k : ℕ) (c : Map)
+    → ((j : ℕ) → rec j c ≤ most) → ((w : ℕ) → leaf c w ≤ most) → needChunk rec leaf h s level k c ≤ most
 unfolding needChunk needBelow
-chunk-levels left rec leaf h s level k c table plain =
+chunk-met most rec leaf h s level k c table plain =
     let d = down-most (ruleOf level c w) (needBelow (λ j. rec j c) (λ v. leaf c v) w (subOf (h .base .0) (tables s) level w)) in
     let r = go (subOf (h .base .0) (tables s) level w) in
     omega arith
@@ -272,16 +307,19 @@ chunk-levels left rec leaf h s level k c table plain =
     w : ℕ
     w = wordAt s k (entryIndex level (startOf c))
 
-    go : (x : Sub) → needBelow (λ j. rec j c) (λ v. leaf c v) w x ≤ left * (endOf c - startOf c)
+    go : (x : Sub) → needBelow (λ j. rec j c) (λ v. leaf c v) w x ≤ most
     go (Table j) = table j
     go Outside = omega arith
     go Leaf = plain w
 
-pub closed-levels : (left : ℕ) (h : Handle) (s : St) (k : ℕ) (m : Map) → closed left h s k m ≤ left * (endOf m - startOf m)
-unfolding closed needTable
-closed-levels zero h s k m = omega arith
-closed-levels (suc left) h s k m =
-    sum-levels (3 - suc left) (suc left) (λ c. needChunk (λ j n. needTable closedLeaf left h s j n) (closedLeaf (suc left)) h s (3 - suc left) k c)
-    (λ c l.
-    chunk-levels (suc left) (λ j n. needTable closedLeaf left h s j n) (closedLeaf (suc left)) h s (3 - suc left) k c
-    (λ j. let r = closed-levels left h s j c in let t = suc-mul left (endOf c - startOf c) in omega arith) (λ w. leaf-levels (suc left) c w l)) m
+pub closed-met : (left : ℕ) (h : Handle) (s : St) (k : ℕ) (m : Map) → left ≤ 3 → closed left h s k m ≤ mets left (startOf m) (endOf m)
+unfolding closed needTable mets
+closed-met zero h s k m l = omega arith
+closed-met (suc left) h s k m l =
+    sum-met (suc left) (λ c. needChunk (λ j n. needTable closedLeaf left h s j n) (closedLeaf (suc left)) h s (3 - suc left) k c) l
+    (λ c some.
+    chunk-met (mets (suc left) (startOf c) (endOf c)) (λ j n. needTable closedLeaf left h s j n) (closedLeaf (suc left)) h s (3 - suc left) k c
+    (λ j. let r = closed-met left h s j c (omega arith) in omega arith) (λ w. leaf-met (suc left) c w l some)) m
+
+pub closed-most : (left : ℕ) (h : Handle) (s : St) (k : ℕ) (m : Map) → left ≤ 3 → closed left h s k m ≤ left * (endOf m - startOf m)
+closed-most left h s k m l = let a = closed-met left h s k m l in let b = mets-most left (startOf m) (endOf m) in omega arith

@@ -16,10 +16,12 @@ use Rattle.entry.specs.declared.Sub.the-variants.{Table, Outside, Leaf}
 use Rattle.pool.specs.State.{St, tables, wordAt}
 use Rattle.pool.specs.declared.Handle.{Handle}
 use Rattle.rules.specs.declared.Map.{Map}
+use Rattle.rules.specs.declared.Rule.{Rule}
+use Rattle.rules.specs.declared.Rule.the-variants.{Down}
 use Rattle.rules.specs.Rules.{rule2, ruleOf, chunkMap}
 use Rattle.need.specs.Needed.{ifDown, childWord, neededLeaf, needBelow, needChunk, needTable, needed, sumChunks, firstChunk, afterFirst, sum-none, sum-first, sum-is, slot-below}
 use Rattle.need.specs.Closed.{startOf, endOf, frameOf, restAt, rests, closedLeaf, closed, rest-one, level-next, left-next, rests-none, rests-blocks, rests-cut}
-use Rattle.need.specs.Missed.{Same, says-same, Blocks, Barred, blocks-or, fits-block, barred-block, rule-none, rule-whole, rule-down, Lawful, child-lawful, Missed, missed-plain, missed-rule2, Part, missed-block, missed-part, missed-later}
+use Rattle.need.specs.Missed.{Same, says-same, Blocks, Barred, blocks-or, fits-block, barred-block, rule-none, rule-whole, rule-down, Lawful, child-lawful, Missed, missed-lawful, missed-plain, missed-rule2, Part, missed-block, missed-part, missed-later}
 
 -- ---- a region that begins with an entry, chunk by chunk
 
@@ -71,16 +73,17 @@ sum-rests left f m l start each =
 
 -- ---- a chunk of which rule 2 fits no part
 
+-- a part of it is such a chunk too
+missed-below : (left : ℕ) (m c : Map) (w : ℕ) → suc left ≤ 3 → Chunk (3 - suc left) m → Part m c → Missed (3 - suc left) m w
+    → 0 < left → Missed (3 - left) c (childWord (3 - suc left) w (startOf c))
+missed-below left m c w l one p x pos =
+    subst (λ (n : ℕ). Missed n c (childWord (3 - suc left) w (startOf c))) (level-next left l) (missed-part (3 - suc left) m c w (omega arith) (one .within) p x)
+
 missed-rests : (left : ℕ) (m : Map) (w : ℕ) → left ≤ 2 → Chunk (3 - left) m → startOf m % sizeAt (3 - left) ≡ 0 → (0 < left → Missed (3 - left) m w) → neededLeaf left m w ≡ rests left m
 unfolding neededLeaf rests
 missed-rests zero m w l one z x = refl
 missed-rests (suc left) m w l one z x = go (blocks-or (3 - suc left) m) (λ c v o a y. missed-rests left c v (omega arith) o a y)
   where
-    part : (c : Map) → Part m c → 0 < left → Missed (3 - left) c (childWord (3 - suc left) w (startOf c))
-    part c p pos =
-        subst (λ (n : ℕ). Missed n c (childWord (3 - suc left) w (startOf c))) (level-next left (omega arith))
-        (missed-part (3 - suc left) m c w (omega arith) (one .within) p (x (omega arith)))
-
     go : Blocks (3 - suc left) m ⊎ Barred (3 - suc left) m
         → ((c : Map) (v : ℕ) → Chunk (3 - left) c → startOf c % sizeAt (3 - left) ≡ 0 → (0 < left → Missed (3 - left) c v) → neededLeaf left c v ≡ rests left c)
         → neededLeaf (suc left) m w ≡ rests (suc left) m
@@ -90,7 +93,7 @@ missed-rests (suc left) m w l one z x = go (blocks-or (3 - suc left) m) (λ c v 
         ∙ sym (rests-blocks (suc left) m (omega arith) (b .allowed) (b .frame) (b .ends))
     go (inr n) ih =
         let below = sum-rests left (λ c. neededLeaf left c (childWord (3 - suc left) w (startOf c))) m (omega arith) (inl (left-next left (startOf m) (omega arith) z))
-        (λ c p o a. ih c (childWord (3 - suc left) w (startOf c)) o a (part c p)) in
+        (λ c p o a. ih c (childWord (3 - suc left) w (startOf c)) o a (missed-below left m c w (omega arith) one p (x (omega arith)))) in
         rule-down (3 - suc left) m w _ (omega arith) (missed-rule2 (3 - suc left) m w (x (omega arith))) (barred-block (3 - suc left) m w n) (missed-plain (x (omega arith)))
         ∙ ap₂ (λ (a b : ℕ). a + b) (sym (rest-one (3 - suc left) m (one .some) (one .within) n)) below
 
@@ -150,6 +153,25 @@ closed-leaf (suc left) m w l one law =
             let rest = sum-rests left f (afterFirst (3 - left) m) (omega arith) (begins (chunk-stops (3 - left) (startOf m) (endOf m))) (each misses) in
             let both = sum-first (3 - left) f m (one .some) in
             omega arith
+
+-- where rule 5 fits a chunk of which rule 2 fits no part, and that begins with an entry of the next level: its table, and what is split in that
+missed-split : (left : ℕ) (m : Map) (w : ℕ) → left ≤ 2 → Chunk (3 - suc left) m → startOf m % sizeAt (3 - left) ≡ 0 → Missed (3 - suc left) m w
+    → ruleOf (3 - suc left) m w ≡ Down → 1 + rests left m ≡ closedLeaf (suc left) m w
+unfolding neededLeaf ifDown
+missed-split left m w l one z x down =
+    let f : Map → ℕ = λ c. neededLeaf left c (childWord (3 - suc left) w (startOf c)) in
+    let below = sum-rests left f m (omega arith) (inl z)
+    (λ c p o a. missed-rests left c (childWord (3 - suc left) w (startOf c)) l o a (missed-below left m c w (omega arith) one p x)) in
+    sym
+    (closed-leaf (suc left) m w (omega arith) one (λ pos. missed-lawful x)
+    ∙ ap (λ (r : Rule). ifDown r (1 + sumChunks (3 - left) f m)) down
+    ∙ ap (λ (n : ℕ). 1 + n) below)
+
+pub leaf-missed : (level : ℕ) (m : Map) (w : ℕ) → level < 2 → Chunk level m → startOf m % sizeAt (level + 1) ≡ 0 → Missed level m w → ruleOf level m w ≡ Down
+    → 1 + rests (3 - (level + 1)) m ≡ closedLeaf (3 - level) m w
+leaf-missed zero m w h one z x down = missed-split 2 m w (omega arith) one z x down
+leaf-missed (suc zero) m w h one z x down = missed-split 1 m w (omega arith) one z x down
+leaf-missed (suc (suc l)) m w h one z x down = absurd (omega arith)
 
 -- ---- a table, and all below it
 

@@ -5,8 +5,8 @@ use mathlib.Core.Logic.{_⊎_, inl, inr, ⊎-elim}
 use Prim.Native.Nat.{ℕ, zero, suc, _+_, _*_, _-_, _/_, _%_, _^_, _≤_, _<_}
 use native.Mathlib.Nat.{mul-le-mul-right, le-div-iff-mul-le, div-add-mod'}
 use native.Mathlib.Omega.{arith}
-use lib.Dec.{eqb}
-use borrow.Author.Tests.{eq-eqb, ne-eqb, lt-ltb}
+use lib.Dec.{eqb, ltb}
+use borrow.Author.Tests.{eq-eqb, ne-eqb, lt-ltb, le-ltb}
 use Rattle.laws.specs.Size.{sizeAt, size-pos, size-step, size-low, size-room, next-multiple, down}
 use Rattle.laws.specs.Test.{le-or}
 use Rattle.entry.specs.Word.{addressOf, flagsOf, address-below}
@@ -24,7 +24,7 @@ use Rattle.rules.specs.Rules.{ruleOf, chunkMap}
 use Rattle.rules.specs.Fit.{Fit}
 use Rattle.rules.specs.Fit.{chunk-fit}
 use Rattle.need.specs.Needed.{ifDown, childWord, needBelow, needChunk, needTable, sumChunks, firstChunk, afterFirst}
-use Rattle.need.specs.Closed.{startOf, endOf, frameOf, lastPart, restAt, rests, closedLeaf, closed, leaf-levels, rests-most, closed-levels}
+use Rattle.need.specs.Closed.{startOf, endOf, frameOf, lastPart, restAt, rests, closedLeaf, closed, mets, leaf-most, rests-most, mets-most, closed-met, closed-most}
 
 -- ---- entries_met
 
@@ -67,6 +67,46 @@ rests-open level m h =
     let q : 3 - suc (3 - (level + 1)) ≡ level = omega arith in
     ap (λ (l : ℕ). rests l m) e ∙ ap (λ (l : ℕ). restAt l m + rests (3 - (level + 1)) m) q
 
+-- ---- count_most
+
+pub mets-done : (level s e : ℕ) → 3 ≤ level → mets (3 - level) s e ≡ 0
+unfolding mets
+mets-done level s e h = let q : 3 - level ≡ 0 = omega arith in ap (λ (l : ℕ). mets l s e) q
+
+pub mets-open : (level s e : ℕ) → level < 3 → mets (3 - level) s e ≡ met level s e + mets (3 - (level + 1)) s e
+unfolding mets
+mets-open level s e h =
+    let x : 3 - level ≡ suc (3 - (level + 1)) = omega arith in
+    let q : 3 - suc (3 - (level + 1)) ≡ level = omega arith in
+    ap (λ (l : ℕ). mets l s e) x ∙ ap (λ (l : ℕ). met l s e + mets (3 - (level + 1)) s e) q
+
+pub mets-fit : (level s e : ℕ) → mets (3 - level) s e ≤ 3 * (e - s)
+mets-fit level s e =
+    let r = mets-most (3 - level) s e in
+    let t : (3 - level) * (e - s) ≤ 3 * (e - s) = mul-le-mul-right (e - s) (omega arith) in
+    omega arith
+
+-- ---- count_over
+
+-- what is needed where that is more than is free
+unfoldable pub over : ℕ → ℕ → ℕ
+over room need = cond (ltb room need) need 0
+
+pub over-none : (room need : ℕ) → need ≤ room → 0 ≡ over room need
+unfolding over
+over-none room need h = rw (le-ltb room need h)
+
+pub over-some : (room need : ℕ) → room < need → need ≡ over room need
+unfolding over
+over-some room need h = rw (lt-ltb room need h)
+
+-- read back
+pub over-past : {x : ℕ} (room need : ℕ) → x ≡ over room need → room < x → x ≡ need
+over-past room need e l = ⊎-elim (λ h. let z = over-none room need h in absurd (omega arith)) (λ h. e ∙ sym (over-some room need h)) (le-or need room)
+
+pub over-within : {x : ℕ} (room need : ℕ) → x ≡ over room need → x ≤ room → need ≤ room
+over-within room need e l = ⊎-elim (λ h. h) (λ h. let z = over-some room need h in absurd (omega arith)) (le-or need room)
+
 -- three levels at most
 pub rests-fit : (level : ℕ) (m : Map) → rests (3 - level) m ≤ 3 * (endOf m - startOf m)
 rests-fit level m =
@@ -78,7 +118,7 @@ rests-fit level m =
 
 pub leaf-fit : (level : ℕ) (m : Map) (w : ℕ) → startOf m < endOf m → closedLeaf (3 - level) m w ≤ 3 * (endOf m - startOf m)
 leaf-fit level m w h =
-    let r = leaf-levels (3 - level) m w h in
+    let r = leaf-most (3 - level) m w (omega arith) h in
     let t : (3 - level) * (endOf m - startOf m) ≤ 3 * (endOf m - startOf m) = mul-le-mul-right (endOf m - startOf m) (omega arith) in
     omega arith
 
@@ -186,7 +226,7 @@ closed-open level h s k m l =
 pub count-fit : (level : ℕ) (h : Handle) (s : St) (k : ℕ) (m : Map) → level < 3 → sumChunks level (countAt level h s k) m ≤ 3 * (endOf m - startOf m)
 count-fit level h s k m l =
     let o = closed-open level h s k m l in
-    let r = closed-levels (3 - level) h s k m in
+    let r = closed-most (3 - level) h s k m (omega arith) in
     let t : (3 - level) * (endOf m - startOf m) ≤ 3 * (endOf m - startOf m) = mul-le-mul-right (endOf m - startOf m) (omega arith) in
     omega arith
 
@@ -233,3 +273,22 @@ module _ (h : Handle) (s : St) (level k : ℕ) (c : Map) {i : ℕ} (index : i �
     pub entry-table : (j : ℕ) → x ≡ Table j → r ≡ Down → countAt level h s k c ≡ closed (3 - (level + 1)) h s j c
     unfolding needBelow
     entry-table j q d = entry-sub (Table j) (sym q ∙ e) ∙ is-down (ruleOf level c (wordAt s k i)) _ (sym is ∙ d)
+
+-- ---- count_last: level 2, where a table has no table below it
+
+module _ (h : Handle) (s : St) (k : ℕ) (c : Map) {i : ℕ} (index : i ≡ entryIndex 2 (startOf c)) {x : Sub} (e : x ≡ subOf (h .base .0) (tables s) 2 (wordAt s k i)) where
+  pub last-table : (x ≡ Leaf → ⊥) → countAt 2 h s k c ≡ 0
+  unfolding needBelow closed needTable
+  last-table other = entry-sub h s 2 k c index x e ∙ ap (ifDown (ruleOf 2 c (wordAt s k i))) (none x other) ∙ down-none (ruleOf 2 c (wordAt s k i))
+    where
+      none : (y : Sub) → (y ≡ Leaf → ⊥) → needBelow (λ j. closed 0 h s j c) (λ w. closedLeaf 1 c w) (wordAt s k i) y ≡ 0
+      none (Table j) n = refl
+      none Outside n = refl
+      none Leaf n = absurd (n refl)
+
+  module _ (plain : x ≡ Leaf) {r : Rule} (is : r ≡ ruleOf 2 c (wordAt s k i)) where
+    pub last-none : Other r → countAt 2 h s k c ≡ 0
+    last-none o = entry-leaf h s 2 k c index e plain (omega arith) ∙ sym (leaf-none 2 c (wordAt s k i) is o)
+
+    pub last-down : r ≡ Down → countAt 2 h s k c ≡ 1
+    last-down d = entry-leaf h s 2 k c index e plain (omega arith) ∙ sym (leaf-low 2 c (wordAt s k i) is d (omega arith) (omega arith))

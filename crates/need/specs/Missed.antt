@@ -1,7 +1,7 @@
 -- Rules 2 and 3 in numbers, and the chunks of which rule 2 fits no part: a valid entry that misses it misses it in every part, and a part of a hole has address 0.
 -- Leans on `Needed`. Assumes nothing.
 use mathlib.Core.Path.{_≡_, refl, sym, ap, _∙_}
-use mathlib.Core.Bool.{Bool, true, false, not, cond, _&&_}
+use mathlib.Core.Bool.{Bool, true, false, true≢false, not, cond, _&&_}
 use mathlib.Core.Logic.{_⊎_, inl, inr}
 use Prim.Native.Nat.{ℕ, zero, suc, _+_, _*_, _-_, _/_, _%_, _^_, _≤_, _<_}
 use native.Mathlib.Nat.{mul-mod-left, mul-le-mul-right}
@@ -118,6 +118,12 @@ pub rule-none : (level : ℕ) (m : Map) (w n : ℕ) → level < 3 → rule2 leve
 unfolding ruleOf ifDown
 rule-none level m w n h e = rw (lt-leb 3 level h, e)
 
+pub down-misses : (level : ℕ) (m : Map) (w : ℕ) → level < 3 → ruleOf level m w ≡ Down → rule2 level m w ≡ false
+unfolding ifDown
+down-misses level m w h e =
+    byBool (rule2 level m w)
+    (λ fits. absurd (let z = rule-none level m w 1 h fits in let q : ifDown (ruleOf level m w) 1 ≡ 1 = ap (λ (r : Rule). ifDown r 1) e in omega arith)) (λ misses. misses)
+
 pub rule-whole : (level : ℕ) (m : Map) (w n : ℕ) → level < 3 → rule2 level m w ≡ false → rule3 level m w ≡ true → ifDown (ruleOf level m w) n ≡ 0
 unfolding ruleOf ifDown
 rule-whole level m w n h e f = rw (lt-leb 3 level h, e, f)
@@ -196,6 +202,56 @@ pub data Missed (level : ℕ) (m : Map) (w : ℕ) : Type 0 where
   hole : w % 2 ≡ 0 → addressOf w ≡ 0 → startOf m % sizeAt level < frameOf m → Missed level m w
   block : w % 4 ≡ 1 → addressOf w % sizeAt level ≡ 0 → (flagsOf w ≡ m .flags → frameOf m ≡ addressOf w + startOf m % sizeAt level → ⊥) → Missed level m w
 
+-- as it is tested, where rule 2 doesn't fit the chunk itself and the chunk begins with an entry of the next level
+unfoldable pub missedCase : ℕ → Map → ℕ → Bool
+missedCase level m w =
+    cond (eqb (w % 2) 0) (eqb (addressOf w) 0 && ltb (startOf m % sizeAt level) (frameOf m)) (not (tableWord w) && eqb (addressOf w % sizeAt level) 0)
+
+unfoldable pub missedb : ℕ → Map → ℕ → Bool
+missedb level m w = eqb (startOf m % sizeAt (level + 1)) 0 && missedCase level m w
+
+pub missed-starts : (level : ℕ) (m : Map) (w : ℕ) → missedb level m w ≡ true → startOf m % sizeAt (level + 1) ≡ 0
+unfolding missedb
+missed-starts level m w e =
+    eqb→eq (startOf m % sizeAt (level + 1)) 0 (and-l (eqb (startOf m % sizeAt (level + 1)) 0) (missedCase level m w) (rw e tt))
+
+pub missed-says : (level : ℕ) (m : Map) (w : ℕ) → rule2 level m w ≡ false → missedb level m w ≡ true → Missed level m w
+unfolding missedb missedCase tableWord
+missed-says level m w misses e = byBool (eqb (w % 2) 0) even odd
+  where
+    a : Bool
+    a = eqb (addressOf w) 0 && ltb (startOf m % sizeAt level) (frameOf m)
+
+    b : Bool
+    b = not (eqb (w % 4) 3) && eqb (addressOf w % sizeAt level) 0
+
+    tells : {x : Bool} → x ≡ true → T x
+    tells e = rw e tt
+
+    holds : cond (eqb (w % 2) 0) a b ≡ true
+    holds = is-true (cond (eqb (w % 2) 0) a b) (and-r (eqb (startOf m % sizeAt (level + 1)) 0) (cond (eqb (w % 2) 0) a b) (tells e))
+
+    even : eqb (w % 2) 0 ≡ true → Missed level m w
+    even e =
+        let t : T a = tells (sym (ap (λ (x : Bool). cond x a b) e) ∙ holds) in
+        hole (eqb→eq (w % 2) 0 (tells e)) (eqb→eq (addressOf w) 0 (and-l (eqb (addressOf w) 0) (ltb (startOf m % sizeAt level) (frameOf m)) t))
+        (ltb→lt (startOf m % sizeAt level) (frameOf m) (and-r (eqb (addressOf w) 0) (ltb (startOf m % sizeAt level) (frameOf m)) t))
+
+    odd : eqb (w % 2) 0 ≡ false → Missed level m w
+    odd e =
+        let t : T b = tells (sym (ap (λ (x : Bool). cond x a b) e) ∙ holds) in
+        let low = eqb-false (w % 2) 0 e in
+        let plain = eqb-false (w % 4) 3 (not-true (eqb (w % 4) 3) (is-true (not (eqb (w % 4) 3)) (and-l (not (eqb (w % 4) 3)) (eqb (addressOf w % sizeAt level) 0) t))) in
+        block (one low plain) (eqb→eq (addressOf w % sizeAt level) 0 (and-r (not (eqb (w % 4) 3)) (eqb (addressOf w % sizeAt level) 0) t))
+        (λ f p. let q : true ≡ false = sym (says-same level m w (record { plain = plain; flags = f; place = p })) ∙ misses in true≢false q)
+      where
+        one : (w % 2 ≡ 0 → ⊥) → (w % 4 ≡ 3 → ⊥) → w % 4 ≡ 1
+        one x y = omega arith
+
+pub missed-lawful : {level : ℕ} {m : Map} {w : ℕ} → Missed level m w → Lawful level w
+missed-lawful (hole a b c) = record { plain = (λ e. omega arith); aligned = (λ e. absurd (omega arith)) }
+missed-lawful (block a b c) = record { plain = (λ e. omega arith); aligned = (λ e. b) }
+
 pub missed-plain : {level : ℕ} {m : Map} {w : ℕ} → Missed level m w → w % 4 ≡ 3 → ⊥
 missed-plain (hole a b c) e = omega arith
 missed-plain (block a b c) e = omega arith
@@ -247,3 +303,29 @@ pub missed-later : (level : ℕ) (c : Map) (w : ℕ) → w % 2 ≡ 0 → startOf
 missed-later level c w a z l =
     let e = child-hole level w (startOf c) (λ z. omega arith) in
     hole (ap (λ (x : ℕ). x % 2) e ∙ (let f = flags-low w in omega arith)) (ap addressOf e ∙ flags-alone w) (omega arith)
+
+-- ---- is_missed
+
+module _ (level : ℕ) (m : Map) (w : ℕ) where
+  pub test-start : (startOf m % sizeAt (level + 1) ≡ 0 → ⊥) → false ≡ missedb level m w
+  unfolding missedb
+  test-start n = rw (ne-eqb (startOf m % sizeAt (level + 1)) 0 n)
+
+  module _ (starts : startOf m % sizeAt (level + 1) ≡ 0) where
+    module _ (low : w % 2 ≡ 0) where
+      pub test-address : (addressOf w ≡ 0 → ⊥) → false ≡ missedb level m w
+      unfolding missedb missedCase
+      test-address n = rw (eq-eqb (startOf m % sizeAt (level + 1)) 0 starts, eq-eqb (w % 2) 0 low, ne-eqb (addressOf w) 0 n)
+
+      pub test-hole : addressOf w ≡ 0 → ltb (startOf m % sizeAt level) (frameOf m) ≡ missedb level m w
+      unfolding missedb missedCase
+      test-hole e = rw (eq-eqb (startOf m % sizeAt (level + 1)) 0 starts, eq-eqb (w % 2) 0 low, eq-eqb (addressOf w) 0 e)
+
+    module _ (odd : w % 2 ≡ 0 → ⊥) where
+      pub test-table : w % 4 ≡ 3 → false ≡ missedb level m w
+      unfolding missedb missedCase tableWord
+      test-table e = rw (eq-eqb (startOf m % sizeAt (level + 1)) 0 starts, ne-eqb (w % 2) 0 odd, eq-eqb (w % 4) 3 e)
+
+      pub test-block : (w % 4 ≡ 3 → ⊥) → eqb (addressOf w % sizeAt level) 0 ≡ missedb level m w
+      unfolding missedb missedCase tableWord
+      test-block n = rw (eq-eqb (startOf m % sizeAt (level + 1)) 0 starts, ne-eqb (w % 2) 0 odd, ne-eqb (w % 4) 3 n)

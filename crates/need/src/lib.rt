@@ -12,9 +12,14 @@ ghost use lib.ListN.{length};
 ghost use Rattle.laws.specs.Size.{sizeAt};
 ghost use Rattle.region.specs.Chunks.{met};
 ghost use Rattle.pool.specs.State.{st};
+ghost use Rattle.region.specs.Region.{region};
+ghost use Rattle.rules.specs.Rules.{chunkMap};
 ghost use Rattle.rules.specs.Fit.{Fit};
 ghost use Rattle.need.specs.Needed.{childWord};
-ghost use Rattle.need.specs.Closed.{restAt, rests, closedLeaf, closed};
+ghost use Rattle.need.specs.Closed.{restAt, rests, mets, closedLeaf, closed};
+ghost use Rattle.need.specs.Missed.{missedb};
+ghost use Rattle.need.specs.Count.{Chunk};
+ghost use Rattle.need.specs.CountLaws.{over};
 
 // The number of the entry at this level that holds the address.
 fn entry_number(va: u64, level: usize) -> u64
@@ -36,6 +41,20 @@ fn entries_met(start: u64, end: u64, level: usize) -> u64
         return 0;
     }
     entry_number(end - 1, level) - entry_number(start, level) + 1
+}
+
+// The entries of this level, and of those below down to level 2, that the region meets: no map of it needs more tables.
+fn count_most(start: u64, end: u64, level: usize) -> u64
+    requires { ⌜ end - start ≤ 2 ^ 48 ⌝ }
+    ensures { λ r. ⌜ r ≡ mets (3 - level) start end ⌝ }
+{
+    let mut count = 0;
+    let mut below = level;
+    while below < address::LEAF_LEVEL {
+        count += entries_met(start, end, below);
+        below += 1;
+    }
+    count
 }
 
 // The entries of this level that are split in a region that begins with one, where rule 2 fits nothing.
@@ -126,6 +145,100 @@ fn count_leaf(level: usize, map: Map, word: u64) -> u64
     1 + count_leaf(level + 1, first, part) + count_rest(level + 1, rest)
 }
 
+// Whether rule 2, where it doesn't fit the chunk, fits no part of it: a hole without address below the chunk's frame, or a block at a multiple of its size.
+// Asked of chunks that begin with an entry of the next level.
+fn is_missed(level: usize, map: Map, word: u64) -> bool
+    requires { ⌜ level < 2 ⌝ }
+    ensures { λ r. ⌜ r ≡ missedb level map word ⌝ }
+{
+    let address = word & entry::ADDRESS_BITS;
+    if map.region.start.0 & (address::granularity_at_level(level + 1) - 1) != 0 {
+        return false;
+    }
+    let last = address::granularity_at_level(level) - 1;
+    if word % 2 == 0 {
+        if address != 0 {
+            return false;
+        }
+        return map.region.start.0 & last < map.frame.0;
+    }
+    if word % 4 == 3 {
+        return false;
+    }
+    address & last == 0
+}
+
+// The new tables for a chunk of an entry that is no table: from the chunk's ends at once, where rule 2 fits no part of it. The chunk that is looked into is
+// another record, so that the first is never in memory.
+fn count_entry(level: usize, map: Map, start: u64, end: u64, frame: u64, word: u64) -> u64
+    requires { ⌜ Fit (chunkMap map (region start end) frame) × Chunk level (chunkMap map (region start end) frame) × (level < 2) ⌝ }
+    ensures { λ r. ⌜ r ≡ closedLeaf (3 - level) (chunkMap map (region start end) frame) word ⌝ }
+{
+    let chunk = Map {
+        region: MemoryRegion {
+            start: VirtualAddress(start),
+            end: VirtualAddress(end),
+        },
+        frame: PhysicalAddress(frame),
+        flags: map.flags,
+        blocks: map.blocks,
+    };
+    let rule = rules::rule_of(level, chunk, word);
+    let Rule::Down = rule else {
+        return 0;
+    };
+    if is_missed(level, chunk, word) {
+        return 1 + count_rest(level + 1, chunk);
+    }
+    let looked = Map {
+        region: MemoryRegion {
+            start: VirtualAddress(start),
+            end: VirtualAddress(end),
+        },
+        frame: PhysicalAddress(frame),
+        flags: map.flags,
+        blocks: map.blocks,
+    };
+    count_leaf(level, looked, word)
+}
+
+// The new tables for every chunk of the map in table k of level 2: one for each entry that is no table and is split.
+fn count_last(words: &[u64], ledger: &[u32], handle: Handle, k: usize, map: Map) -> u64
+    requires { ⌜ (length (now words) ≡ 512 * length (now ledger)) × (k < length (now ledger)) × Fit map ⌝ }
+    ensures { λ r. ⌜ r ≡ closed 1 handle (st (now (words .entry)) (now (ledger .entry))) k map ⌝ }
+{
+    let end = map.region.end.0;
+    let mut at = map.region.start.0;
+    let mut frame = map.frame.0;
+    let mut count = 0;
+    while at < end {
+        let stop = region::chunk_end(at, end, 2);
+        let chunk = Map {
+            region: MemoryRegion {
+                start: VirtualAddress(at),
+                end: VirtualAddress(stop),
+            },
+            frame: PhysicalAddress(frame),
+            flags: map.flags,
+            blocks: map.blocks,
+        };
+        let i = region::entry_index(at, 2);
+        frame += stop - at;
+        at = stop;
+        let word = words[512 * k + i];
+        let kind = entry::subtable(handle.base, ledger.len(), 2, word);
+        let Sub::Leaf = kind else {
+            continue;
+        };
+        let rule = rules::rule_of(2, chunk, word);
+        let Rule::Down = rule else {
+            continue;
+        };
+        count += 1;
+    }
+    count
+}
+
 // The new tables for every chunk of the map in table k: only entries that exist are visited.
 pub fn count_needed(
     words: &[u64],
@@ -141,22 +254,18 @@ pub fn count_needed(
     if address::LEAF_LEVEL <= level {
         return 0;
     }
+    if level == 2 {
+        return count_last(words, ledger, handle, k, map);
+    }
     let end = map.region.end.0;
     let mut at = map.region.start.0;
     let mut frame = map.frame.0;
     let mut count = 0;
     while at < end {
         let stop = region::chunk_end(at, end, level);
-        let chunk = Map {
-            region: MemoryRegion {
-                start: VirtualAddress(at),
-                end: VirtualAddress(stop),
-            },
-            frame: PhysicalAddress(frame),
-            flags: map.flags,
-            blocks: map.blocks,
-        };
         let i = region::entry_index(at, level);
+        let start = at;
+        let first = frame;
         frame += stop - at;
         at = stop;
         let word = words[512 * k + i];
@@ -165,8 +274,17 @@ pub fn count_needed(
             let Sub::Leaf = kind else {
                 continue;
             };
-            count += count_leaf(level, chunk, word);
+            count += count_entry(level, map, start, stop, first, word);
             continue;
+        };
+        let chunk = Map {
+            region: MemoryRegion {
+                start: VirtualAddress(start),
+                end: VirtualAddress(stop),
+            },
+            frame: PhysicalAddress(first),
+            flags: map.flags,
+            blocks: map.blocks,
         };
         let rule = rules::rule_of(level, chunk, word);
         let Rule::Down = rule else {
@@ -175,4 +293,19 @@ pub fn count_needed(
         count += count_needed(words, ledger, handle, j, level + 1, chunk);
     }
     count
+}
+
+// The new tables for a map in the root where they are more than are free, else 0. The tables are looked into only where the entries that the region meets are more.
+pub fn count_over(words: &[u64], ledger: &[u32], handle: Handle, map: Map, free: u64) -> u64
+    requires { ⌜ (length (now words) ≡ 512 * length (now ledger)) × (0 < length (now ledger)) × (handle .level ≤ 3) × Fit map ⌝ }
+    ensures { λ r. ⌜ r ≡ over free (closed (3 - handle .level) handle (st (now (words .entry)) (now (ledger .entry))) 0 map) ⌝ }
+{
+    if count_most(map.region.start.0, map.region.end.0, handle.level) <= free {
+        return 0;
+    }
+    let needed = count_needed(words, ledger, handle, 0, handle.level, map);
+    if needed <= free {
+        return 0;
+    }
+    needed
 }

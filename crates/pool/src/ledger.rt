@@ -1,6 +1,8 @@
 // The ledger read: the lowest free table, and how many are in use.
 use crate::Found;
 ghost use mathlib.Core.Path.{_≡_};
+ghost use Prim.Native.Nat.{_^_, _<_};
+ghost use lib.ListN.{length};
 ghost use Rattle.pool.specs.Number.{lowestFree, used};
 
 // The lowest free table.
@@ -25,11 +27,12 @@ pub fn lowest_free(ledger: &[u32]) -> Found
     }
 }
 
-// The tables in use.
+// The tables in use. A count as wide as the numbers lets a vector of numbers add to a vector of counts.
 pub fn count_used(ledger: &[u32]) -> usize
+    requires { ⌜ length (now ledger) < 2 ^ 32 ⌝ }
     ensures { λ r. ⌜ r ≡ used (now (ledger .entry)) ⌝ }
 {
-    let mut count = 0;
+    let mut count: u32 = 0;
     let mut i = 0;
     while i < ledger.len() {
         if ledger[i] != 0 {
@@ -37,5 +40,5 @@ pub fn count_used(ledger: &[u32]) -> usize
         }
         i += 1;
     }
-    count
+    count as usize
 }

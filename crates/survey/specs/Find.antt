@@ -62,16 +62,16 @@ surveyWhole h level e w v =
 unfoldable pub surveyEntry : Handle → ℕ → Edit → ℕ → Survey → Survey
 surveyEntry h level e w v = cond (whole level (e .region)) (surveyWhole h level e w v) (surveyPart level (e .region) w v)
 
--- a table goes down
-unfoldable pub surveySub : Sub → (ℕ → Survey) → Survey → Survey
-surveySub (Table j) rec x = rec j
-surveySub Outside rec x = x
-surveySub Leaf rec x = x
+-- a table goes down; a sound pool has no table word that leads outside
+unfoldable pub surveySub : Sub → (ℕ → Survey) → Survey → Survey → Survey
+surveySub (Table j) rec x v = rec j
+surveySub Outside rec x v = v
+surveySub Leaf rec x v = x
 
 unfoldable pub surveyChunk : (ℕ → Edit → Survey → Survey) → Handle → St → ℕ → ℕ → Edit → MemoryRegion → Survey → Survey
 surveyChunk rec h s level k e c v =
     let w = wordAt s k (entryIndex level (c .start .0)) in
-    surveySub (subOf (h .base .0) (tables s) level w) (λ j. rec j (chunkEdit e c) v) (surveyEntry h level (chunkEdit e c) w v)
+    surveySub (subOf (h .base .0) (tables s) level w) (λ j. rec j (chunkEdit e c) v) (surveyEntry h level (chunkEdit e c) w v) v
 
 -- an edit of table k with `left` levels below its own
 unfoldable pub surveyRange : ℕ → Handle → St → ℕ → Edit → Survey → Survey
@@ -183,7 +183,7 @@ survey-open level h s k e v l = ⊎-elim
 
 module _ (h : Handle) (s : St) (level k : ℕ) (e : Edit) (c : MemoryRegion) (v : Survey) {i : ℕ} (index : i ≡ entryIndex level (c .start .0))
     {x : Sub} (is : x ≡ subOf (h .base .0) (tables s) level (wordAt s k i)) where
-  found : (y : Sub) → x ≡ y → surveySub y (λ j. recAt level h s j (chunkEdit e c) v) (surveyEntry h level (chunkEdit e c) (wordAt s k i) v) ≡ stepAt level h s k e c v
+  found : (y : Sub) → x ≡ y → surveySub y (λ j. recAt level h s j (chunkEdit e c) v) (surveyEntry h level (chunkEdit e c) (wordAt s k i) v) v ≡ stepAt level h s k e c v
   unfolding stepAt surveyChunk
   found y q = rw (← index, ← is, q)
 
@@ -191,7 +191,10 @@ module _ (h : Handle) (s : St) (level k : ℕ) (e : Edit) (c : MemoryRegion) (v 
   unfolding surveySub recAt
   step-table j q l = rw (← found (Table j) q, lt-ltb level 3 l)
 
-  pub step-entry : (x ≡ Outside) ⊎ (x ≡ Leaf) → surveyEntry h level (chunkEdit e c) (wordAt s k i) v ≡ stepAt level h s k e c v
+  pub step-entry : x ≡ Leaf → surveyEntry h level (chunkEdit e c) (wordAt s k i) v ≡ stepAt level h s k e c v
   unfolding surveySub
-  step-entry (inl q) = found Outside q
-  step-entry (inr q) = found Leaf q
+  step-entry q = found Leaf q
+
+  pub step-outside : x ≡ Outside → v ≡ stepAt level h s k e c v
+  unfolding surveySub
+  step-outside q = found Outside q

@@ -75,10 +75,10 @@ module _ {r : MemoryRegion} {v : Survey} where
   block Page a c = c
   block Hole a c = c
 
-  below : (y : Sub) {rec : ℕ → Survey} {x : Survey} → ((j : ℕ) → Adds r v (rec j)) → Adds r v x → Adds r v (surveySub y rec x)
+  below : (y : Sub) {rec : ℕ → Survey} {x : Survey} → ((j : ℕ) → Adds r v (rec j)) → Adds r v x → Adds r v (surveySub y rec x v)
   unfolding surveySub
   below (Table j) a c = a j
-  below Outside a c = c
+  below Outside a c = same
   below Leaf a c = c
 
 part-adds : (level : ℕ) (r : MemoryRegion) (w : ℕ) (v : Survey) → r .start .0 < r .end .0 → Adds r v (surveyPart level r w v)
@@ -92,6 +92,9 @@ unfolding surveyWhole
 whole-adds h level e w v l =
     choose (eqb (editWord level e w) w) same
     (choose (mayChange h w (editWord level e w)) (record { splits = omega arith; numbers = omega arith }) (breached w (record { splits = omega arith; numbers = omega arith })))
+
+pub same-adds : (r : MemoryRegion) (v : Survey) → Adds r v v
+same-adds r v = same
 
 pub entry-adds : (h : Handle) (level : ℕ) (e : Edit) (w : ℕ) (v : Survey) → e .region .start .0 < e .region .end .0 → Adds (e .region) v (surveyEntry h level e w v)
 unfolding surveyEntry

@@ -65,15 +65,15 @@ fn count_splits(level: usize, region: MemoryRegion) -> u64
 }
 
 // A breach of the house rule: the first one stays.
-fn add_breach(seen: Survey, word: u64) -> Survey
-    ensures { λ r. ⌜ r ≡ breach word seen ⌝ }
+fn add_breach(found: Survey, word: u64) -> Survey
+    ensures { λ r. ⌜ r ≡ breach word found ⌝ }
 {
-    if seen.broken {
-        return seen;
+    if found.broken {
+        return found;
     }
     Survey {
-        splits: seen.splits,
-        numbers: seen.numbers,
+        splits: found.splits,
+        numbers: found.numbers,
         broken: true,
         word,
     }
@@ -106,16 +106,16 @@ fn survey_whole(handle: Handle, level: usize, edit: Edit, word: u64, seen: Surve
     if new == word {
         return seen;
     }
-    let more = Survey {
+    let changed = Survey {
         splits: seen.splits,
         numbers: seen.numbers + 1,
         broken: seen.broken,
         word: seen.word,
     };
     if may_change(handle, word, new) {
-        return more;
+        return changed;
     }
-    add_breach(more, word)
+    add_breach(changed, word)
 }
 
 // A chunk of an entry that is no table.
@@ -162,6 +162,9 @@ pub fn survey_range(
         let word = words[512 * k + i];
         let kind = entry::subtable(handle.base, ledger.len(), level, word);
         let Sub::Table(j) = kind else {
+            let Sub::Leaf = kind else {
+                continue;
+            };
             seen = survey_entry(handle, level, part, word, seen);
             continue;
         };

@@ -88,8 +88,12 @@ verify-forwards h r l = rw (le-ltb (r .end .0) (r .start .0) l)
 
 -- ---- what an accepted region is
 
+-- no refusal is an acceptance
+pub refused-never : {x : Refusal} → _≡_ {A = Outcome} (Refused x) Accepted → ⊥
+refused-never q = let z : _≡_ {A = ℕ} 0 1 = cc in omega arith
+
 pub verified-forwards : (h : Handle) (r : MemoryRegion) → verify h r ≡ Accepted → r .start .0 ≤ r .end .0
-verified-forwards h r e = ⊎-elim (λ h. h) (λ l. let z : _≡_ {A = Outcome} (Refused (RegionBackwards r)) Accepted = verify-backwards h r l ∙ e in let q : _≡_ {A = ℕ} 0 1 = cc in absurd (omega arith)) (le-or (r .start .0) (r .end .0))
+verified-forwards h r e = ⊎-elim (λ h. h) (λ l. absurd (refused-never (verify-backwards h r l ∙ e))) (le-or (r .start .0) (r .end .0))
 
 -- it lies in the root's span
 abbrev pub InSpan : VaRange → ℕ → MemoryRegion → Type 0
@@ -100,12 +104,9 @@ ranged-span : (range : VaRange) (level : ℕ) (r : MemoryRegion) → inRange ran
 unfolding inRange
 ranged-span Lower level r e = go (le-or (2 ^ 63) (r .start .0)) (le-or (r .end .0) (span level))
   where
-    never : {x : Refusal} → _≡_ {A = Outcome} (Refused x) Accepted → ⊥
-    never q = let z : _≡_ {A = ℕ} 0 1 = cc in omega arith
-
     go : (2 ^ 63 ≤ r .start .0) ⊎ (r .start .0 < 2 ^ 63) → (r .end .0 ≤ span level) ⊎ (span level < r .end .0) → r .end .0 ≤ span level
-    go (inl l) m = absurd (never (rw (le-leb (2 ^ 63) (r .start .0) l) at e))
-    go (inr l) (inr m) = absurd (never (rw (lt-leb (2 ^ 63) (r .start .0) l, lt-ltb (span level) (r .end .0) m) at e))
+    go (inl l) m = absurd (refused-never (rw (le-leb (2 ^ 63) (r .start .0) l) at e))
+    go (inr l) (inr m) = absurd (refused-never (rw (lt-leb (2 ^ 63) (r .start .0) l, lt-ltb (span level) (r .end .0) m) at e))
     go (inr l) (inl m) = m
 ranged-span Upper level r e = go (le-or (2 ^ 64 - span level) (r .start .0))
   where

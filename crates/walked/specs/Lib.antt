@@ -3,3 +3,4 @@ pub mod Any
 pub mod Walked
 pub mod Alike
 pub mod Listed
+pub mod AsBefore

@@ -70,7 +70,8 @@ compact-subtables-requires c κs =
 
 -- src/lib.rt:76:21
 count-used-requires : tie.Need-count-used-requires
-count-used-requires c κs = tt
+unfolding maxTables
+count-used-requires c κs = omega (arith, shape (c .before .before .before .before .before .before .before .before .before) .limit)
 
 -- src/lib.rt:66:1
 same-length-5 : tie.Need-same-length-5

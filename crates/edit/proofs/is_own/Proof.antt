@@ -1,6 +1,5 @@
 use mathlib.Core.Path.{_∙_}
 use Rattle.edit.specs.Range.{own-table, own-leaf}
-use borrow.Author.Needs.{needs}
 use Rattle.edit.proofs.is_own.Statement.{statement}
 use Rattle.edit.proofs.is_own.Tie as tie
 use Rattle.edit.proofs.is_own.Reads as reads
@@ -13,7 +12,7 @@ returns c = let a = c .before .args in own-table (a .level) (a .region) (a .word
 
 -- src/lib.rt:89:5
 is-block-requires : tie.Need-is-block-requires
-is-block-requires c κs = search needs
+is-block-requires c κs = tt
 
 -- src/lib.rt:83:1
 returns-2 : tie.Need-returns-2

@@ -1,7 +1,7 @@
 use native.Mathlib.Omega.{arith}
 use borrow.Author.Tests.{not-true, not-false}
 use Rattle.edit.specs.Own.{number-off, number-full, number-put}
-use borrow.Author.Needs.{needs}
+use lib.ListN.{length-set}
 use Rattle.edit.proofs.put_number.Statement.{statement}
 use Rattle.edit.proofs.put_number.Tie as tie
 use Rattle.edit.proofs.put_number.Reads as reads
@@ -17,19 +17,19 @@ returns-2 c = let a = c .before .before .args in number-full (a .number) (a .cou
 
 -- src/lib.rt:47:5
 mul-list : tie.Need-mul-list
-mul-list c = search needs
+mul-list c = omega arith
 
 -- src/lib.rt:47:5
 slice-write-list : tie.Need-slice-write-list
-slice-write-list c = search needs
+slice-write-list c = omega arith
 
 -- src/lib.rt:48:5
 add-result : tie.Need-add-result
-add-result c = search needs
+add-result c = omega arith
 
 -- src/lib.rt:38:1
 same-length : tie.Need-same-length
-same-length c = search needs
+same-length c = let a = c .before .before .args in length-set (a .list .now) (a .count) (a .number)
 
 -- src/lib.rt:38:1
 returns-3 : tie.Need-returns-3

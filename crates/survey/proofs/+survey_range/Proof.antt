@@ -5,13 +5,13 @@ use lib.ListN.{length}
 use Rattle.region.specs.Region.{region, entryIndex}
 use Rattle.region.specs.Chunks.{chunk-fits}
 use Rattle.entry.specs.Sub.{sub-found}
-use Rattle.entry.proofs.Tags.{no-table}
+use Rattle.entry.proofs.Tags.{is-outside}
 use Rattle.pool.specs.State.{st}
 use Rattle.edit.specs.Each.{eachChunk, each-done, each-step}
 use Rattle.edit.specs.Range.{chunkEdit}
 use Rattle.survey.specs.declared.Survey.{Survey}
-use Rattle.survey.specs.Find.{stepAt, survey-open, step-table, step-entry}
-use Rattle.survey.specs.Room.{Room, Adds, entry-adds, range-adds, room-chunk, room-after}
+use Rattle.survey.specs.Find.{stepAt, survey-open, step-table, step-entry, step-outside}
+use Rattle.survey.specs.Room.{Room, Adds, same-adds, entry-adds, range-adds, room-chunk, room-after}
 use Prim.Native.Nat.{ℕ, _<_}
 use borrow.Fn.Kinds.{In}
 use borrow.Fn.PlainCycle.{Measures, is, falls, and}
@@ -136,9 +136,8 @@ survey-range-subtable-requires t c κs = tt
 survey-range-enum-known-kind : (t : ℕ) → survey-range-lts.Need-enum-known-kind (calls t) (survey-range-at t) survey-range.Post survey-range-Inv-loop survey-range-μ-loop
 survey-range-enum-known-kind t c = c .match .keys1
 
--- src/lib.rt:165:13
-survey-range-survey-entry-requires : (t : ℕ) → survey-range-lts.Need-survey-entry-requires (calls t) (survey-range-at t) survey-range.Post survey-range-Inv-loop survey-range-μ-loop
-survey-range-survey-entry-requires t c κs = let f = facts t (c .before .before .before) in (f .above, f .room)
+survey-range-enum-told : (t : ℕ) → survey-range-lts.Need-enum-told (calls t) (survey-range-at t) survey-range.Post survey-range-Inv-loop survey-range-μ-loop
+survey-range-enum-told t c = c .match2 .keys1
 
 -- src/lib.rt:149:5
 survey-range-loop-less : (t : ℕ) → survey-range-lts.Need-loop-less (calls t) (survey-range-at t) survey-range.Post survey-range-Inv-loop survey-range-μ-loop
@@ -151,21 +150,11 @@ survey-range-loop-again t c =
     let f = facts t (c .before .before .before .before) in
     let s = st (a .words .now) (a .ledger .now) in
     let r = region (c .before .before .before .before .before .before .before .loop .at) (c .before .before .before .before .before .chunk-end .result) in
-    let adds = subst⁻¹ (λ (x : Survey). Adds r (c .before .before .before .before .before .before .before .loop .seen) x) (c .survey-entry .ensures) (entry-adds (a .handle) (a .level) (chunkEdit (a .edit) r) _ (c .before .before .before .before .before .before .before .loop .seen) (f .above)) in
-    again t (c .before .before .before .before) _ adds (c .survey-entry .ensures ∙ step-entry (a .handle) s (a .level) (a .k) (a .edit) r (c .before .before .before .before .before .before .before .loop .seen) (f .index) (c .before .before .subtable .ensures) (no-table _ (c .before .match .keys2)))
+    again t (c .before .before .before .before) (c .before .before .before .before .before .before .before .loop .seen) (same-adds r (c .before .before .before .before .before .before .before .loop .seen)) (step-outside (a .handle) s (a .level) (a .k) (a .edit) r (c .before .before .before .before .before .before .before .loop .seen) (f .index) (c .before .before .subtable .ensures) (is-outside _ (c .before .match .keys2) (c .match2 .keys2)))
 
--- src/lib.rt:168:55
-survey-range-add-survey-range : (t : ℕ) → survey-range-lts.Need-add-survey-range (calls t) (survey-range-at t) survey-range.Post survey-range-Inv-loop survey-range-μ-loop
-survey-range-add-survey-range t c =
-    let found = sub-found _ _ _ _ _ (sym (c .before .before .before .subtable .ensures) ∙ c .before .kind .given .1) in
-    omega (arith, found .high)
-
--- src/lib.rt:168:9
-survey-range-survey-range-requires : (t : ℕ) → survey-range-lts.Need-survey-range-requires (calls t) (survey-range-at t) survey-range.Post survey-range-Inv-loop survey-range-μ-loop
-survey-range-survey-range-requires t c κs =
-    let p = c .before .before .before .before .before .before .before .before .before .before .before .pre in
-    let found = sub-found _ _ _ _ _ (sym (c .before .before .before .subtable .ensures) ∙ c .before .kind .given .1) in
-    (omega (arith, found .high, p .0), (p .1 .0, found .below, omega (arith, found .high), facts t (c .before .before .before .before .before) .room))
+-- src/lib.rt:168:13
+survey-range-survey-entry-requires : (t : ℕ) → survey-range-lts.Need-survey-entry-requires (calls t) (survey-range-at t) survey-range.Post survey-range-Inv-loop survey-range-μ-loop
+survey-range-survey-entry-requires t c κs = let f = facts t (c .before .before .before .before .before) in (f .above, f .room)
 
 -- src/lib.rt:149:5
 survey-range-loop-less-2 : (t : ℕ) → survey-range-lts.Need-loop-less-2 (calls t) (survey-range-at t) survey-range.Post survey-range-Inv-loop survey-range-μ-loop
@@ -174,6 +163,33 @@ survey-range-loop-less-2 t c = let f = facts t (c .before .before .before .befor
 -- src/lib.rt:149:5
 survey-range-loop-again-2 : (t : ℕ) → survey-range-lts.Need-loop-again-2 (calls t) (survey-range-at t) survey-range.Post survey-range-Inv-loop survey-range-μ-loop
 survey-range-loop-again-2 t c =
+    let a = c .before .before .before .before .before .before .before .before .before .before .before .before .args in
+    let f = facts t (c .before .before .before .before .before .before) in
+    let s = st (a .words .now) (a .ledger .now) in
+    let r = region (c .before .before .before .before .before .before .before .before .before .loop .at) (c .before .before .before .before .before .before .before .chunk-end .result) in
+    let adds = subst⁻¹ (λ (x : Survey). Adds r (c .before .before .before .before .before .before .before .before .before .loop .seen) x) (c .survey-entry .ensures) (entry-adds (a .handle) (a .level) (chunkEdit (a .edit) r) _ (c .before .before .before .before .before .before .before .before .before .loop .seen) (f .above)) in
+    again t (c .before .before .before .before .before .before) _ adds (c .survey-entry .ensures ∙ step-entry (a .handle) s (a .level) (a .k) (a .edit) r (c .before .before .before .before .before .before .before .before .before .loop .seen) (f .index) (c .before .before .before .before .subtable .ensures) (c .before .enum-told .given .1))
+
+-- src/lib.rt:171:55
+survey-range-add-survey-range : (t : ℕ) → survey-range-lts.Need-add-survey-range (calls t) (survey-range-at t) survey-range.Post survey-range-Inv-loop survey-range-μ-loop
+survey-range-add-survey-range t c =
+    let found = sub-found _ _ _ _ _ (sym (c .before .before .before .subtable .ensures) ∙ c .before .kind .given .1) in
+    omega (arith, found .high)
+
+-- src/lib.rt:171:9
+survey-range-survey-range-requires : (t : ℕ) → survey-range-lts.Need-survey-range-requires (calls t) (survey-range-at t) survey-range.Post survey-range-Inv-loop survey-range-μ-loop
+survey-range-survey-range-requires t c κs =
+    let p = c .before .before .before .before .before .before .before .before .before .before .before .pre in
+    let found = sub-found _ _ _ _ _ (sym (c .before .before .before .subtable .ensures) ∙ c .before .kind .given .1) in
+    (omega (arith, found .high, p .0), (p .1 .0, found .below, omega (arith, found .high), facts t (c .before .before .before .before .before) .room))
+
+-- src/lib.rt:149:5
+survey-range-loop-less-3 : (t : ℕ) → survey-range-lts.Need-loop-less-3 (calls t) (survey-range-at t) survey-range.Post survey-range-Inv-loop survey-range-μ-loop
+survey-range-loop-less-3 t c = let f = facts t (c .before .before .before .before .before .before) in omega (arith, f .above, f .under)
+
+-- src/lib.rt:149:5
+survey-range-loop-again-3 : (t : ℕ) → survey-range-lts.Need-loop-again-3 (calls t) (survey-range-at t) survey-range.Post survey-range-Inv-loop survey-range-μ-loop
+survey-range-loop-again-3 t c =
     let a = c .before .before .before .before .before .before .before .before .before .before .before .before .args in
     let f = facts t (c .before .before .before .before .before .before) in
     let s = st (a .words .now) (a .ledger .now) in
@@ -207,11 +223,14 @@ pub +survey-range-spec : {M : Type 1} → statement M
     (survey-range-shared-slice-read-word t)
     (survey-range-subtable-requires t)
     (survey-range-enum-known-kind t)
-    (survey-range-survey-entry-requires t)
+    (survey-range-enum-told t)
     (survey-range-loop-less t)
     (survey-range-loop-again t)
-    (survey-range-add-survey-range t)
-    (survey-range-survey-range-requires t)
+    (survey-range-survey-entry-requires t)
     (survey-range-loop-less-2 t)
     (survey-range-loop-again-2 t)
+    (survey-range-add-survey-range t)
+    (survey-range-survey-range-requires t)
+    (survey-range-loop-less-3 t)
+    (survey-range-loop-again-3 t)
     (survey-range-returns t)

@@ -51,6 +51,10 @@ loop-again c =
     (λ w. let same = used-miss l i (omega arith) (w .0 .left) in (omega arith, omega arith, omega arith))
     (c .if1 .came)
 
+-- src/ledger.rt:45:5
+cast-result : tie.Need-cast-result Inv-loop μ-loop
+cast-result c = omega arith
+
 -- src/ledger.rt:29:1
 returns : tie.Need-returns Inv-loop μ-loop
 returns c =
@@ -72,4 +76,5 @@ count-used-spec =
     add-i
     loop-less
     loop-again
+    cast-result
     returns)

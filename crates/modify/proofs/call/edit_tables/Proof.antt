@@ -1,3 +1,5 @@
+use Rattle.pool.specs.Refuse.{maxTables}
+use native.Mathlib.Omega.{arith}
 use Rattle.pool.specs.State.{st}
 use Rattle.modify.specs.Call.{done-live, done-still}
 use Rattle.modify.proofs.call.edit_tables.Statement.{statement}
@@ -14,7 +16,7 @@ modify-range-requires c κs = let p = c .before .before .before .before .before 
 -- src/call.rt:32:9
 count-used-requires : tie.Need-count-used-requires
 unfolding maxTables
-count-used-requires c κs = omega (arith, c .before .before .before .before .before .before .before .before .before .pre .limit)
+count-used-requires c κs = omega (arith, c .before .before .before .before .before .before .before .before .before .before .before .before .before .before .pre .limit)
 
 -- src/call.rt:34:9
 same-length : tie.Need-same-length

@@ -1,3 +1,4 @@
+use Rattle.pool.specs.Refuse.{maxTables}
 use mathlib.Core.Path.{_≡_, sym, _∙_}
 use mathlib.Core.Bool.{true}
 use Prim.Native.Nat.{_-_}
@@ -44,7 +45,7 @@ returns c = let a = c .before .before .before .before .before .before .before .a
 -- src/call.rt:54:32
 count-used-requires : tie.Need-count-used-requires
 unfolding maxTables
-count-used-requires c κs = omega (arith, c .before .before .before .before .before .before .before .before .before .pre .0 .limit)
+count-used-requires c κs = omega (arith, c .before .before .before .before .before .before .before .before .pre .0 .limit)
 
 -- src/call.rt:54:17
 sub-free : tie.Need-sub-free

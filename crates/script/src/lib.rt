@@ -86,29 +86,79 @@ fn same(text: &[u8], word: Word, other: &[u8], name: Word) -> bool {
     j == last
 }
 
-// Which of the names a word is, counted from 0.
+// A line of a text, counted from 0; an empty one past the last.
+pub fn line_of(text: &[u8], number: u64) -> Word {
+    let mut start = 0;
+    let mut left = number;
+    let mut place = 0;
+    while place < text.len() {
+        let byte = text[place];
+        place += 1;
+        if byte != b'\n' {
+            continue;
+        }
+        if left == 0 {
+            return Word {
+                start,
+                end: place - 1,
+            };
+        }
+        left -= 1;
+        start = place;
+    }
+    Word { start, end: start }
+}
+
+// Which line of the names begins with a word, counted from 0.
 pub fn place_of(text: &[u8], word: Word, names: &[u8]) -> u64 {
-    let mut at = 0;
     let mut place = 0;
     while place < NOWHERE {
-        let name = next_word(names, at, names.len());
+        let line = line_of(names, place);
+        let name = next_word(names, line.start, line.end);
         if same(text, word, names, name) {
             return place;
         }
-        at = name.end;
         place += 1;
     }
     NOWHERE
 }
 
-// What a word stands for: a number, or a name that means one. The names stand in rows of three: a word of the first column
-// means 0, of the second 1, of the third 2; no word is #, which begins a comment.
+// How many words a part of a text has, up to one that begins with a mark.
+pub fn count_words(text: &[u8], part: Word, mark: u8) -> usize {
+    let end = part.end;
+    let mut at = part.start;
+    let mut count = 0;
+    while count <= MOST {
+        let word = next_word(text, at, end);
+        if word.end <= word.start {
+            return count;
+        }
+        if byte_at(text, word.start) == mark {
+            return count;
+        }
+        at = word.end;
+        count += 1;
+    }
+    count
+}
+
+// What a word stands for: a number, or a name that means one. The names stand in groups of three: the first of a group
+// means 0, the second 1, the third 2; no word is #, which begins a comment.
 fn value_of(text: &[u8], word: Word) -> Number {
-    let place = place_of(
-        text,
-        word,
-        b"lower upper # hole block page accepted refused # # noblocks #",
-    );
+    let names = b"lower
+upper
+#
+hole
+block
+page
+accepted
+refused
+#
+#
+noblocks
+#
+";
+    let place = place_of(text, word, names);
     if place < NOWHERE {
         return Number::Value(place % 3);
     }

@@ -38,9 +38,16 @@ pub fn say_hex(value: u64, width: usize) {
     io::print_hex(1, value, width);
 }
 
-// A number with what it counts.
-pub fn say_count(before: &[u8], count: u64, after: &[u8]) {
-    io::write_all(1, before);
+// A number in decimal, after what it counts.
+pub fn say_count(what: &[u8], count: u64) {
+    io::write_all(1, what);
     io::print_decimal(1, count);
-    io::write_all(1, after);
+}
+
+// What is wrong with a line of a script.
+pub fn say_complaint(line: u64, why: &[u8]) {
+    say_count(b"  line ", line);
+    say(b": ");
+    say(why);
+    say(b"\n");
 }

@@ -66,9 +66,8 @@ impl Bench {
         self
     }
 
-    // A line that is not understood, and why.
-    pub fn complain(mut self, number: u64, why: &[u8]) -> Self {
-        report::say_complaint(number, why);
+    // After a line that is not understood.
+    pub fn missed(mut self) -> Self {
         self.wrong = wrapping_add_u64(self.wrong, 1);
         self
     }

@@ -1,6 +1,5 @@
 // The library's calls by their outside names, on the bench's pool.
 use crate::bench::Bench;
-use crate::show;
 
 // A call that has nothing to say but that it was done.
 fn say_done(refusal: u64, answer: [u64; 4]) {
@@ -105,7 +104,7 @@ pub fn list(words: &[u64], ledger: &[u32], bench: Bench, start: u64, end: u64) -
     );
     say_counted(refusal, answer, b"  accepted: entries ");
     if refusal == 0 {
-        show::lines(&lines, answer[0]);
+        view::say_lines(&lines, answer[0]);
     }
     bench.answered(refusal, answer)
 }

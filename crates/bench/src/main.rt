@@ -4,9 +4,9 @@ mod bench;
 mod call;
 mod command;
 mod expect;
-mod show;
 
 use bench::Bench;
+use script::Ask;
 use script::Line;
 use script::Word;
 
@@ -17,7 +17,29 @@ fn echo(text: &[u8; 256], length: usize) {
     report::say(b"\n");
 }
 
-// One line: its words up to a comment, the first of them a command.
+fn say_why(why: u64) {
+    let reasons = b": a line has at most 256 bytes
+: no such command: 
+: too few or too many values: 
+: a number above 2^64 - 1: 
+: no number: 
+";
+    report::say_line(reasons, why);
+}
+
+// Why a line is not understood, with the word; where its values are too few or too many, how the command is used.
+fn complain(text: &[u8], usage: &[u8], number: u64, why: u64, word: Word) {
+    report::say_count(b"  line ", number);
+    say_why(why);
+    if why == 2 {
+        report::say_line(usage, script::place_of(text, word, usage));
+    } else {
+        report::say_part(text, word);
+    }
+    report::say(b"\n");
+}
+
+// One line.
 fn turn(
     text: &[u8; 256],
     length: usize,
@@ -27,10 +49,23 @@ fn turn(
     bench: Bench,
     number: u64,
 ) -> Bench {
-    if 256 < length {
-        return bench.complain(number, b"a line has at most 256 bytes");
+    let mut values = [0u64; 6];
+    match script::asked(text, length, usage, &mut values) {
+        Ask::Nothing => bench,
+        Ask::Command(command, count) => command::run(
+            command,
+            count,
+            words,
+            ledger,
+            bench,
+            &values,
+            number,
+        ),
+        Ask::Wrong(why, word) => {
+            complain(text, usage, number, why, word);
+            bench.missed()
+        }
     }
-    command::line(text, length, usage, words, ledger, bench, number)
 }
 
 // Line by line to the end of the input.
@@ -67,10 +102,10 @@ list START END
 image TABLE
 words [TABLE] [FIRST] [COUNT]
 ledger
-map START END FRAME FLAGS [noblocks]
-unmap START END
 put TABLE WORD VALUE
 enter TABLE NUMBER
+map START END FRAME FLAGS [noblocks]
+unmap START END
 ";
     let mut words = [0u64; 4096];
     let mut ledger = [0u32; 8];

@@ -117,21 +117,30 @@ fn kind_of(word: u64, level: u64) -> u64 {
 }
 
 fn say_kind(kind: u64) {
-    let kinds = b" hole 
- block
- page 
- table
+    let kinds = b": hole
+: block
+: page
+: table
+";
+    say_line(kinds, kind);
+}
+
+// The kind in its column.
+fn say_kind_column(kind: u64) {
+    let kinds = b"  hole   -             
+  block  
+  page   
+  table  
 ";
     say_line(kinds, kind);
 }
 
 // The frame of a block or page.
 fn say_frame(word: u64, kind: u64) {
-    if kind == 0 {
-        return say(b"  -             ");
+    if kind != 0 {
+        say_hex(word & 0xFFFF_FFFF_F000, 12);
     }
-    say(b"  ");
-    say_hex(word & 0xFFFF_FFFF_F000, 12);
+    say(b" ");
 }
 
 fn say_region(start: u64, end: u64) {
@@ -163,7 +172,7 @@ fn say_entries(entries: u64) {
 // Level, kind and flags.
 fn say_word(word: u64, level: u64, kind: u64) {
     say_count(b"  level ", level);
-    say_kind(kind);
+    say_kind_column(kind);
     say_frame(word, kind);
     say_flags(word & 0xFFFF_0000_0000_0FFD);
 }
@@ -188,7 +197,7 @@ fn say_looked_frame(kind: u64, frame: u64) {
 
 // What a walk answers: kind, level, flags, frame.
 pub fn say_looked(kind: u64, level: u64, flags: u64, frame: u64) {
-    say_count(b"  accepted: level ", level);
+    say_count(b"  accepted, at level ", level);
     say_kind(kind);
     say_looked_frame(kind, frame);
     say_flags(flags);

@@ -2,11 +2,14 @@
 // Leans on libc's read alone. No function needs anything of its caller, and each ends on any bytes.
 mod line;
 mod number;
+mod usage;
 
 pub use line::Line;
 pub use line::read_line;
 pub use number::Number;
 pub use number::number_of;
+pub use usage::Ask;
+pub use usage::asked;
 
 // A word: the bytes from start up to end.
 pub struct Word {

@@ -1,4 +1,5 @@
-// What stands in the words, the ledger and a list, and what is put there by hand.
+// What stands in the words and the ledger of a pool and in a list, in words that a person reads; and what is put there by hand.
+// Leans on report. No function needs anything of its caller.
 
 // A number of a list's line; 0 past its end.
 fn number_at(lines: &[u64], line: u64, column: u64) -> u64 {
@@ -48,7 +49,7 @@ fn say_run(lines: &[u64], line: u64, next: u64) {
 }
 
 // The lines of a list; empty entries of one level that follow each other share a line.
-pub fn lines(lines: &[u64], count: u64) {
+pub fn say_lines(lines: &[u64], count: u64) {
     let mut line = 0;
     while line < count {
         let next = after_run(lines, line, count);
@@ -80,26 +81,30 @@ fn say_word(table: u64, slot: u64, word: u64) {
     report::say(b"\n");
 }
 
-// The word at a table's slot.
-fn word(words: &[u64], table: u64, slot: u64) {
+// The word at a table's slot, and whether there is one.
+fn say_word_at(words: &[u64], table: u64, slot: u64) -> bool {
     let at = place_of(words, table, slot);
     if words.len() <= at {
-        return report::say(b"  there is no such word\n");
+        report::say(b"  there is no such word\n");
+        return false;
     }
     say_word(table, slot, words[at]);
+    true
 }
 
 // Some words of a table.
-pub fn words(words: &[u64], table: u64, first: u64, count: u64) {
+pub fn say_words(words: &[u64], table: u64, first: u64, count: u64) {
     let mut done = 0;
-    while done < 512 {
-        if count <= done {
-            return;
-        }
+    while done < count {
         if 512 <= first {
             return;
         }
-        word(words, table, first + done);
+        if 512 <= done {
+            return;
+        }
+        if !say_word_at(words, table, first + done) {
+            return;
+        }
         done += 1;
     }
 }
@@ -119,7 +124,7 @@ fn count_words(words: &[u64]) -> u64 {
     count
 }
 
-pub fn words_not_zero(words: &[u64]) {
+pub fn say_words_not_zero(words: &[u64]) {
     report::say_count(b"  words not zero: ", count_words(words));
     report::say(b"\n");
 }
@@ -135,7 +140,7 @@ pub fn put(words: &mut [u64], table: u64, slot: u64, value: u64) {
 }
 
 // The slot that refers to a table, by its ledger number.
-fn referred(number: u64) {
+fn say_slot(number: u64) {
     if number < 8 {
         return report::say(b", the root\n");
     }
@@ -145,25 +150,25 @@ fn referred(number: u64) {
 }
 
 // A ledger number: the table's level, and the slot that refers to it.
-fn entered(table: u64, number: u64) {
+fn say_entered(table: u64, number: u64) {
     report::say_count(b"  table ", table);
     report::say_count(b": ", number);
     if number == 0 {
         return report::say(b", free\n");
     }
     report::say_count(b", level ", (number % 8 + 4) % 8);
-    referred(number);
+    say_slot(number);
 }
 
-fn ledger_row(table: usize, number: u32) {
-    entered(table as u64, number as u64);
+fn say_row(table: usize, number: u32) {
+    say_entered(table as u64, number as u64);
 }
 
 // The ledger.
-pub fn ledger(ledger: &[u32]) {
+pub fn say_ledger(ledger: &[u32]) {
     let mut table = 0;
     while table < ledger.len() {
-        ledger_row(table, ledger[table]);
+        say_row(table, ledger[table]);
         table += 1;
     }
 }
@@ -178,5 +183,5 @@ pub fn enter(ledger: &mut [u32], table: u64, number: u64) {
         return report::say(b"  a ledger number has 32 bits\n");
     }
     ledger[at] = number as u32;
-    entered(table, number);
+    say_entered(table, number);
 }

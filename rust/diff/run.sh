@@ -1,5 +1,5 @@
 #!/bin/sh
-# Builds the static library, the oracle and the differential runs, and runs them: rust/diff/run.sh [CALLS [SEED]], from anywhere.
+# Builds the static library, the oracle and the differential runs, and runs them: rust/diff/run.sh [CALLS [SEED [LENGTH]]], from anywhere.
 # EDITS=1 also runs modify and compact. ALONE=1 leaves ptb out: the model of document 01 is compared with the oracle. AARCH64_PAGING as for rust/oracle/build.sh.
 set -eu
 cd "$(dirname "$0")/../.."

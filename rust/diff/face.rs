@@ -4,7 +4,7 @@ use crate::lent::Lent;
 use crate::model::{Answer, Handle, Map, Modify, Pool, UNTOUCHED};
 
 #[cfg(not(alone))]
-#[path = "../ptb/names.rs"]
+#[path = "../ptb/src/names.rs"]
 mod names;
 
 #[derive(Clone)]

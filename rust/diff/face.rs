@@ -13,11 +13,14 @@ pub struct Ours {
     pub ledger: Lent<u32>,
     pub handle: Handle,
     answer: Lent<u64>,
+    // As for the model's pools, where the model stands in.
+    #[cfg_attr(not(alone), allow(dead_code))]
+    trusted: bool,
 }
 
 impl Ours {
     pub fn of(pool: &Pool) -> Ours {
-        Ours { words: Lent::new(&pool.words), ledger: Lent::new(&pool.ledger), handle: pool.handle, answer: Lent::new(&UNTOUCHED) }
+        Ours { words: Lent::new(&pool.words), ledger: Lent::new(&pool.ledger), handle: pool.handle, answer: Lent::new(&UNTOUCHED), trusted: pool.trusted }
     }
 
     // Takes over words and ledger of a pool of the same lengths.
@@ -97,7 +100,7 @@ mod calls {
     use super::{Answer, Lent, Map, Modify, Ours, Pool};
 
     fn pool(ours: &Ours) -> Pool {
-        Pool::of(ours.words.to_vec(), ours.ledger.to_vec(), ours.handle)
+        Pool { trusted: ours.trusted, ..Pool::of(ours.words.to_vec(), ours.ledger.to_vec(), ours.handle) }
     }
 
     // A call of the model's that may change words and ledger.
@@ -105,6 +108,7 @@ mod calls {
         let mut pool = pool(ours);
         let answer = call(&mut pool);
         ours.load(&pool.words, &pool.ledger);
+        ours.trusted = pool.trusted;
         answer
     }
 

@@ -1,5 +1,9 @@
 // Where ptb and the published crate are known to differ, outside the domain (docs/DIFFERENCES.md): each is seen on both.
 use crate::face::{self, Ours};
+#[cfg(edits)]
+use crate::lent::Lent;
+#[cfg(edits)]
+use crate::model::Modify;
 use crate::model::{answer, Handle, Map, Pool};
 use oracle::Oracle;
 use std::panic::{catch_unwind, set_hook, take_hook, AssertUnwindSafe};
@@ -94,10 +98,24 @@ fn unmap_with_a_frame() {
     assert_eq!(pool.ours(0, GIB, 0x1000, 0), answer(9, &[513, 7]));
 }
 
+// A live modify of one page of a block that changes no bit: the crate splits the live block for it.
+#[cfg(edits)]
+fn live_split() {
+    let mut pool = Both::new(8, 1, false);
+    pool.both(0, GIB, GIB, FLAGS);
+    let nothing = Modify { start: 0x1000, end: 0x2000, set: 0, clear: 0, live: true };
+    assert_eq!(face::modify(&mut pool.ours, &nothing, &mut Lent::filled(0, 1)), answer(10, &[GIB + FLAGS]));
+    assert_eq!(pool.ours.words[0], GIB + FLAGS);
+    assert!(pool.oracle.modify(0x1000, 0x2000, 0, 0, true).is_ok());
+    assert_eq!(pool.oracle.words()[0], BASE + 0x1003);
+}
+
 pub fn all() {
     lost_fill();
     want_of_tables();
     freed_by_the_same_call();
     arguments();
     unmap_with_a_frame();
+    #[cfg(edits)]
+    live_split();
 }

@@ -151,15 +151,15 @@ impl Oracle {
         Ok(found)
     }
 
-    // Sets and clears bits of valid blocks and pages, not live.
-    pub fn modify(&mut self, start: u64, end: u64, set: u64, clear: u64) -> Result<(), Refused> {
+    // Sets and clears bits of valid blocks and pages.
+    pub fn modify(&mut self, start: u64, end: u64, set: u64, clear: u64, live: bool) -> Result<(), Refused> {
         let update = |_: &MemoryRegion, entry: &mut UpdatableDescriptor<El1Attributes>| {
             if entry.is_table() || !entry.flags().contains(El1Attributes::VALID) {
                 return Ok(());
             }
             entry.modify_flags(attributes(set), attributes(clear))
         };
-        self.root.modify_range(&region(start, end), &update, false).map(|_| ()).map_err(refused)
+        self.root.modify_range(&region(start, end), &update, live).map(|_| ()).map_err(refused)
     }
 
     pub fn compact(&mut self) {

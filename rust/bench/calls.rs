@@ -1,6 +1,8 @@
-// Times look up, list and map against the published crate on the same words, in one process: ratios of medians over interleaved runs.
+// Times look up, list and map (with EDITS=1 also modify and compact) against the published crate on the same words, in one process: ratios of medians over interleaved runs.
 // Run it by calls.sh, which builds the static library and the oracle first.
 mod clock;
+#[cfg(edits)]
+mod edits;
 mod pool;
 
 use clock::{in_turns, median, timed};
@@ -179,4 +181,6 @@ fn main() {
     println!();
     bench_maps(301);
     bench_refused();
+    #[cfg(edits)]
+    edits::all();
 }

@@ -71,6 +71,18 @@ impl Pool {
         called!(ptb_map, self, as_mut_ptr, map.start, map.end, map.frame, map.flags, map.constraints)
     }
 
+    // Not live.
+    #[cfg(edits)]
+    pub fn modify(&mut self, start: u64, end: u64, set: u64, clear: u64) -> Answer {
+        let list: &mut [u64] = &mut [];
+        called!(ptb_modify, self, as_mut_ptr, start, end, set, clear, 0, list.as_mut_ptr(), list.len())
+    }
+
+    #[cfg(edits)]
+    pub fn compact(&mut self) -> Answer {
+        called!(ptb_compact, self, as_mut_ptr)
+    }
+
     pub fn image(&self, table: u64, page: &mut [u8]) -> u64 {
         called!(ptb_image, self, as_ptr, table, page.as_mut_ptr(), page.len()).0
     }

@@ -95,6 +95,27 @@ uint64_t ptb_map(uint64_t *words, size_t words_len, uint32_t *ledger, size_t led
                  uint64_t flags, uint64_t constraints, uint64_t answer[4]);
 
 /*
+ * Sets and clears bits in the valid blocks and pages of start..end (start rounded down, end up); an entry that is covered in
+ * part is split first. `live` is true for any value but 0. Live, only bits 0 (clearing), 7, 10, 11, 51 and 53 to 58 of a valid
+ * entry may change, no valid entry is split, and `list` gets the page number (address / 4096 mod 2^44) of each valid entry whose
+ * word changed: a lower table's numbers when that table is finished, a table's own last, ascending; the rest of `list` stays.
+ * Not live, `list` is neither read nor written and may have any length.
+ * Refusals 1 to 6, 8, 9 and, live, 10 and 11 (list_len is below the count of numbers; answer[0] is what is needed). Accepted:
+ * answer[0] the tables in use afterwards and, live, answer[1] the count of numbers.
+ */
+uint64_t ptb_modify(uint64_t *words, size_t words_len, uint32_t *ledger, size_t ledger_len,
+                    uint64_t base, uint64_t level, uint64_t range, uint64_t start, uint64_t end,
+                    uint64_t set, uint64_t clear, uint64_t live, uint64_t *list, size_t list_len, uint64_t answer[4]);
+
+/*
+ * Compacts the pool, from the leaves up: each table other than the root whose words are all zero is freed and its slot zeroed, and
+ * so is a table that this empties. Every address walks as before.
+ * Refusals 1, 8. Accepted: answer[0] the tables in use afterwards.
+ */
+uint64_t ptb_compact(uint64_t *words, size_t words_len, uint32_t *ledger, size_t ledger_len,
+                     uint64_t base, uint64_t level, uint64_t range, uint64_t answer[4]);
+
+/*
  * Writes one table's 512 words, little-endian, into 4096 bytes. It does not ask that the pool is sound.
  * Refusals 1 (a table not below n), 11 (page_len is not 4096; answer[0] is 4096). Accepted: no value.
  */

@@ -16,11 +16,13 @@ use Rattle.pool.specs.Number.{rootNumber, numberOf, firstFrom, lowestFree, used
 use Rattle.pool.specs.State.{St, st}
 use Rattle.table.specs.Table.{putTable, zeros, clear, rising, takeAt, takeFound, takeTable, freeSub, freeSlot, freeTree}
 use Rattle.pool.specs.Refuse.{maxTables, shaped, out}
+use Rattle.pool.specs.Calls.{makeCall, fresh as freshly}
 use Rattle.pool.specs.Sound.{flagSet, plainFlags, fits, leafb, namesb, hangsb, tableb, linkb, refersb, slotb, soundb}
 use Rattle.pool.specs.declared.Handle.{Handle}
 use Rattle.pool.specs.declared.Refusal.the-variants.{WantOfRoom}
 use Rattle.pool.specs.declared.Counted.{Counted}
 use Rattle.pool.specs.declared.Counted.the-variants.{Tables, Refused}
+use Rattle.pool.specs.declared.Outcome.the-variants.{Accepted}
 use Rattle.pool.specs.declared.VaRange.the-variants.{Lower}
 use Rattle.verify.specs.Verify.{endFits, span, inRange, verify}
 use Rattle.rules.specs.Rules.{valid, tableWord, leafWord, whole, rule2, blockable, rule3, rule4, ruleOf, fillOf}
@@ -36,6 +38,10 @@ handle level = record { base = record { 0 = 0x8000_0000 }; level = level; range 
 -- n tables, made for a root of this level
 unfoldable pub fresh : ℕ → ℕ → St
 fresh level n = st (replicate (512 * n) 0) (set (replicate n 0) 0 (rootNumber level))
+
+-- make gives it of whatever words and numbers were lent: here all 9
+unfoldable pub Makes : ℕ → ℕ → Type 0
+Makes level n = makeCall (handle level) (st (replicate (512 * n) 9) (replicate n 9)) ≡ out Accepted (fresh level n)
 
 -- the word w in slot i of table k; the table t, with its number, as table k; all else as in s
 unfoldable pub word : ℕ → ℕ → ℕ → St → St
@@ -113,6 +119,14 @@ unfoldable pub H : Row
 H = record { level = 0; before = fresh 0 8; start = 0; end = 0x80_0000_0000; frame = 0; flags = 0x401; answer = Tables 2; after = poolH }
 
 -- ---- the rows that hold
+
+-- the pools that the rows start from
+abbrev pub Made : Type 0
+Made = Makes 1 8 × Makes 1 3 × Makes 1 2 × Makes 0 8
+
+pub made : Made
+unfolding rootNumber maxTables shaped makeCall freshly handle fresh Makes
+made = (refl, refl, refl, refl)
 
 abbrev pub Maps : Type 0
 Maps =

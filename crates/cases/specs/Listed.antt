@@ -20,7 +20,7 @@ use Rattle.walk.specs.Arm.{bits, lowBit, index, fetch}
 use Rattle.list.specs.Lines.{numbers, each, subLines, chunkLines, linesAt, linesFrom}
 use Rattle.list.specs.Listing.{verifyEnds, listing, put, listLines, linesOf, listSound, listVerified, listCall}
 use Rattle.list.specs.declared.Listed.the-variants.{Lines}
-use Rattle.cases.specs.Bench.{handle, fresh, word, table, poolB, Maps, starred-maps}
+use Rattle.cases.specs.Bench.{handle, fresh, word, table, poolB}
 
 -- three lines; the rest of the list stays
 abbrev pub J : Type 0
@@ -31,8 +31,3 @@ J =
 pub case-J : J
 unfolding sizeAt down up putPart allBelow allFrom alignUp addressOf kindOf linkOf only el1Flags inPool leads subOf rounded entryLast chunkEnd met chunksIn chunks rootNumber putTable zeros maxTables shaped flagSet plainFlags fits leafb namesb hangsb tableb linkb refersb slotb soundb endFits span inRange verify bits lowBit index fetch numbers each subLines chunkLines linesAt linesFrom verifyEnds put listLines linesOf listSound listVerified listCall handle fresh word table poolB
 case-J = refl
-
--- ---- the table: every starred case of map and of list
-
-pub starred : Maps × J
-starred = (starred-maps, case-J)

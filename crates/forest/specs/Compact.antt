@@ -20,7 +20,7 @@ use Rattle.forest.specs.Move.{Move, Work, move-skip, move-down, move-cle
 unfoldable pub emptyWords : (ℕ → ℕ) → Bool
 emptyWords g = allBelow 512 (λ i. eqb (g i) 0)
 
-abbrev zeroLeaf : Tree → Bool
+abbrev pub zeroLeaf : Tree → Bool
 zeroLeaf (leaf w) = eqb w 0
 zeroLeaf (node f) = false
 

@@ -1,13 +1,14 @@
--- A sound pool is a forest: every used table hangs from a root and is reached from there by following slots; exactly one slot refers to it, and
--- none refers to a root or to a free table. Assumes nothing.
+-- A sound pool is a forest: every used table hangs from a root and is reached from there by following slots, by one path alone; exactly one slot refers to
+-- it, and none refers to a root or to a free table. Assumes nothing.
 use mathlib.Core.Path.{_≡_, refl, sym, ap, _∙_, subst}
 use mathlib.Core.List.{List, [], _∷_}
 use mathlib.Core.Logic.{_⊎_, inl, inr, _≢_}
-use Prim.Native.Nat.{ℕ, zero, suc}
+use Prim.Native.Nat.{ℕ, zero, suc, _+_}
 use native.Mathlib.Omega.{arith}
+use lib.ListN.{length}
 use Rattle.laws.specs.Test.{eq-or}
 use Rattle.forest.specs.Sound.{State, Codec, Used, levelIn, parent, slotIn, IsTable, Hangs, Refers, Sound}
-use Rattle.forest.specs.Under.{Under, under-self, under-zero, under-step, under-back, under-either, hangs-refers, refers-table, refers-child}
+use Rattle.forest.specs.Under.{Under, under-self, under-zero, under-step, under-back, under-either, hangs-refers, refers-table, refers-child, refers-level}
 
 module _ (C : Codec) where
   -- table j lies under a root
@@ -32,6 +33,27 @@ module _ (C : Codec) where
   unfoldable pub path : State → ℕ → ℕ → List ℕ → List ℕ
   path s zero j rest = rest
   path s (suc d) j rest = path s d (parent C s j) (slotIn C s j ∷ rest)
+
+  -- the table d steps over j
+  unfoldable over : State → ℕ → ℕ → ℕ
+  over s zero j = j
+  over s (suc d) j = over s d (parent C s j)
+
+  over-step : (s : State) (e j : ℕ) → over s (suc e) j ≡ parent C s (over s e j)
+  unfolding over
+  over-step s zero j = refl
+  over-step s (suc e) j = over-step s e (parent C s j)
+
+  path-front : (s : State) (e j : ℕ) (rest : List ℕ) → path s (suc e) j rest ≡ slotIn C s (over s e j) ∷ path s e j rest
+  unfolding path over
+  path-front s zero j rest = refl
+  path-front s (suc e) j rest = path-front s e (parent C s j) (slotIn C s j ∷ rest)
+
+  -- the slots are those that the ledger names, up from j
+  record Named (s : State) (k : ℕ) (slots : List ℕ) (j : ℕ) : Type 0 where
+    top : over s (length slots) j ≡ k
+    same : slots ≡ path s (length slots) j []
+    deep : levelIn C s j ≡ levelIn C s k + length slots
 
 module _ {C : Codec} {s : State} where
   -- ---- every used table hangs from a root
@@ -63,13 +85,36 @@ module _ {C : Codec} {s : State} where
           let back = under-back S under in
           go d (parent C s j) (slotIn C s j ∷ rest) t (back .1) (down (refers-points (back .0 .used) (hangs-refers (under .used) (back .0))) to)
 
-  -- ---- exactly one slot of a used table refers to it
-
   -- whatever points to table c refers to it, so it is the slot that c's number names
   pub once : {k i c : ℕ} → Sound C s → Points C s k i c → Refers C s k i c
   once {k} {i} {c} S at =
       let n = S .names k i (at .used) (at .table) in
       subst (λ (c : ℕ). Refers C s k i c) (sym (refers-child (n .1)) ∙ at .names) (n .1)
+
+  -- ---- by one path alone: the ledger names each of its slots
+
+  named : {k j : ℕ} {slots : List ℕ} → Sound C s → Reaches C s k slots j → Named C s k slots j
+  unfolding path over
+  named S here = record { top = refl; same = refl; deep = omega arith }
+  named S (down {k = k} {i = i} {j = j} {rest = rest} at to) =
+      let n = named S to in
+      let r = once S at in
+      record {
+        top = over-step C s (length rest) j ∙ ap (parent C s) (n .top) ∙ r .from;
+        same =
+            ap (λ (x : ℕ). x ∷ rest) (sym (r .at) ∙ sym (ap (slotIn C s) (n .top)))
+            ∙ ap (λ (l : List ℕ). slotIn C s (over C s (length rest) j) ∷ l) (n .same) ∙ sym (path-front C s (length rest) j []);
+        deep = omega (arith, n .deep, refers-level r);
+      }
+
+  pub one-path : {k j : ℕ} {slots slots′ : List ℕ} → Sound C s → Reaches C s k slots j → Reaches C s k slots′ j → slots ≡ slots′
+  one-path {k} {j} {slots} {slots′} S a b =
+      let n = named S a in
+      let m = named S b in
+      let same : length slots ≡ length slots′ = omega (arith, n .deep, m .deep) in
+      n .same ∙ ap (λ (d : ℕ). path C s d j []) same ∙ sym (m .same)
+
+  -- ---- exactly one slot of a used table refers to it
 
   pub once-only : {k k′ i i′ c : ℕ} → Sound C s → Points C s k i c → Points C s k′ i′ c → (k ≡ k′) × (i ≡ i′)
   once-only S at at′ = let r = once S at in let r′ = once S at′ in (sym (r .from) ∙ r′ .from, sym (r .at) ∙ r′ .at)

@@ -17,4 +17,5 @@ pub mod Move
 pub mod Compact
 -- what layer 3 sees
 pub mod Walk
+pub mod CompactWalk
 pub mod Nodes

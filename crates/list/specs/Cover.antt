@@ -1,5 +1,5 @@
--- The lines of a region are the walk: ascending, end to end from the region's start to its end, none empty; and at every address of a line the walk ends in
--- the line's word, at its level. Leans on `Lines`, `Page`. Assumes nothing.
+-- The lines of a region are the walk: ascending, end to end from the region's start to its end, none empty; a line lies in one entry, and at every address of
+-- it the walk ends in the line's word, at its level. Leans on `Lines`, `Page`. Assumes nothing.
 use mathlib.Core.Path.{_≡_, refl, sym, _∙_}
 use mathlib.Core.List.{List, [], _∷_, _++_}
 use mathlib.Core.Logic.{_⊎_, inl, inr, _≢_}
@@ -33,7 +33,7 @@ covers-append h (done q) d = rw q d
 covers-append h (next a b c p t) d = next a b (omega arith) p (covers-append h t d)
 
 -- what follows of each line between s and e
-covers-map : {P Q : Line → Type 0} {e s from : ℕ} {ls : List Line} → from ≤ s → ((l : Line) → from ≤ l .start → l .end ≤ e → P l → Q l) → Covers P e s ls → Covers Q e s ls
+pub covers-map : {P Q : Line → Type 0} {e s from : ℕ} {ls : List Line} → from ≤ s → ((l : Line) → from ≤ l .start → l .end ≤ e → P l → Q l) → Covers P e s ls → Covers Q e s ls
 covers-map h f (done q) = done q
 covers-map h f (next {l = l} a b c p t) = next a b c (f l (omega arith) c p) (covers-map (omega arith) f t)
 
@@ -55,8 +55,9 @@ in-entry level s a l u =
     div-eq-of-lt-le (sizeAt level) (omega arith) (omega arith)
 
 module _ (base n : ℕ) (words : List ℕ) where
-  -- at every address of the line the walk ends in its word, at its level, unless it leaves the pool
+  -- the line lies in one entry of its level, and at every address of it the walk ends in its word, at its level, unless it leaves the pool
   pub record Meets (left k : ℕ) (l : Line) : Type 0 where
+    pub entry : (a : ℕ) → l .start ≤ a → a < l .end → a / sizeAt (l .level) ≡ l .start / sizeAt (l .level)
     pub meets : (a : ℕ) → l .start ≤ a → a < l .end → reachFrom base n words a left k ≢ away → reachFrom base n words a left k ≡ at (l .level) (l .word)
 
   -- one chunk of table k
@@ -72,12 +73,13 @@ module _ (base n : ℕ) (words : List ℕ) where
 
     one : ((a : ℕ) → r .start .0 ≤ a → a < r .end .0 → reachFrom base n words a (3 - level) k ≢ away → reachFrom base n words a (3 - level) k ≡ at level w)
         → Covers (Meets (3 - level) k) (r .end .0) (r .start .0) (line r w level ∷ [])
-    one h = next refl some (omega arith) (record { meets = h }) (done refl)
+    one h = next refl some (omega arith) (record { entry = λ a l u. in-entry level (r .start .0) a l (omega arith); meets = h }) (done refl)
 
     chunk-covers : (x : Sub) → subOf base n level w ≡ x → Covers (Meets (3 - level) k) (r .end .0) (r .start .0) (linesAt base n words level k r)
     chunk-covers (Table j) e =
         rw (lines-table base n words level k r refl refl j e)
         (covers-map {from = r .start .0} (omega arith) (λ l from to p. record {
+          entry = p .entry;
           meets = λ a s u stays.
               let on = reach-table base n words a level k here (same a (omega arith) (omega arith)) j e in
               on ∙ p .meets a s u (λ q. stays (on ∙ q));
@@ -130,6 +132,11 @@ ascending (done q) i j k h = absurd (omega arith)
 ascending (next a b c p t) i zero k h = absurd (omega arith)
 ascending (next a b c p t) zero (suc j) k h = inside t j (omega arith) .0
 ascending (next a b c p t) (suc i) (suc j) k h = ascending t i j (omega arith) (omega arith)
+
+pub holds : {P : Line → Type 0} {e s : ℕ} {ls : List Line} → Covers P e s ls → (i : ℕ) → i < length ls → P (nth ls i)
+holds (done q) i h = absurd (omega arith)
+holds (next a b c p t) zero h = p
+holds (next a b c p t) (suc i) h = holds t i (omega arith)
 
 -- every address of the region lies in a line, and P holds of that line
 pub record InLine (P : Line → Type 0) (ls : List Line) (a : ℕ) : Type 0 where

@@ -1,16 +1,15 @@
 -- The call list: refusals 1, 2, 5, 6, 8, 11 in this order, else the lines. Leans on `Lines`. Assumes nothing.
-use mathlib.Core.Path.{_≡_, refl, sym, ap, _∙_}
-use mathlib.Core.Bool.{Bool, true, false, cond, _&&_, _||_}
+use mathlib.Core.Path.{_≡_, sym, ap, _∙_}
+use mathlib.Core.Bool.{true, false, cond}
 use mathlib.Core.List.{List, _++_}
-use mathlib.Core.Logic.{_⊎_, inl, inr}
 use Prim.Native.Nat.{ℕ, _+_, _*_, _-_, _^_, _≤_, _<_}
 use native.Mathlib.Omega.{arith}
 use lib.Dec.{leb, ltb, ltb→lt}
 use lib.ListN.{length, drop}
-use borrow.Author.Tests.{le-leb, lt-leb, le-ltb, lt-ltb}
-use Rattle.laws.specs.Size.{sizeAt, size-high, up}
+use borrow.Author.Tests.{le-leb, lt-leb}
+use Rattle.laws.specs.Size.{up}
 use Rattle.laws.specs.Part.{putPart}
-use Rattle.laws.specs.Test.{byBool, le-or}
+use Rattle.laws.specs.Test.{byBool}
 use Rattle.address.specs.Address.{alignUp}
 use Rattle.region.specs.Region.{rounded}
 use Rattle.region.specs.declared.MemoryRegion.{MemoryRegion}
@@ -22,7 +21,7 @@ use Rattle.pool.specs.declared.Refusal.{Refusal}
 use Rattle.pool.specs.declared.Refusal.the-variants.{Shape, End, Unsound, Short}
 use Rattle.pool.specs.declared.Outcome.{Outcome}
 use Rattle.pool.specs.declared.Outcome.the-variants.{Accepted, Refused}
-use Rattle.verify.specs.Verify.{endFits, verify, verified-span}
+use Rattle.verify.specs.Verify.{endFits, verify, verified-span, span-length}
 use Rattle.list.specs.Lines.{Line, numbers, length-numbers, linesFrom}
 use Rattle.list.specs.declared.Listed.{Listed}
 use Rattle.list.specs.declared.Listed.the-variants.{Lines, Refused as refused}
@@ -115,9 +114,14 @@ up-below : (v a : ℕ) → alignUp v a < 2 ^ 64
 unfolding alignUp
 up-below v a = byBool (ltb (up v a) (2 ^ 64)) (λ e. rw e (ltb→lt (up v a) (2 ^ 64) (rw e tt))) (λ e. rw e (omega arith))
 
-pub verified-length : (h : Handle) (start end : ℕ) → verifyEnds h start end ≡ Accepted → {r : MemoryRegion} → r ≡ rounded start end → r .end .0 - r .start .0 ≤ 2 ^ 48
-unfolding verifyEnds rounded
-verified-length h start end e q = rw q (byBool (endFits end) (λ f. verified-span h (rounded start end) (rw f at e) (up-below end 4096)) (λ f. absurd (never (rw f at e))))
+pub ends-verified : (h : Handle) (start end : ℕ) → verifyEnds h start end ≡ Accepted → verify h (rounded start end) ≡ Accepted
+unfolding verifyEnds
+ends-verified h start end e = byBool (endFits end) (λ f. rw f at e) (λ f. absurd (never (rw f at e)))
   where
     never : {x : Refusal} → _≡_ {A = Outcome} (Refused x) Accepted → ⊥
     never q = let z : _≡_ {A = ℕ} 0 1 = cc in omega arith
+
+pub verified-length : (h : Handle) (start end : ℕ) → verifyEnds h start end ≡ Accepted → {r : MemoryRegion} → r ≡ rounded start end → r .end .0 - r .start .0 ≤ 2 ^ 48
+unfolding rounded
+verified-length h start end e q =
+    rw q (span-length (h .range) (h .level) (rounded start end) (verified-span h (rounded start end) (ends-verified h start end e)) (up-below end 4096))

@@ -15,6 +15,8 @@ use Rattle.walk.specs.declared.Looked.{Looked}
 use Rattle.walk.specs.declared.Looked.the-variants as looked
 use Rattle.list.specs.declared.Listed.{Listed}
 use Rattle.list.specs.declared.Listed.the-variants as listed
+use Rattle.modify.specs.declared.Modified.{Modified}
+use Rattle.modify.specs.declared.Modified.the-variants as modified
 
 -- the number that is returned, and `answer` as the call leaves it
 pub record Slip : Type 0 where
@@ -59,6 +61,12 @@ toldLooked (looked.Refused r) old = refused r old
 unfoldable pub toldListed : Listed → List ℕ → Slip
 toldListed (listed.Lines lines) old = accepted (lines ∷ []) old
 toldListed (listed.Refused r) old = refused r old
+
+-- modify: the tables in use and, live, the count of numbers
+unfoldable pub toldModified : Modified → List ℕ → Slip
+toldModified (modified.Tables tables) old = accepted (tables ∷ []) old
+toldModified (modified.Live tables numbers) old = accepted (tables ∷ numbers ∷ []) old
+toldModified (modified.Refused r) old = refused r old
 
 -- ---- laws: values stored one by one
 

@@ -1,7 +1,7 @@
 -- The calls with numbers alone: a handle made of three numbers, and each call's answer and lent state for every input.
 -- A call is a definition and two laws, one for each way through its code. Assumes nothing.
 use mathlib.Core.Path.{_≡_, ap, _∙_}
-use mathlib.Core.Bool.{cond}
+use mathlib.Core.Bool.{Bool, not, cond}
 use mathlib.Core.List.{List}
 use Prim.Native.Nat.{ℕ, _≤_, _<_}
 use lib.Dec.{eqb, leb}
@@ -21,7 +21,10 @@ use Rattle.walk.specs.declared.Looked.{Looked}
 use Rattle.list.specs.Listing.{listCall, Listing, listing}
 use Rattle.list.specs.declared.Listed.{Listed}
 use Rattle.map.specs.Call.{mapCall}
-use Rattle.ptb.specs.Answer.{Slip, slip, over, refused, told, toldCounted, toldLooked, toldListed}
+use Rattle.compact.specs.Call.{compactCall}
+use Rattle.modify.specs.Call.{modifyCall, Modifying, modifying}
+use Rattle.modify.specs.declared.Modified.{Modified}
+use Rattle.ptb.specs.Answer.{Slip, slip, over, refused, told, toldCounted, toldLooked, toldListed, toldModified}
 
 -- 0 is lower, 1 upper; a call refuses any other range first
 unfoldable pub rangeOf : ℕ → VaRange
@@ -130,6 +133,58 @@ module _ (base level range start end frame flags constraints : ℕ) (s : St) (ol
   map-told {s′ = s′} l e m t =
       rw (le-leb range 1 l)
       (ap (λ (y : Slip). out y s′) t ∙ ap (toldCount old) (m ∙ ap (λ (g : Handle). mapCall g start end frame flags constraints s) e))
+
+-- ---- compact
+
+unfoldable pub compactFace : ℕ → ℕ → ℕ → St → List ℕ → Out Slip
+compactFace base level range s old = cond (leb range 1) (toldCount old (compactCall (handleOf base level range) s)) (out (refused Shape old) s)
+
+module _ (base level range : ℕ) (s : St) (old : List ℕ) where
+  pub compact-no-range : 1 < range → out (slip 1 old) s ≡ compactFace base level range s old
+  unfolding compactFace refused over
+  compact-no-range h = rw (lt-leb range 1 h)
+
+  pub compact-told : {h : Handle} {o : Counted} {s′ : St} {x : Slip} → range ≤ 1 → h ≡ handleOf base level range → out o s′ ≡ compactCall h s → x ≡ toldCounted o old
+      → out x s′ ≡ compactFace base level range s old
+  unfolding compactFace
+  compact-told {s′ = s′} l e m t =
+      rw (le-leb range 1 l) (ap (λ (y : Slip). out y s′) t ∙ ap (toldCount old) (m ∙ ap (λ (g : Handle). compactCall g s) e))
+
+-- ---- modify
+
+-- an answer, the state and the list that it leaves
+pub record Changed : Type 0 where
+  pub answer : Slip
+  pub state : St
+  pub list : List ℕ
+
+abbrev pub changed : Slip → St → List ℕ → Changed
+changed a s l = record { answer = a; state = s; list = l }
+
+-- live is true for any value but 0
+abbrev pub liveOf : ℕ → Bool
+liveOf live = not (eqb live 0)
+
+-- the answer told, and what it leaves
+abbrev pub toldModify : List ℕ → Modifying → Changed
+toldModify old m = changed (toldModified (m .answer) old) (m .state) (m .list)
+
+unfoldable pub modifyFace : ℕ → ℕ → ℕ → ℕ → ℕ → ℕ → ℕ → ℕ → St → List ℕ → List ℕ → Changed
+modifyFace base level range start end set clear live s list old =
+    cond (leb range 1) (toldModify old (modifyCall (handleOf base level range) start end set clear (liveOf live) s list)) (changed (refused Shape old) s list)
+
+module _ (base level range start end set clear live : ℕ) (s : St) (list old : List ℕ) where
+  pub modify-no-range : 1 < range → changed (slip 1 old) s list ≡ modifyFace base level range start end set clear live s list old
+  unfolding modifyFace refused over
+  modify-no-range h = rw (lt-leb range 1 h)
+
+  pub modify-told : {h : Handle} {o : Modified} {s′ : St} {list′ : List ℕ} {x : Slip} → range ≤ 1 → h ≡ handleOf base level range
+      → modifying o s′ list′ ≡ modifyCall h start end set clear (liveOf live) s list → x ≡ toldModified o old
+      → changed x s′ list′ ≡ modifyFace base level range start end set clear live s list old
+  unfolding modifyFace
+  modify-told {s′ = s′} {list′ = list′} l e m t =
+      rw (le-leb range 1 l)
+      (ap (λ (y : Slip). changed y s′ list′) t ∙ ap (toldModify old) (m ∙ ap (λ (g : Handle). modifyCall g start end set clear (liveOf live) s list) e))
 
 -- ---- page image
 

@@ -1,12 +1,13 @@
 // What a caller outside sees of an answer: its number is returned, its values go over the front of `answer`.
 use list::Listed;
+use modify::Modified;
 use pool::Counted;
 use pool::Outcome;
 use pool::Refusal;
 use walk::Looked;
 ghost use mathlib.Core.Path.{_≡_};
 ghost use mathlib.Core.List.{[], _∷_};
-ghost use Rattle.ptb.specs.Answer.{slip, over, accepted, refused, told, toldCounted, toldLooked, toldListed};
+ghost use Rattle.ptb.specs.Answer.{slip, over, accepted, refused, told, toldCounted, toldLooked, toldListed, toldModified};
 
 // One value.
 fn one(number: u64, first: u64, answer: &mut [u64; 4]) -> u64
@@ -94,5 +95,16 @@ pub fn answer_listed(listed: Listed, answer: &mut [u64; 4]) -> u64
     match listed {
         Listed::Lines(lines) => one(0, lines as u64, answer),
         Listed::Refused(refusal) => answer_refusal(refusal, answer),
+    }
+}
+
+// Modify: the tables in use and, live, the count of numbers.
+pub fn answer_modified(modified: Modified, answer: &mut [u64; 4]) -> u64
+    ensures { λ r. ⌜ slip r (now (answer .exit)) ≡ toldModified modified (now (answer .entry)) ⌝ }
+{
+    match modified {
+        Modified::Tables(tables) => one(0, tables as u64, answer),
+        Modified::Live(tables, numbers) => two(0, tables as u64, numbers as u64, answer),
+        Modified::Refused(refusal) => answer_refusal(refusal, answer),
     }
 }

@@ -14,7 +14,7 @@ ghost use mathlib.Core.Path.{_≡_};
 ghost use Rattle.pool.specs.State.{st};
 ghost use Rattle.pool.specs.Refuse.{out};
 ghost use Rattle.ptb.specs.Answer.{slip};
-ghost use Rattle.ptb.specs.Face.{rangeOf, handleOf, makeFace, checkFace, lookUpFace, filled, listFace, mapFace, imageFace};
+ghost use Rattle.ptb.specs.Face.{rangeOf, handleOf, makeFace, checkFace, lookUpFace, filled, listFace, mapFace, changed, modifyFace, compactFace, imageFace};
 
 // The number of the upper range, the highest there is.
 const UPPER: u64 = 1;
@@ -156,6 +156,62 @@ pub extern "C" fn ptb_map(
         flags,
         Constraints(constraints),
     );
+    answer::answer_counted(counted, answer)
+}
+
+// Sets and clears bits in the valid blocks and pages of the region; live, lists the page number of each whose word changed.
+#[no_mangle]
+pub extern "C" fn ptb_modify(
+    words: &mut [u64],
+    ledger: &mut [u32],
+    base: u64,
+    level: u64,
+    range: u64,
+    start: u64,
+    end: u64,
+    set: u64,
+    clear: u64,
+    live: u64,
+    list: &mut [u64],
+    answer: &mut [u64; 4],
+) -> u64
+    ensures { λ r. ⌜ changed (slip r (now (answer .exit))) (st (now (words .exit)) (now (ledger .exit))) (now (list .exit)) ≡ modifyFace base level range start end set clear live (st (now (words .entry)) (now (ledger .entry))) (now (list .entry)) (now (answer .entry)) ⌝ }
+{
+    if UPPER < range {
+        return 1;
+    }
+    let handle = handle_of(base, level, range);
+    let modified = modify::call::modify(
+        words,
+        ledger,
+        handle,
+        VirtualAddress(start),
+        VirtualAddress(end),
+        set,
+        clear,
+        live != 0,
+        list,
+    );
+    answer::answer_modified(modified, answer)
+}
+
+// Frees each table but the root that is all zero, from the leaves up.
+#[no_mangle]
+pub extern "C" fn ptb_compact(
+    words: &mut [u64],
+    ledger: &mut [u32],
+    base: u64,
+    level: u64,
+    range: u64,
+    answer: &mut [u64; 4],
+) -> u64
+    ensures { λ r. ⌜ out (slip r (now (answer .exit))) (st (now (words .exit)) (now (ledger .exit))) ≡ compactFace base level range (st (now (words .entry)) (now (ledger .entry))) (now (answer .entry)) ⌝ }
+{
+    if UPPER < range {
+        return 1;
+    }
+    let handle = handle_of(base, level, range);
+    let counted = compact::compact(words, ledger, handle);
     answer::answer_counted(counted, answer)
 }
 

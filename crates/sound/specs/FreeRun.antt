@@ -42,7 +42,7 @@ kept-trans a b = record { number = b .number ∙ a .number; words = λ i. b .wor
 zeroed-kept : {q q′ : St} {j : ℕ} → Zeroed q j → Kept q q′ j → Zeroed q′ j
 zeroed-kept a b = record { number = b .number ∙ a .number; words = λ i. b .words i ∙ a .words i }
 
-size-trans : {q q′ q″ : St} → SameSize q q′ → SameSize q′ q″ → SameSize q q″
+pub size-trans : {q q′ q″ : St} → SameSize q q′ → SameSize q′ q″ → SameSize q q″
 size-trans a b = record { same-tables = b .same-tables ∙ a .same-tables; same-words = b .same-words ∙ a .same-words }
 
 -- s is the sound pool that the run is measured by; the run itself goes over other states, whose words under the top are those of s

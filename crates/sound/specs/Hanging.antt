@@ -15,7 +15,7 @@ use Rattle.pool.specs.Refuse.{Shaped}
 use Rattle.pool.specs.declared.Handle.{Handle}
 use Rattle.forest.specs.Sound.{TableWord, parent, slotIn, Refers, Hangs}
 use Rattle.forest.specs.Under.{Under, hangs-refers, refers-table}
-use Rattle.forest.specs.Hang.{here as at-last, down as by, Points, Reaches, grounded, reached, path, once, root-free}
+use Rattle.forest.specs.Hang.{here as at-last, down as by, Points, Reaches, grounded, reached, path, once, root-free, one-path as one-way}
 use Rattle.forest.specs.Nodes.{nodes, inUse as countInUse, used-nodes}
 use Rattle.sound.specs.Alloc.{used-sum}
 use Rattle.sound.specs.Codec.{Placed, shaped-placed, childOf, child-link, codecOf, view, word-in, used-in, table-in, rootTree}
@@ -121,6 +121,14 @@ module _ {h : Handle} {s : St} (shape : Shaped h s) (P : SoundPool h s) where
       follow : {k j : ℕ} {slots : List ℕ} → Reaches (codecOf h (shaped-placed shape)) (view s) k slots j → Follows h s k slots j
       follow at-last = here
       follow (by at rest) = down (refers-leads (at .used) (once (pool-sound (shaped-placed shape) P) at)) (follow rest)
+
+  -- by one path alone
+  pub one-path : {j : ℕ} {slots slots′ : List ℕ} → Follows h s 0 slots j → Follows h s 0 slots′ j → slots ≡ slots′
+  one-path a b = one-way (pool-sound (shaped-placed shape) P) (points a) (points b)
+    where
+      points : {k j : ℕ} {slots : List ℕ} → Follows h s k slots j → Reaches (codecOf h (shaped-placed shape)) (view s) k slots j
+      points here = at-last
+      points (down leads rest) = by (leads-points leads) (points rest)
 
   -- ---- exactly one slot of a used table refers to a used table other than the root
 

@@ -18,18 +18,22 @@ use Rattle.tree.specs.Commute.{Apart, apart-flip}
 use Rattle.tree.specs.Root.{mapTree, mapMade, map-fine, map-seen, map-count, valid-grows, map-commute}
 
 -- ns is a reordering of ms
-abbrev pub Reorders : List Map → List Map → Type 0
+abbrev pub Reorders : {A : Type 0} → List A → List A → Type 0
 Reorders ms ns = List·Permᴰ ms ns
 
--- a fact of every map of a list
-abbrev pub Each : (Map → Type 0) → List Map → Type 0
+-- a fact of every item of a list
+abbrev pub Each : {A : Type 0} → (A → Type 0) → List A → Type 0
 Each P [] = Unit {0}
 Each P (m ∷ ms) = P m × Each P ms
 
--- no two of them share a page
+-- a fact of every two of them
+abbrev pub Pairs : {A : Type 0} → (A → A → Type 0) → List A → Type 0
+Pairs R [] = Unit {0}
+Pairs R (m ∷ ms) = Each (R m) ms × Pairs R ms
+
+-- no two maps share a page
 abbrev pub Pairwise : List Map → Type 0
-Pairwise [] = Unit {0}
-Pairwise (m ∷ ms) = Each (Apart m) ms × Pairwise ms
+Pairwise ms = Pairs Apart ms
 
 -- a map that may be given, with VALID
 pub record ValidMap (m : Map) : Type 0 where
@@ -38,18 +42,21 @@ pub record ValidMap (m : Map) : Type 0 where
 
 -- ---- a reordering keeps what is asked of a list
 
-pub each-reorders : (P : Map → Type 0) {ms ns : List Map} → Reorders ms ns → Each P ms → Each P ns
+pub each-reorders : {A : Type 0} (P : A → Type 0) {ms ns : List A} → Reorders ms ns → Each P ms → Each P ns
 each-reorders P List·Permᴰ·nil h = h
 each-reorders P (List·Permᴰ·cons e d) h = (subst P e (h .0), each-reorders P d (h .1))
 each-reorders P (List·Permᴰ·swap p q) h = (subst P q (h .1 .0), (subst P p (h .0), h .1 .1))
 each-reorders P (List·Permᴰ·trans c d) h = each-reorders P d (each-reorders P c h)
 
+pub pairs-reorders : {A : Type 0} (R : A → A → Type 0) → ((m n : A) → R m n → R n m) → {ms ns : List A} → Reorders ms ns → Pairs R ms → Pairs R ns
+pairs-reorders R flip List·Permᴰ·nil h = h
+pairs-reorders R flip (List·Permᴰ·cons {a = a} {l₂ = k} e d) h = (subst (λ m. Each (R m) k) e (each-reorders (R a) d (h .0)), pairs-reorders R flip d (h .1))
+pairs-reorders R flip (List·Permᴰ·swap {a = a} {b = b} {l = k} p q) h =
+    ((subst₂ R q p (flip a b (h .0 .0)), subst (λ m. Each (R m) k) q (h .1 .0)), (subst (λ m. Each (R m) k) p (h .0 .1), h .1 .1))
+pairs-reorders R flip (List·Permᴰ·trans c d) h = pairs-reorders R flip d (pairs-reorders R flip c h)
+
 pub pairwise-reorders : {ms ns : List Map} → Reorders ms ns → Pairwise ms → Pairwise ns
-pairwise-reorders List·Permᴰ·nil h = h
-pairwise-reorders (List·Permᴰ·cons {a = a} {l₂ = k} e d) h = (subst (λ (m : Map). Each (Apart m) k) e (each-reorders (Apart a) d (h .0)), pairwise-reorders d (h .1))
-pairwise-reorders (List·Permᴰ·swap {a = a} {b = b} {l = k} p q) h =
-    ((subst₂ Apart q p (apart-flip a b (h .0 .0)), subst (λ (m : Map). Each (Apart m) k) q (h .1 .0)), (subst (λ (m : Map). Each (Apart m) k) p (h .0 .1), h .1 .1))
-pairwise-reorders (List·Permᴰ·trans c d) h = pairwise-reorders d (pairwise-reorders c h)
+pairwise-reorders reorders apart = pairs-reorders Apart apart-flip reorders apart
 
 -- ---- what a page shows after the maps of a list
 

@@ -2,7 +2,7 @@
 use mathlib.Core.Path.{_≡_, refl, sym, ap, _∙_}
 use mathlib.Core.Bool.{Bool, true, false, cond, _&&_, _||_}
 use mathlib.Core.Logic.{_⊎_, inl, inr, ⊎-elim}
-use Prim.Native.Nat.{ℕ, _+_, _*_, _-_, _^_, _≤_, _<_}
+use Prim.Native.Nat.{ℕ, _*_, _-_, _^_, _≤_, _<_}
 use native.Mathlib.Omega.{arith}
 use lib.Dec.{leb, ltb}
 use borrow.Author.Tests.{le-leb, lt-leb, le-ltb, lt-ltb}
@@ -91,32 +91,37 @@ verify-forwards h r l = rw (le-ltb (r .end .0) (r .start .0) l)
 pub verified-forwards : (h : Handle) (r : MemoryRegion) → verify h r ≡ Accepted → r .start .0 ≤ r .end .0
 verified-forwards h r e = ⊎-elim (λ h. h) (λ l. let z : _≡_ {A = Outcome} (Refused (RegionBackwards r)) Accepted = verify-backwards h r l ∙ e in let q : _≡_ {A = ℕ} 0 1 = cc in absurd (omega arith)) (le-or (r .start .0) (r .end .0))
 
--- it is no longer than the largest span
-verified-range : (range : VaRange) (level : ℕ) (r : MemoryRegion) → inRange range level r ≡ Accepted → r .end .0 < 2 ^ 64 → r .end .0 - r .start .0 ≤ 2 ^ 48
-unfolding inRange span
-verified-range Lower level r e h = go (le-or (2 ^ 63) (r .start .0)) (le-or (r .end .0) (span level))
+-- it lies in the root's span
+abbrev pub InSpan : VaRange → ℕ → MemoryRegion → Type 0
+InSpan Lower level r = r .end .0 ≤ span level
+InSpan Upper level r = 2 ^ 64 - span level ≤ r .start .0
+
+ranged-span : (range : VaRange) (level : ℕ) (r : MemoryRegion) → inRange range level r ≡ Accepted → InSpan range level r
+unfolding inRange
+ranged-span Lower level r e = go (le-or (2 ^ 63) (r .start .0)) (le-or (r .end .0) (span level))
   where
     never : {x : Refusal} → _≡_ {A = Outcome} (Refused x) Accepted → ⊥
     never q = let z : _≡_ {A = ℕ} 0 1 = cc in omega arith
 
-    go : (2 ^ 63 ≤ r .start .0) ⊎ (r .start .0 < 2 ^ 63) → (r .end .0 ≤ span level) ⊎ (span level < r .end .0) → r .end .0 - r .start .0 ≤ 2 ^ 48
+    go : (2 ^ 63 ≤ r .start .0) ⊎ (r .start .0 < 2 ^ 63) → (r .end .0 ≤ span level) ⊎ (span level < r .end .0) → r .end .0 ≤ span level
     go (inl l) m = absurd (never (rw (le-leb (2 ^ 63) (r .start .0) l) at e))
     go (inr l) (inr m) = absurd (never (rw (lt-leb (2 ^ 63) (r .start .0) l, lt-ltb (span level) (r .end .0) m) at e))
-    go (inr l) (inl m) = let b = size-high level in omega arith
-verified-range Upper level r e h = go (le-or (2 ^ 64 - span level) (r .start .0))
+    go (inr l) (inl m) = m
+ranged-span Upper level r e = go (le-or (2 ^ 64 - span level) (r .start .0))
   where
     either : (b : Bool) → cond (b || true) (Refused (AddressRange (r .start))) Accepted ≡ Accepted → ⊥
     either true q = let z : _≡_ {A = ℕ} 0 1 = cc in omega arith
     either false q = let z : _≡_ {A = ℕ} 0 1 = cc in omega arith
 
-    go : (2 ^ 64 - span level ≤ r .start .0) ⊎ (r .start .0 < 2 ^ 64 - span level) → r .end .0 - r .start .0 ≤ 2 ^ 48
-    go (inl l) = let b = size-high level in omega arith
+    go : (2 ^ 64 - span level ≤ r .start .0) ⊎ (r .start .0 < 2 ^ 64 - span level) → 2 ^ 64 - span level ≤ r .start .0
+    go (inl l) = l
     go (inr l) = absurd (either (ltb (r .start .0) (2 ^ 63)) (rw (lt-ltb (r .start .0) (2 ^ 64 - span level) l) at e))
 
-pub verified-span : (h : Handle) (r : MemoryRegion) → verify h r ≡ Accepted → r .end .0 < 2 ^ 64 → r .end .0 - r .start .0 ≤ 2 ^ 48
-unfolding verify
-verified-span h r e below = go (le-or (r .start .0) (r .end .0))
-  where
-    go : (r .start .0 ≤ r .end .0) ⊎ (r .end .0 < r .start .0) → r .end .0 - r .start .0 ≤ 2 ^ 48
-    go (inl l) = verified-range (h .range) (h .level) r (rw (le-ltb (r .end .0) (r .start .0) l) at e) below
-    go (inr l) = omega arith
+pub verified-span : (h : Handle) (r : MemoryRegion) → verify h r ≡ Accepted → InSpan (h .range) (h .level) r
+verified-span h r e = ranged-span (h .range) (h .level) r (verify-forwards h r (verified-forwards h r e) ∙ e)
+
+-- it is no longer than the largest span
+pub span-length : (range : VaRange) (level : ℕ) (r : MemoryRegion) → InSpan range level r → r .end .0 < 2 ^ 64 → r .end .0 - r .start .0 ≤ 2 ^ 48
+unfolding span
+span-length Lower level r l below = let b = size-high level in omega arith
+span-length Upper level r l below = let b = size-high level in omega arith

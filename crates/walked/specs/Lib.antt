@@ -1,2 +1,6 @@
--- The Arm walk of a sound pool.
+-- The Arm walk of a pool and of its tree; list and look up against it.
+pub mod Any
 pub mod Walked
+pub mod Alike
+pub mod Listed
+pub mod AsBefore

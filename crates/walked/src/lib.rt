@@ -1,1 +1,1 @@
-// Theorems alone: in a sound pool the Arm walk stays in the pool, and is the walk of its tree.
+// Theorems alone: the Arm walk of a pool is the walk of its tree; list and look up of a sound pool are that walk.

@@ -1,0 +1,179 @@
+use mathlib.Core.Logic.{⊎-elim}
+use mathlib.Core.Path.{_≡_, refl, sym, ap, _∙_}
+use Prim.Native.Nat.{ℕ, _+_, _-_, _≤_, _<_}
+use native.Mathlib.Omega.{arith}
+use lib.ListN.{length}
+use Rattle.laws.specs.Slot.{iter, iter-none, iter-step}
+use Rattle.entry.specs.Sub.{sub-below}
+use Rattle.entry.proofs.Tags.{no-table}
+use Rattle.pool.specs.State.{St, st}
+use Rattle.pool.specs.declared.Handle.{Handle}
+use Rattle.compact.specs.Compact.{releaseEmpty, compactEntry, compactTable, entry-table, entry-outside, entry-leaf, compact-down, compact-last}
+use borrow.Fn.Kinds.{In}
+use borrow.Fn.PlainCycle.{Measures, is, falls, and}
+use Rattle.compact.proofs.compact_subtables.Reads as reads
+use Rattle.compact.proofs.compact_subtables.Kinds as kinds
+use Rattle.compact.proofs.+compact_subtables.Lts-compact_subtables as lts
+use Rattle.compact.proofs.release_empty.Reads as release-empty-reads
+use Rattle.entry.proofs.subtable.Reads as subtable-reads
+use Rattle.compact.proofs.+compact_subtables.{statement}
+use Rattle.compact.proofs.+compact_subtables.Tie.{close}
+
+abbrev μ : Measures 2 kinds.ps ℕ
+μ κs a = 3 - a .1 .1 .1 .1 .0
+
+abbrev started : ℕ → In 2 kinds.ps
+started t = and 2 kinds.ps (is 2 kinds.ps μ t) reads.Pre
+
+abbrev fewer : ℕ → In 2 kinds.ps
+fewer t = and 2 kinds.ps (falls 2 kinds.ps _<_ μ t) reads.Pre
+
+abbrev calls : ℕ → lts.Claims
+calls t = (subtable-reads.Asked, subtable-reads.Learnt, fewer t, reads.Post, release-empty-reads.Asked, release-empty-reads.Learnt)
+
+-- what the call one level down does
+abbrev below : ℕ → Handle → ℕ → St → St
+below level handle = λ j t. compactTable (3 - (level + 1)) handle j t
+
+abbrev Inv-loop : lts.InvT-loop
+Inv-loop words₀ ledger₀ handle k level next₀ words ledger next =
+    (next ≤ 512) × (length words ≡ length words₀) × (length ledger ≡ length ledger₀)
+    × (st words ledger ≡ iter (compactEntry (below level handle) handle level k) next (st words₀ ledger₀))
+
+abbrev μ-loop : lts.MeasureT-loop
+μ-loop words₀ ledger₀ handle k level next₀ words ledger next = 512 - next
+
+-- src/lib.rt:50:9
+returns : (t : ℕ) → lts.Need-returns (calls t) (started t) reads.Post Inv-loop μ-loop
+returns t c =
+    let a = c .before .before .before .args in
+    compact-last (a .level) (a .handle) (a .k) (st (a .words .now) (a .ledger .now)) (omega arith)
+
+-- src/lib.rt:53:5
+loop-holds : (t : ℕ) → lts.Need-loop-holds (calls t) (started t) reads.Post Inv-loop μ-loop
+loop-holds t c = (omega arith, refl, refl, iter-none _ _)
+
+-- src/lib.rt:55:9
+add-next : (t : ℕ) → lts.Need-add-next (calls t) (started t) reads.Post Inv-loop μ-loop
+add-next t c = omega arith
+
+-- src/lib.rt:56:76
+mul-subtable : (t : ℕ) → lts.Need-mul-subtable (calls t) (started t) reads.Post Inv-loop μ-loop
+mul-subtable t c = omega arith
+
+-- src/lib.rt:56:76
+add-subtable : (t : ℕ) → lts.Need-add-subtable (calls t) (started t) reads.Post Inv-loop μ-loop
+add-subtable t c = omega arith
+
+-- src/lib.rt:56:70
+mul-subtable-2 : (t : ℕ) → lts.Need-mul-subtable-2 (calls t) (started t) reads.Post Inv-loop μ-loop
+mul-subtable-2 t c = omega arith
+
+-- src/lib.rt:56:70
+slice-read-subtable : (t : ℕ) → lts.Need-slice-read-subtable (calls t) (started t) reads.Post Inv-loop μ-loop
+slice-read-subtable t c = omega arith
+
+-- src/lib.rt:56:13
+subtable-requires : (t : ℕ) → lts.Need-subtable-requires (calls t) (started t) reads.Post Inv-loop μ-loop
+subtable-requires t c κs = tt
+
+-- src/lib.rt:57:24
+enum-known-kind : (t : ℕ) → lts.Need-enum-known-kind (calls t) (started t) reads.Post Inv-loop μ-loop
+enum-known-kind t c = c .match .keys1
+
+-- src/lib.rt:53:5
+loop-less : (t : ℕ) → lts.Need-loop-less (calls t) (started t) reads.Post Inv-loop μ-loop
+loop-less t c = omega arith
+
+-- src/lib.rt:53:5
+loop-again : (t : ℕ) → lts.Need-loop-again (calls t) (started t) reads.Post Inv-loop μ-loop
+loop-again t c =
+    let at = c .before .before .before .before in
+    let a = c .before .before .before .before .before .before .before .before .args in
+    let s = st (at .loop .words) (at .loop .ledger) in
+    let sub = c .before .subtable in (
+      omega arith,
+      at .loop .inv .1,
+      at .loop .inv .2,
+      iter-step (compactEntry (below (a .level) (a .handle)) (a .handle) (a .level) (a .k)) (at .loop .next) (st (a .words .now) (a .ledger .now)) (at .loop .inv .3)
+          (⊎-elim (λ e. entry-outside (below (a .level) (a .handle)) (a .handle) (a .level) (a .k) (at .loop .next) s (sub .ensures) e)
+          (λ e. entry-leaf (below (a .level) (a .handle)) (a .handle) (a .level) (a .k) (at .loop .next) s (sub .ensures) e)
+          (no-table (sub .result) (c .match .keys2))),
+    )
+
+-- src/lib.rt:60:53
+add-compact-subtables : (t : ℕ) → lts.Need-add-compact-subtables (calls t) (started t) reads.Post Inv-loop μ-loop
+add-compact-subtables t c = omega arith
+
+-- src/lib.rt:60:9
+compact-subtables-requires : (t : ℕ) → lts.Need-compact-subtables-requires (calls t) (started t) reads.Post Inv-loop μ-loop
+compact-subtables-requires t c κs =
+    let sub = c .before .before .before .before .before .subtable in
+    (omega arith, (omega arith, sub-below _ _ _ _ _ (sym (sub .ensures) ∙ c .before .before .before .kind .given .1), omega arith))
+
+-- src/lib.rt:61:9
+release-empty-requires : (t : ℕ) → lts.Need-release-empty-requires (calls t) (started t) reads.Post Inv-loop μ-loop
+release-empty-requires t c κs =
+    let told = c .before .before .before .before .before .before .before .before .before .before in
+    let j = sub-below _ _ _ _ _ (sym (told .before .before .subtable .ensures) ∙ told .kind .given .1) in
+    (omega arith, omega arith, omega arith, omega arith)
+
+-- src/lib.rt:53:5
+loop-less-2 : (t : ℕ) → lts.Need-loop-less-2 (calls t) (started t) reads.Post Inv-loop μ-loop
+loop-less-2 t c = omega arith
+
+-- src/lib.rt:53:5
+loop-again-2 : (t : ℕ) → lts.Need-loop-again-2 (calls t) (started t) reads.Post Inv-loop μ-loop
+loop-again-2 t c =
+    let called = c .before .before .before .before .before .before .before .before .before .before .before in
+    let told = called .before .before .before .before in
+    let at = told .before .before .before .before .before in
+    let a = at .before .before .before .before .args in
+    let s = st (at .loop .words) (at .loop .ledger) in
+    let j = told .kind .given .0 .0 in (
+      omega (arith, told .before .before .before .before .loop-test .taken),
+      omega arith,
+      omega arith,
+      iter-step (compactEntry (below (a .level) (a .handle)) (a .handle) (a .level) (a .k)) (at .loop .next) (st (a .words .now) (a .ledger .now)) (at .loop .inv .3)
+          (c .before .before .before .before .release-empty .ensures
+          ∙ ap (releaseEmpty (a .k) (at .loop .next) j) (called .compact-subtables .ensures)
+          ∙ entry-table (below (a .level) (a .handle)) (a .handle) (a .level) (a .k) (at .loop .next) s (told .before .before .subtable .ensures) j (told .kind .given .1)),
+    )
+
+-- src/lib.rt:45:1
+same-length : (t : ℕ) → lts.Need-same-length (calls t) (started t) reads.Post Inv-loop μ-loop
+same-length t c = omega arith
+
+-- src/lib.rt:45:1
+same-length-2 : (t : ℕ) → lts.Need-same-length-2 (calls t) (started t) reads.Post Inv-loop μ-loop
+same-length-2 t c = omega arith
+
+-- src/lib.rt:45:1
+returns-2 : (t : ℕ) → lts.Need-returns-2 (calls t) (started t) reads.Post Inv-loop μ-loop
+returns-2 t c =
+    let at = c .before in
+    let a = c .before .before .before .before .before .args in
+    let all : at .loop .next ≡ 512 = omega arith in
+    rw all at (at .loop .inv .3) ∙ compact-down (a .level) (a .handle) (a .k) (st (a .words .now) (a .ledger .now)) (omega arith)
+
+pub +compact-subtables-spec : {M : Type 1} → statement M
++compact-subtables-spec = close μ λ t. lts.spec (calls t) (started t) reads.Post Inv-loop μ-loop
+    (returns t)
+    (loop-holds t)
+    (add-next t)
+    (mul-subtable t)
+    (add-subtable t)
+    (mul-subtable-2 t)
+    (slice-read-subtable t)
+    (subtable-requires t)
+    (enum-known-kind t)
+    (loop-less t)
+    (loop-again t)
+    (add-compact-subtables t)
+    (compact-subtables-requires t)
+    (release-empty-requires t)
+    (loop-less-2 t)
+    (loop-again-2 t)
+    (same-length t)
+    (same-length-2 t)
+    (returns-2 t)

@@ -1,0 +1,109 @@
+use mathlib.Core.Path.{_≡_, sym, _∙_}
+use mathlib.Core.Bool.{true}
+use native.Mathlib.Omega.{arith}
+use borrow.Author.Tests.{not-true, not-false}
+use Rattle.pool.specs.State.{st}
+use Rattle.pool.specs.Refuse.{shaped, Shaped, shaped-says}
+use Rattle.pool.specs.Sound.{soundb}
+use Rattle.compact.specs.Call.{call-misshaped, call-unsound, call-compacted}
+use Rattle.compact.proofs.compact.Statement.{statement}
+use Rattle.compact.proofs.compact.Tie as tie
+use Rattle.compact.proofs.compact.Reads as reads
+use Rattle.compact.proofs.compact.Lts as lts
+use Rattle.checker.proofs.is_sound.Reads as is-sound-reads
+use Rattle.compact.proofs.compact_subtables.Reads as compact-subtables-reads
+use Rattle.pool.proofs.ledger.count_used.Reads as count-used-reads
+use Rattle.pool.proofs.shape.is_shaped.Reads as is-shaped-reads
+
+-- past the first test the shape is known
+good : (c : tie.Else1) → let a = c .before .before .before .before .before .before .args in shaped (a .handle) (st (a .words .now) (a .ledger .now)) ≡ true
+good c = sym (c .before .is-shaped .ensures) ∙ not-false _ (c .if1 .left)
+
+shape : (c : tie.Else1) → let a = c .before .before .before .before .before .before .args in Shaped (a .handle) (st (a .words .now) (a .ledger .now))
+shape c = let a = c .before .before .before .before .before .before .args in shaped-says (a .handle) (st (a .words .now) (a .ledger .now)) (rw (good c) tt)
+
+-- past the second the pool is sound
+sound : (c : tie.Else2) → let a = c .before .before .before .before .before .before .before .before .before .before .args in
+    soundb (a .handle) (st (a .words .now) (a .ledger .now)) ≡ true
+sound c = sym (c .before .is-sound .ensures) ∙ not-false _ (c .if2 .left)
+
+-- src/lib.rt:69:9
+is-shaped-requires : tie.Need-is-shaped-requires
+is-shaped-requires c κs = tt
+
+-- src/lib.rt:70:9
+same-length : tie.Need-same-length
+same-length c = omega arith
+
+-- src/lib.rt:70:9
+same-length-2 : tie.Need-same-length-2
+same-length-2 c = omega arith
+
+-- src/lib.rt:70:9
+returns : tie.Need-returns
+returns c =
+    let a = c .before .before .before .before .before .before .args in
+    call-misshaped (a .handle) (st (a .words .now) (a .ledger .now)) (sym (c .before .is-shaped .ensures) ∙ not-true _ (c .if1 .taken))
+
+-- src/lib.rt:72:9
+is-sound-requires : tie.Need-is-sound-requires
+is-sound-requires c κs = shape (c .before .before)
+
+-- src/lib.rt:73:9
+same-length-3 : tie.Need-same-length-3
+same-length-3 c = omega arith
+
+-- src/lib.rt:73:9
+same-length-4 : tie.Need-same-length-4
+same-length-4 c = omega arith
+
+-- src/lib.rt:73:9
+returns-2 : tie.Need-returns-2
+returns-2 c =
+    let a = c .before .before .before .before .before .before .before .before .before .before .args in
+    call-unsound (a .handle) (st (a .words .now) (a .ledger .now)) (good (c .before .before .before .before)) (sym (c .before .is-sound .ensures) ∙ not-true _ (c .if2 .taken))
+
+-- src/lib.rt:75:5
+compact-subtables-requires : tie.Need-compact-subtables-requires
+compact-subtables-requires c κs =
+    let p = shape (c .before .before .before .before .before .before) in (p .sized, p .some, p .level)
+
+-- src/lib.rt:76:21
+count-used-requires : tie.Need-count-used-requires
+count-used-requires c κs = tt
+
+-- src/lib.rt:66:1
+same-length-5 : tie.Need-same-length-5
+same-length-5 c = omega arith
+
+-- src/lib.rt:66:1
+same-length-6 : tie.Need-same-length-6
+same-length-6 c = omega arith
+
+-- src/lib.rt:66:1
+returns-3 : tie.Need-returns-3
+returns-3 c =
+    let done = c .before .before .before .before .before .before in
+    let tested = done .before .before .before in
+    let a = tested .before .before .before .before .before .before .before .before .before .before .args in
+    call-compacted (a .handle) (st (a .words .now) (a .ledger .now)) (good (tested .before .before .before .before)) (sound tested)
+    (done .compact-subtables .ensures)
+    (c .count-used .ensures)
+
+pub compact-spec : {M : Type 1} → statement M
+compact-spec =
+    tie.close
+    (tie.spec
+    is-shaped-requires
+    same-length
+    same-length-2
+    returns
+    is-sound-requires
+    same-length-3
+    same-length-4
+    returns-2
+    compact-subtables-requires
+    count-used-requires
+    same-length-5
+    same-length-6
+    returns-3)

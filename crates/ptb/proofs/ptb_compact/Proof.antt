@@ -1,0 +1,57 @@
+-- `ptb_compact`: a range above 1, or the call told outside. Assumes nothing.
+use native.Mathlib.Omega.{arith}
+use Rattle.pool.specs.State.{st}
+use Rattle.ptb.specs.Face.{compact-no-range, compact-told}
+use Rattle.ptb.proofs.ptb_compact.Statement.{statement}
+use Rattle.ptb.proofs.ptb_compact.Tie as tie
+use Rattle.ptb.proofs.ptb_compact.Reads as reads
+use Rattle.ptb.proofs.ptb_compact.Lts as lts
+use Rattle.compact.proofs.compact.Reads as compact-reads
+use Rattle.ptb.proofs.answer.answer_counted.Reads as answer-counted-reads
+use Rattle.ptb.proofs.handle_of.Reads as handle-of-reads
+
+-- src/lib.rt:175:9
+returns : tie.Need-returns
+returns c = let a = c .before .before .before .args in compact-no-range (a .base) (a .level) (a .range) (st (a .words .now) (a .ledger .now)) (a .answer .now) (c .if1 .taken)
+
+-- src/lib.rt:177:9
+handle-of-requires : tie.Need-handle-of-requires
+handle-of-requires c κs = omega arith
+
+-- src/lib.rt:178:9
+compact-requires : tie.Need-compact-requires
+compact-requires c κs = omega arith
+
+-- src/lib.rt:179:5
+answer-counted-requires : tie.Need-answer-counted-requires
+answer-counted-requires c κs = omega arith
+
+-- src/lib.rt:163:1
+same-length : tie.Need-same-length
+same-length c = omega arith
+
+-- src/lib.rt:163:1
+same-length-2 : tie.Need-same-length-2
+same-length-2 c = omega arith
+
+-- src/lib.rt:163:1
+returns-2 : tie.Need-returns-2
+returns-2 c =
+    let a = c .before .before .before .before .before .before .before .before .before .before .before .before .before .args in
+    let called = c .before .before .before .before .before .before in
+    compact-told (a .base) (a .level) (a .range) (st (a .words .now) (a .ledger .now)) (a .answer .now) (called .before .before .before .before .if1 .left)
+    (called .before .before .before .handle-of .ensures)
+    (called .compact .ensures)
+    (c .answer-counted .ensures)
+
+pub ptb-compact-spec : {M : Type 1} → statement M
+ptb-compact-spec =
+    tie.close
+    (tie.spec
+    returns
+    handle-of-requires
+    compact-requires
+    answer-counted-requires
+    same-length
+    same-length-2
+    returns-2)

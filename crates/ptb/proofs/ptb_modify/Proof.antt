@@ -1,0 +1,57 @@
+-- `ptb_modify`: a range above 1, or the call told outside. Assumes nothing.
+use Rattle.pool.specs.State.{st}
+use Rattle.ptb.specs.Face.{modify-no-range, modify-told}
+use Rattle.ptb.proofs.ptb_modify.Statement.{statement}
+use Rattle.ptb.proofs.ptb_modify.Tie as tie
+use Rattle.ptb.proofs.ptb_modify.Reads as reads
+use Rattle.ptb.proofs.ptb_modify.Lts as lts
+use Rattle.modify.proofs.call.modify.Reads as modify-reads
+use Rattle.ptb.proofs.answer.answer_modified.Reads as answer-modified-reads
+use Rattle.ptb.proofs.handle_of.Reads as handle-of-reads
+
+-- src/lib.rt:181:9
+returns : tie.Need-returns
+returns c = let a = c .before .before .before .before .args in modify-no-range (a .base) (a .level) (a .range) (a .start) (a .end) (a .set) (a .clear) (a .live) (st (a .words .now) (a .ledger .now)) (a .list .now) (a .answer .now) (c .if1 .taken)
+
+-- src/lib.rt:183:9
+handle-of-requires : tie.Need-handle-of-requires
+handle-of-requires c κs = tt
+
+-- src/lib.rt:184:9
+modify-requires : tie.Need-modify-requires
+modify-requires c κs = tt
+
+-- src/lib.rt:195:5
+answer-modified-requires : tie.Need-answer-modified-requires
+answer-modified-requires c κs = tt
+
+-- src/lib.rt:163:1
+same-length : tie.Need-same-length
+same-length c = c .before .before .before .before .before .before .before .before .modify .kept .0
+
+-- src/lib.rt:163:1
+same-length-2 : tie.Need-same-length-2
+same-length-2 c = c .before .before .before .before .before .before .before .before .modify .kept .1 .0
+
+-- src/lib.rt:163:1
+same-length-3 : tie.Need-same-length-3
+same-length-3 c = c .before .before .before .before .before .before .before .before .modify .kept .1 .1 .1 .1 .1 .1 .1 .1 .0
+
+-- src/lib.rt:163:1
+returns-2 : tie.Need-returns-2
+returns-2 c =
+    let a = c .before .before .before .before .before .before .before .before .before .before .before .before .before .before .before .before .before .args in
+    modify-told (a .base) (a .level) (a .range) (a .start) (a .end) (a .set) (a .clear) (a .live) (st (a .words .now) (a .ledger .now)) (a .list .now) (a .answer .now) (c .before .before .before .before .before .before .before .before .before .before .before .before .before .if1 .left) (c .before .before .before .before .before .before .before .before .before .before .before .before .handle-of .ensures) (c .before .before .before .before .before .before .before .before .modify .ensures) (c .answer-modified .ensures)
+
+pub ptb-modify-spec : {M : Type 1} → statement M
+ptb-modify-spec =
+    tie.close
+    (tie.spec
+    returns
+    handle-of-requires
+    modify-requires
+    answer-modified-requires
+    same-length
+    same-length-2
+    same-length-3
+    returns-2)

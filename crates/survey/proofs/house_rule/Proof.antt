@@ -1,0 +1,12 @@
+use Rattle.survey.specs.House.{house-is}
+use Rattle.survey.proofs.house_rule.Statement.{statement}
+use Rattle.survey.proofs.house_rule.Tie as tie
+use Rattle.survey.proofs.house_rule.Reads as reads
+use Rattle.survey.proofs.house_rule.Lts as lts
+
+-- src/lib.rt:28:1
+returns : tie.Need-returns
+returns c = house-is (c .args .handle)
+
+pub house-rule-spec : {M : Type 1} → statement M
+house-rule-spec = tie.close (tie.spec returns)

@@ -1,7 +1,6 @@
-// Times look up, list and map (with EDITS=1 also modify and compact) against the published crate on the same words, in one process: ratios of medians over interleaved runs.
+// Times look up, list, map, modify and compact against the published crate on the same words, in one process: ratios of medians over interleaved runs.
 // Run it by calls.sh, which builds the static library and the oracle first.
 mod clock;
-#[cfg(edits)]
 mod edits;
 mod pool;
 
@@ -181,6 +180,5 @@ fn main() {
     println!();
     bench_maps(301);
     bench_refused();
-    #[cfg(edits)]
     edits::all();
 }

@@ -72,13 +72,11 @@ impl Pool {
     }
 
     // Not live.
-    #[cfg(edits)]
     pub fn modify(&mut self, start: u64, end: u64, set: u64, clear: u64) -> Answer {
         let list: &mut [u64] = &mut [];
         called!(ptb_modify, self, as_mut_ptr, start, end, set, clear, 0, list.as_mut_ptr(), list.len())
     }
 
-    #[cfg(edits)]
     pub fn compact(&mut self) -> Answer {
         called!(ptb_compact, self, as_mut_ptr)
     }

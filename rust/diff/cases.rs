@@ -1,8 +1,6 @@
 // Document 01's bench cases, A to K, run on ptb, the model and the oracle, and compared with the numbers that the document prints.
 use crate::lent::Lent;
-use crate::model::{answer, Answer, Handle, Map};
-#[cfg(edits)]
-use crate::model::Modify;
+use crate::model::{answer, Answer, Handle, Map, Modify};
 use crate::random::{Call, Room};
 use crate::run::{Counts, Run};
 
@@ -86,7 +84,6 @@ fn e_to_h(counts: &mut Counts) {
     let mut case = fresh(counts, 8, 1, false);
     assert_eq!(case.map_flags(0x1000, 0x2000, 0, 0), used(3));
     case.words(1, 0, &[0x8000_2003, 0]);
-    #[cfg(edits)]
     assert_eq!(case.call(Call::Compact), used(1));
     let mut case = fresh(counts, 8, 1, false);
     assert_eq!(case.map_flags(0x1000, 0x2000, 0x1000, 0), used(1));
@@ -96,7 +93,6 @@ fn e_to_h(counts: &mut Counts) {
     case.words(0, 0, &[0x8000_1003, 0]);
 }
 
-#[cfg(edits)]
 fn i(counts: &mut Counts) {
     let modify = |start, end, live| Call::Modify(Modify { start, end, set: 0x80, clear: 0, live }, Room::Exact);
     let mut case = after_a(counts);
@@ -141,7 +137,6 @@ fn k(counts: &mut Counts) {
 pub fn all(counts: &mut Counts) {
     b_to_d(counts);
     e_to_h(counts);
-    #[cfg(edits)]
     i(counts);
     j(counts);
     k(counts);

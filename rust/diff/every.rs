@@ -7,7 +7,7 @@
 //    map from the second page to at+S, the frame a page off           map two pages, one on each side of at+E
 //    unmap at..at+E with flags 0                                      unmap at..at+E with flag bit 10
 //    unmap the second page, frame 0                                   map at..at+S without blocks, other flags
-// and with EDITS=1
+// and, but for plain runs,
 //    modify at..at+E, set bit 7                                       modify the second and third page, clear bit 0
 //    modify at..at+S live, set bit 7                                  modify the second page live, clear bit 10
 //    compact

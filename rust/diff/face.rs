@@ -36,7 +36,7 @@ impl Ours {
 
 #[cfg(not(alone))]
 mod calls {
-    use super::{names::*, Answer, Lent, Map, Ours, UNTOUCHED};
+    use super::{names::*, Answer, Lent, Map, Modify, Ours, UNTOUCHED};
 
     // The call with the pool's arguments in front of its own and the answer behind them.
     macro_rules! called {
@@ -73,25 +73,12 @@ mod calls {
         called!(ptb_image, pool, as_ptr, table, page.as_mut_ptr(), page.len())
     }
 
-    #[cfg(edits)]
-    pub fn modify(pool: &mut Ours, modify: &super::Modify, list: &mut Lent<u64>) -> Answer {
+    pub fn modify(pool: &mut Ours, modify: &Modify, list: &mut Lent<u64>) -> Answer {
         called!(ptb_modify, pool, as_mut_ptr, modify.start, modify.end, modify.set, modify.clear, modify.live as u64, list.as_mut_ptr(), list.len())
     }
 
-    #[cfg(edits)]
     pub fn compact(pool: &mut Ours) -> Answer {
         called!(ptb_compact, pool, as_mut_ptr)
-    }
-
-    // Without the switch they are never asked for.
-    #[cfg(not(edits))]
-    pub fn modify(_: &mut Ours, _: &super::Modify, _: &mut Lent<u64>) -> Answer {
-        unreachable!()
-    }
-
-    #[cfg(not(edits))]
-    pub fn compact(_: &mut Ours) -> Answer {
-        unreachable!()
     }
 }
 

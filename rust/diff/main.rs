@@ -1,5 +1,6 @@
 // The differential runs: calls on ptb, on the published crate and on a model of document 01, compared after every call. First the bench cases and the known
-// differences, then all sequences of up to LENGTH letters (every.rs), then CALLS random ones from SEED (random.rs). Run it by run.sh.
+// differences, then all sequences of up to LENGTH letters (every.rs), then CALLS random calls from SEED (random.rs); modify and compact are left out of both in a
+// plain run. Run it by run.sh.
 mod cases;
 mod every;
 mod face;
@@ -122,8 +123,8 @@ fn run_random(calls: u64, seed: u64, edits: bool) {
 fn main() {
     let argument = |place: usize, default: u64| std::env::args().nth(place).map_or(default, |text| text.parse().expect("a number"));
     let (calls, seed, length) = (argument(1, 100_000), argument(2, 1), argument(3, 2));
-    let edits = cfg!(edits);
-    println!("{calls} calls, seed {seed}, all sequences of up to {length} letters");
+    let edits = std::env::args().nth(4).as_deref() != Some("plain");
+    println!("{calls} calls, seed {seed}, all sequences of up to {length} letters{}", if edits { "" } else { ", plain" });
     cases::all(&mut Counts::default());
     println!("bench cases: as document 01 says");
     outside::all();

@@ -1,10 +1,7 @@
 // Where ptb and the published crate are known to differ, outside the domain (docs/DIFFERENCES.md): each is seen on both.
 use crate::face::{self, Ours};
-#[cfg(edits)]
 use crate::lent::Lent;
-#[cfg(edits)]
-use crate::model::Modify;
-use crate::model::{answer, Handle, Map, Pool};
+use crate::model::{answer, Handle, Map, Modify, Pool};
 use oracle::Oracle;
 use std::panic::{catch_unwind, set_hook, take_hook, AssertUnwindSafe};
 
@@ -99,7 +96,6 @@ fn unmap_with_a_frame() {
 }
 
 // A live modify of one page of a block that changes no bit: the crate splits the live block for it.
-#[cfg(edits)]
 fn live_split() {
     let mut pool = Both::new(8, 1, false);
     pool.both(0, GIB, GIB, FLAGS);
@@ -116,6 +112,5 @@ pub fn all() {
     freed_by_the_same_call();
     arguments();
     unmap_with_a_frame();
-    #[cfg(edits)]
     live_split();
 }

@@ -82,7 +82,6 @@ fn g() {
     let mut pool = case(8);
     assert_eq!(put(&mut pool, 0x1000, 0x2000, 0x1000, 0), Ok(1));
     assert_eq!(put(&mut pool, 0x1000, 0x2000, 0, 0), Ok(3));
-    #[cfg(edits)]
     assert_eq!((pool.compact(), &pool), (Ok(1), &case(8)));
 }
 
@@ -96,7 +95,6 @@ fn h() {
     assert_eq!(pool.look_up(VirtualAddress(512 * GIB)), Ok(Entry::Hole { level: Level::Zero, flags: Flags::NONE }));
 }
 
-#[cfg(edits)]
 #[test]
 fn i() {
     let (read_only, page) = (Flags::READ_ONLY, Region::new(0x1000, 0x2000));

@@ -27,9 +27,7 @@ mod pool;
 mod types;
 
 pub use error::Error;
-#[cfg(edits)]
-pub use pool::Invalidated;
-pub use pool::Pool;
+pub use pool::{Invalidated, Pool};
 pub use types::{Constraints, Entry, Flags, Handle, Level, Line, PhysicalAddress, Range, Region, VirtualAddress};
 
 /// The words of one table.

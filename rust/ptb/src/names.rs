@@ -1,4 +1,4 @@
-// ptb's calls by their C names, as include/ptb.h declares them. Those of modify and compact stand behind the switch `edits`.
+// ptb's calls by their C names, as include/ptb.h declares them.
 #![allow(dead_code)]
 
 extern "C" {
@@ -17,10 +17,6 @@ extern "C" {
         words: *const u64, words_len: usize, ledger: *const u32, ledger_len: usize, base: u64, level: u64, range: u64,
         table: u64, page: *mut u8, page_len: usize, answer: *mut u64,
     ) -> u64;
-}
-
-#[cfg(edits)]
-extern "C" {
     pub fn ptb_modify(
         words: *mut u64, words_len: usize, ledger: *mut u32, ledger_len: usize, base: u64, level: u64, range: u64,
         start: u64, end: u64, set: u64, clear: u64, live: u64, list: *mut u64, list_len: usize, answer: *mut u64,

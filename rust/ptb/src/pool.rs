@@ -175,7 +175,6 @@ impl<W: AsMut<[u64]>, L: AsMut<[u32]>> Pool<W, L> {
 }
 
 /// What a live modify gives: the caller invalidates these pages.
-#[cfg(edits)]
 #[derive(Clone, Copy, Debug, PartialEq, Eq)]
 pub struct Invalidated<'a> {
     /// The tables in use afterwards.
@@ -184,7 +183,6 @@ pub struct Invalidated<'a> {
     pub pages: &'a [u64],
 }
 
-#[cfg(edits)]
 impl<W: AsMut<[u64]>, L: AsMut<[u32]>> Pool<W, L> {
     /// Sets and clears bits of the valid blocks and pages of a region, not live, and gives the tables in use afterwards. Refusals 1 to 6, 8 and 9.
     ///

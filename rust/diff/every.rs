@@ -1,5 +1,6 @@
 // All short sequences from a small alphabet, exhaustively: for each root level from 0 to 3 and each range, on a pool of 5 tables, every sequence of up to LENGTH
-// letters. A letter is a call that may write; after each, the two entries that the letters meet are listed and five addresses looked up, all compared as in random runs.
+// letters (run.sh's third argument, 2 if none is given; docs/DIFFERENCES.md has runs with 4 and 5). A letter is a call that may write; after each, the two entries that
+// the letters meet are listed and five addresses looked up, all compared as in random runs.
 // The alphabet: E and S are the sizes of the entries of the root and of the next level (root level 0: of levels 1 and 2), at least 8 and 4 pages; `at` is 0 or, upper,
 // 2^64 - 2 E, so that the second entry ends at 2^64.
 //    map at..at+E to a frame that is a multiple of E                  map at..at+S to a multiple of S and not of E

@@ -3,19 +3,19 @@ use crate::bench::Bench;
 use crate::call;
 use crate::expect;
 
-// What reads the pool: 2 check, 3 look, 4 list, 5 image.
+// The calls that read the pool: 1 check, 2 look, 3 list, 4 image.
 fn read(command: u64, words: &[u64], ledger: &[u32], bench: Bench, values: &[u64; 6]) -> Bench {
     match command {
-        2 => call::check(words, ledger, bench),
-        3 => call::look(words, ledger, bench, values[0]),
-        4 => call::list(words, ledger, bench, values[0], values[1]),
+        1 => call::check(words, ledger, bench),
+        2 => call::look(words, ledger, bench, values[0]),
+        3 => call::list(words, ledger, bench, values[0], values[1]),
         _ => call::image(words, ledger, bench, values[0]),
     }
 }
 
-// What shows the pool as it stands: 6 words, 7 ledger.
+// What shows the pool as it stands: 5 words, 6 ledger.
 fn show(command: u64, words: &[u64], ledger: &[u32], values: &[u64; 6], count: usize) {
-    if command == 7 {
+    if command == 6 {
         return view::say_ledger(ledger);
     }
     if count == 0 {
@@ -24,16 +24,49 @@ fn show(command: u64, words: &[u64], ledger: &[u32], values: &[u64; 6], count: u
     view::say_words(words, values[0], values[1], values[2]);
 }
 
+// What changes nothing.
+fn look_at(
+    command: u64,
+    words: &[u64],
+    ledger: &[u32],
+    bench: Bench,
+    values: &[u64; 6],
+    count: usize,
+) -> Bench {
+    if command < 5 {
+        return read(command, words, ledger, bench, values);
+    }
+    show(command, words, ledger, values, count);
+    bench
+}
+
 // What is written by hand: 8 put, 9 enter.
 fn by_hand(command: u64, words: &mut [u64], ledger: &mut [u32], values: &[u64; 6]) {
     if command == 8 {
-        view::put(words, values[0], values[1], values[2]);
-    } else {
-        view::enter(ledger, values[0], values[1]);
+        return view::put(words, values[0], values[1], values[2]);
     }
+    view::enter(ledger, values[0], values[1]);
 }
 
-// A command on the pool, its words and its ledger; from 10 on those that map.
+// What writes: 7 make, 8 put, 9 enter, 10 map, 11 unmap.
+fn write(
+    command: u64,
+    words: &mut [u64],
+    ledger: &mut [u32],
+    bench: Bench,
+    values: &[u64; 6],
+) -> Bench {
+    if command == 7 {
+        return call::make(words, ledger, bench, values);
+    }
+    if 10 <= command {
+        return call::map(words, ledger, bench, values);
+    }
+    by_hand(command, words, ledger, values);
+    bench
+}
+
+// A command on the pool, its words and its ledger.
 fn on_pool(
     command: u64,
     words: &mut [u64],
@@ -42,14 +75,10 @@ fn on_pool(
     values: &[u64; 6],
     count: usize,
 ) -> Bench {
-    match command {
-        1 => return call::make(words, ledger, bench, values),
-        2..=5 => return read(command, words, ledger, bench, values),
-        6..=7 => show(command, words, ledger, values, count),
-        8..=9 => by_hand(command, words, ledger, values),
-        _ => return call::map(words, ledger, bench, values),
+    if command < 7 {
+        return look_at(command, words, ledger, bench, values, count);
     }
-    bench
+    write(command, words, ledger, bench, values)
 }
 
 // The first tables of the words, and as much of the ledger.
@@ -80,7 +109,7 @@ fn lend(
 
 // How many tables a command works on: those that make asks for, else the pool's. 9 for too many, 10 for none.
 fn tables_of(command: u64, bench: Bench, values: &[u64; 6]) -> usize {
-    if command == 1 {
+    if command == 7 {
         if 8 < values[0] {
             return 9;
         }

@@ -95,13 +95,13 @@ fn close(bench: Bench) {
 // Each command with what it takes, what may be left out in brackets. The line's number is the command's.
 fn main() {
     let usage = b"expect accepted|refused [VALUE] [VALUE] [VALUE] [VALUE] [VALUE]
-make TABLES BASE LEVEL lower|upper
 check
 look ADDRESS
 list START END
 image TABLE
 words [TABLE] [FIRST] [COUNT]
 ledger
+make TABLES BASE LEVEL lower|upper
 put TABLE WORD VALUE
 enter TABLE NUMBER
 map START END FRAME FLAGS [noblocks]

@@ -1,19 +1,14 @@
-// Times look up, list and map against the published crate on the same words, in one process: ratios of medians over interleaved runs.
+// Times look up, list, map, modify and compact against the published crate on the same words, in one process: ratios of medians over interleaved runs.
 // Run it by calls.sh, which builds the static library and the oracle first.
 mod clock;
+mod edits;
 mod pool;
 
 use clock::{in_turns, median, timed};
 use oracle::Oracle;
-use pool::{Pool, BASE, FLAGS, LOWER, SLOTS, UNTOUCHED};
+use pool::{some_pages, Map, Pool, BASE, FLAGS, SLOTS};
 use std::hint::black_box;
 use std::time::Instant;
-
-extern "C" {
-    fn ptb_look_up(words: *const u64, words_len: usize, ledger: *const u32, ledger_len: usize, base: u64, level: u64, range: u64, va: u64, answer: *mut u64) -> u64;
-    fn ptb_list(words: *const u64, words_len: usize, ledger: *const u32, ledger_len: usize, base: u64, level: u64, range: u64, start: u64, end: u64, lines: *mut u64, lines_len: usize, answer: *mut u64) -> u64;
-    fn ptb_map(words: *mut u64, words_len: usize, ledger: *mut u32, ledger_len: usize, base: u64, level: u64, range: u64, start: u64, end: u64, frame: u64, flags: u64, constraints: u64, answer: *mut u64) -> u64;
-}
 
 const TABLES: usize = 64;
 const PAGE: u64 = 4096;
@@ -21,71 +16,25 @@ const MIB_2: u64 = 1 << 21;
 const GIB: u64 = 1 << 30;
 const NO_BLOCK_MAPPINGS: u64 = 1;
 
-type Answer = (u64, [u64; 4]);
-
-fn look_up(pool: &Pool, va: u64) -> Answer {
-    let mut answer = UNTOUCHED;
-    let refusal = unsafe { ptb_look_up(pool.words.as_ptr(), pool.words.len(), pool.ledger.as_ptr(), pool.ledger.len(), BASE, pool.level, LOWER, va, answer.as_mut_ptr()) };
-    (refusal, answer)
-}
-
-fn list(pool: &Pool, start: u64, end: u64, lines: &mut [u64]) -> Answer {
-    let mut answer = UNTOUCHED;
-    let refusal = unsafe {
-        ptb_list(pool.words.as_ptr(), pool.words.len(), pool.ledger.as_ptr(), pool.ledger.len(), BASE, pool.level, LOWER, start, end, lines.as_mut_ptr(), lines.len(), answer.as_mut_ptr())
-    };
-    (refusal, answer)
-}
-
-#[derive(Clone, Copy)]
-struct Map {
-    start: u64,
-    end: u64,
-    frame: u64,
-    flags: u64,
-    constraints: u64,
-}
-
-fn map(pool: &mut Pool, map: &Map) -> Answer {
-    let mut answer = UNTOUCHED;
-    let refusal = unsafe {
-        ptb_map(
-            pool.words.as_mut_ptr(), pool.words.len(), pool.ledger.as_mut_ptr(), pool.ledger.len(), BASE, pool.level, LOWER,
-            map.start, map.end, map.frame, map.flags, map.constraints, answer.as_mut_ptr(),
-        )
-    };
-    (refusal, answer)
-}
-
 fn oracle_of(pool: &Pool) -> Oracle {
     let mut oracle = Oracle::new(pool.ledger.len(), BASE, pool.level, false);
     oracle.load(&pool.words, &pool.ledger);
     oracle
 }
 
-fn span(pool: &Pool) -> u64 {
-    1 << (48 - 9 * pool.level)
-}
-
-// A page of each of 1,024 lines, spread over all of them.
-fn some_pages(lines: &[u64]) -> Vec<u64> {
-    let count = lines.len() / 4;
-    (0..1024).map(|i| 4 * (i * 7919 % count)).map(|line| lines[line] + (lines[line + 1] - lines[line]) / 2 / PAGE * PAGE).collect()
-}
-
 fn bench_look_up(name: &str, pool: &Pool) {
     let oracle = oracle_of(pool);
     let mut lines = vec![];
-    assert!(oracle.list(0, span(pool), &mut lines).is_ok());
+    assert!(oracle.list(0, pool.span(), &mut lines).is_ok());
     let pages = some_pages(&lines);
     for &va in &pages {
         let Ok((word, level)) = oracle.walk(va) else { panic!("a page of the span") };
-        let (refusal, [_, at, flags, _]) = look_up(pool, va);
+        let (refusal, [_, at, flags, _]) = pool.look_up(va);
         assert_eq!((refusal, at, flags), (0, level, word & !((1 << 48) - 4096) & !2));
     }
     let [walk, ours] = in_turns(301, |which| match which {
         0 => timed(1, || pages.iter().fold(0, |sum, &va| sum ^ oracle.walk(black_box(va)).map_or(0, |found| found.0))),
-        _ => timed(1, || pages.iter().fold(0, |sum, &va| sum ^ look_up(black_box(pool), black_box(va)).1[3])),
+        _ => timed(1, || pages.iter().fold(0, |sum, &va| sum ^ black_box(pool).look_up(black_box(va)).1[3])),
     });
     let per_page = 1e9 / pages.len() as f64;
     println!("| look up, {name} | {:.1} ns | {:.1} ns | {:.2} | 1.0 |", walk * per_page, ours * per_page, ours / walk);
@@ -94,16 +43,16 @@ fn bench_look_up(name: &str, pool: &Pool) {
 fn bench_list(name: &str, pool: &Pool) {
     let oracle = oracle_of(pool);
     let mut theirs = vec![];
-    assert!(oracle.list(0, span(pool), &mut theirs).is_ok());
+    assert!(oracle.list(0, pool.span(), &mut theirs).is_ok());
     let mut lines = vec![!0; theirs.len()];
-    assert_eq!(list(pool, 0, span(pool), &mut lines), (0, [theirs.len() as u64 / 4, !0, !0, !0]));
+    assert_eq!(pool.list(0, pool.span(), &mut lines), (0, [theirs.len() as u64 / 4, !0, !0, !0]));
     assert_eq!(lines, theirs);
     let [crates, ours] = in_turns(301, |which| match which {
         0 => timed(1, || {
             theirs.clear();
-            oracle.list(0, black_box(span(pool)), &mut theirs).is_ok()
+            oracle.list(0, black_box(pool.span()), &mut theirs).is_ok()
         }),
-        _ => timed(1, || list(black_box(pool), 0, black_box(span(pool)), &mut lines)),
+        _ => timed(1, || black_box(pool).list(0, black_box(pool.span()), &mut lines)),
     });
     println!("| list, {name}, {} lines | {:.1} us | {:.1} us | {:.2} | 1.2 |", lines.len() / 4, crates * 1e6, ours * 1e6, ours / crates);
 }
@@ -148,7 +97,7 @@ fn run_ours(pool: &mut Pool, maps: &[Map]) -> Vec<[f64; 2]> {
         let start = Instant::now();
         assert_eq!(black_box(&*pool).check(), 0);
         let checked = Instant::now();
-        assert_eq!(map(pool, one).0, 0);
+        assert_eq!(pool.map(one).0, 0);
         [checked - start, checked.elapsed()].map(|time| time.as_secs_f64())
     };
     maps.iter().map(each).collect()
@@ -209,12 +158,12 @@ fn bench_refused() {
     println!("|---|---|---|---|---|");
     let all = Map { start: 0, end: 1 << 48, frame: 0, flags: FLAGS, constraints: NO_BLOCK_MAPPINGS };
     let slots = SLOTS as u64;
-    assert_eq!(map(&mut Pool::make(8, 0), &all), (9, [slots + slots * slots + slots * slots * slots, 7, !0, !0]));
+    assert_eq!(Pool::make(8, 0).map(&all), (9, [slots + slots * slots + slots * slots * slots, 7, !0, !0]));
     for (name, mut pool) in [("the root alone", Pool::make(8, 0)), ("all tables in use, most of blocks", Pool::fill(8, 0))] {
-        assert_eq!(map(&mut pool, &all).0, 9);
+        assert_eq!(pool.map(&all).0, 9);
         let [check, refused] = in_turns(301, |which| match which {
             0 => timed(32, || black_box(&pool).check()),
-            _ => timed(32, || map(black_box(&mut pool), &all)),
+            _ => timed(32, || black_box(&mut pool).map(&all)),
         });
         println!("| {name} | {:.2} us | {:.2} us | {:.2} | 10 |", check * 1e6, refused * 1e6, refused / check);
     }
@@ -231,4 +180,5 @@ fn main() {
     println!();
     bench_maps(301);
     bench_refused();
+    edits::all();
 }

@@ -1,5 +1,5 @@
 #!/bin/sh
-# Builds the static library, the oracle and the benchmark of look up, list and map against it, and runs it: rust/bench/calls.sh, from anywhere.
+# Builds the static library, the oracle and the benchmark of look up, list, map, modify and compact against it, and runs it: rust/bench/calls.sh, from anywhere.
 # AARCH64_PAGING as for rust/oracle/build.sh.
 set -eu
 cd "$(dirname "$0")/../.."

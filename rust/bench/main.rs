@@ -4,27 +4,8 @@ mod clock;
 mod pool;
 
 use clock::{in_turns, median, timed};
-use pool::{Pool, BASE, LOWER, SLOTS, UNTOUCHED};
+use pool::{plain, Pool, SLOTS};
 use std::hint::black_box;
-
-extern "C" {
-    fn ptb_image(words: *const u64, words_len: usize, ledger: *const u32, ledger_len: usize, base: u64, level: u64, range: u64, table: u64, page: *mut u8, page_len: usize, answer: *mut u64) -> u64;
-}
-
-fn image(pool: &Pool, table: u64, page: &mut [u8]) -> u64 {
-    let mut answer = UNTOUCHED;
-    unsafe { ptb_image(pool.words.as_ptr(), pool.words.len(), pool.ledger.as_ptr(), pool.ledger.len(), BASE, pool.level, LOWER, table, page.as_mut_ptr(), page.len(), answer.as_mut_ptr()) }
-}
-
-// The plain pass: the union of all words.
-#[inline(never)]
-fn plain(words: &[u64]) -> u64 {
-    let mut any = 0;
-    for word in words {
-        any |= word;
-    }
-    any
-}
 
 // Medians of a plain pass and of a check of the same pool.
 fn against_plain(pool: &Pool, runs: usize, turns: usize) -> [f64; 2] {
@@ -68,9 +49,9 @@ fn main() {
     for (n, turns) in [(64, 32), (4096, 1)] {
         let full = Pool::fill(n, 1);
         let mut page = vec![0; 4096];
-        assert_eq!(image(&full, n as u64, &mut page), 1);
-        assert_eq!(image(&full, n as u64 - 1, &mut page[1..]), 11);
-        let imaged = median((0..101).map(|_| timed(64, || assert_eq!(image(&full, n as u64 - 1, &mut page), 0))).collect());
+        assert_eq!(full.image(n as u64, &mut page), 1);
+        assert_eq!(full.image(n as u64 - 1, &mut page[1..]), 11);
+        let imaged = median((0..101).map(|_| timed(64, || assert_eq!(full.image(n as u64 - 1, &mut page), 0))).collect());
         assert!(page.chunks(8).zip(&full.words[SLOTS * (n - 1)..]).all(|(bytes, word)| bytes == word.to_le_bytes()));
         let mut pool = full;
         let make = median((0..101).map(|_| timed(turns, || pool.remake())).collect());

@@ -1,7 +1,6 @@
 // Document 01's bench cases, A to K, run on ptb, the model and the oracle, and compared with the numbers that the document prints.
-use crate::model::{answer, Answer, Handle, Map};
-#[cfg(edits)]
-use crate::model::Modify;
+use crate::lent::Lent;
+use crate::model::{answer, Answer, Handle, Map, Modify};
 use crate::random::{Call, Room};
 use crate::run::{Counts, Run};
 
@@ -16,7 +15,7 @@ struct Case<'a> {
 
 impl Case<'_> {
     fn call(&mut self, call: Call) -> Answer {
-        self.run.step(&(call, None), self.counts).unwrap_or_else(|how| panic!("{call:x?}: {how}"))
+        self.run.step(&(call, vec![]), self.counts).unwrap_or_else(|how| panic!("{call:x?}: {how}"))
     }
 
     fn map_flags(&mut self, start: u64, end: u64, frame: u64, flags: u64) -> Answer {
@@ -38,7 +37,7 @@ fn used(tables: u64) -> Answer {
 }
 
 fn fresh(counts: &mut Counts, n: usize, level: u64, upper: bool) -> Case<'_> {
-    Case { run: Run::new(n, Handle { base: BASE, level, upper }), counts }
+    Case { run: Run::new(n, Handle { base: BASE, level, range: upper as u64 }), counts }
 }
 
 fn after_a(counts: &mut Counts) -> Case<'_> {
@@ -64,9 +63,9 @@ fn b_to_d(counts: &mut Counts) {
     after_b(counts, 3);
 
     let mut case = after_a(counts);
-    let before = case.run.ours.words.clone();
+    let before = case.run.ours.words.to_vec();
     assert_eq!(case.map(0x20_0000, 0x20_1000, 0x4020_0000), used(1));
-    assert_eq!(case.run.ours.words, before);
+    assert_eq!(case.run.ours.words[..], before);
     assert_eq!(case.map(0x20_0000, 0x20_1000, 0x5000_0000), used(3));
     case.words(1, 1, &[0x8000_2003, 0x4040_0401]);
     case.words(2, 0, &[0x5000_0403, 0x4020_1403]);
@@ -85,7 +84,6 @@ fn e_to_h(counts: &mut Counts) {
     let mut case = fresh(counts, 8, 1, false);
     assert_eq!(case.map_flags(0x1000, 0x2000, 0, 0), used(3));
     case.words(1, 0, &[0x8000_2003, 0]);
-    #[cfg(edits)]
     assert_eq!(case.call(Call::Compact), used(1));
     let mut case = fresh(counts, 8, 1, false);
     assert_eq!(case.map_flags(0x1000, 0x2000, 0x1000, 0), used(1));
@@ -95,7 +93,6 @@ fn e_to_h(counts: &mut Counts) {
     case.words(0, 0, &[0x8000_1003, 0]);
 }
 
-#[cfg(edits)]
 fn i(counts: &mut Counts) {
     let modify = |start, end, live| Call::Modify(Modify { start, end, set: 0x80, clear: 0, live }, Room::Exact);
     let mut case = after_a(counts);
@@ -111,9 +108,9 @@ fn i(counts: &mut Counts) {
 fn j(counts: &mut Counts) {
     let mut case = after_b(counts, 8);
     assert_eq!(case.call(Call::List(0, 0x3000, Room::Exact)), answer(0, &[3]));
-    let mut lines = [0; 12];
-    assert_eq!(crate::face::list(&case.run.ours, 0, 0x3000, &mut lines), answer(0, &[3]));
-    assert_eq!(lines, [0, 0x1000, 0, 3, 0x1000, 0x2000, 0x9403, 3, 0x2000, 0x3000, 0xA403, 3]);
+    let mut lines = Lent::filled(0, 12);
+    assert_eq!(crate::face::list(&mut case.run.ours, 0, 0x3000, &mut lines), answer(0, &[3]));
+    assert_eq!(lines[..], [0, 0x1000, 0, 3, 0x1000, 0x2000, 0x9403, 3, 0x2000, 0x3000, 0xA403, 3]);
     assert_eq!(case.call(Call::List(0, 0x3000, Room::Short)), answer(11, &[12]));
 }
 
@@ -140,7 +137,6 @@ fn k(counts: &mut Counts) {
 pub fn all(counts: &mut Counts) {
     b_to_d(counts);
     e_to_h(counts);
-    #[cfg(edits)]
     i(counts);
     j(counts);
     k(counts);

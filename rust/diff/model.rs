@@ -3,6 +3,8 @@
 pub const SLOTS: usize = 512;
 pub const UNTOUCHED: [u64; 4] = [!0; 4];
 const PAGE: u64 = 4096;
+// Tables of a pool.
+const MOST: u64 = 4096;
 const ADDRESS: u64 = (1 << 48) - PAGE;
 const VALID: u64 = 1;
 const BIT_1: u64 = 2;
@@ -11,14 +13,20 @@ pub const FLAG_SET: u64 = 0xFFFC_0000_0000_0FFD;
 // What a live edit of a valid entry may change, bit 0 apart.
 const HOUSE_RULE: u64 = 1 << 7 | 1 << 10 | 1 << 11 | 1 << 51 | 1 << 53 | 1 << 54 | 0xF << 55;
 
+// As a caller may give it: any numbers. 0 is the lower range, 1 the upper.
 #[derive(Clone, Copy, Debug)]
 pub struct Handle {
     pub base: u64,
     pub level: u64,
-    pub upper: bool,
+    pub range: u64,
 }
 
 impl Handle {
+    pub fn upper(&self) -> bool {
+        self.range == 1
+    }
+
+    // Of a level from 0 to 3.
     pub fn span(&self) -> u64 {
         size(self.level) * SLOTS as u64
     }
@@ -165,7 +173,7 @@ fn bad_region(handle: Handle, start: u64, end: u64) -> Option<Answer> {
         return Some(answer(5, &[start, end]));
     }
     let negative = start >> 63 == 1;
-    if handle.upper {
+    if handle.upper() {
         return (!negative || 0u64.wrapping_sub(start) > handle.span()).then(|| answer(6, &[start]));
     }
     if negative {
@@ -175,10 +183,53 @@ fn bad_region(handle: Handle, start: u64, end: u64) -> Option<Answer> {
 }
 
 impl Pool {
+    pub fn of(words: Vec<u64>, ledger: Vec<u32>, handle: Handle) -> Pool {
+        Pool { words, ledger, handle, lost_fill: false, trusted: false, by_rule: [0; 5] }
+    }
+
     pub fn make(n: usize, handle: Handle) -> Pool {
-        let mut ledger = vec![0; n];
-        ledger[0] = 4 + handle.level as u32;
-        Pool { words: vec![0; SLOTS * n], ledger, handle, lost_fill: false, trusted: true, by_rule: [0; 5] }
+        let mut pool = Pool::of(vec![0; SLOTS * n], vec![0; n], handle);
+        assert_eq!(pool.remake().0, 0);
+        pool
+    }
+
+    // What making does to these words and this ledger.
+    pub fn remake(&mut self) -> Answer {
+        if !self.has_shape() {
+            return answer(1, &[]);
+        }
+        self.words.fill(0);
+        self.ledger.fill(0);
+        self.ledger[0] = 4 + self.handle.level as u32;
+        self.trusted = true;
+        answer(0, &[])
+    }
+
+    // What refusal 1 asks of every call's arguments.
+    fn has_shape(&self) -> bool {
+        let (n, handle) = (self.ledger.len() as u64, self.handle);
+        let lengths = 1 <= n && n <= MOST && self.words.len() as u64 == SLOTS as u64 * n;
+        let base = handle.base % PAGE == 0 && handle.base as u128 + (PAGE * n) as u128 <= 1 << 48;
+        lengths && base && handle.level <= 3 && handle.range <= 1
+    }
+
+    pub fn check(&self) -> Answer {
+        if !self.has_shape() {
+            return answer(1, &[]);
+        }
+        answer(if self.is_sound() { 0 } else { 8 }, &[])
+    }
+
+    // One table's words as bytes, the lowest first.
+    pub fn image(&self, table: u64, length: usize) -> (Answer, Vec<u8>) {
+        if !self.has_shape() || table >= self.ledger.len() as u64 {
+            return (answer(1, &[]), vec![]);
+        }
+        if length as u64 != PAGE {
+            return (answer(11, &[PAGE]), vec![]);
+        }
+        let words = &self.words[at(table as usize, 0)..at(table as usize + 1, 0)];
+        (answer(0, &[]), words.iter().flat_map(|&word| (0..8).map(move |i| (word >> (8 * i)) as u8)).collect())
     }
 
     pub fn used(&self) -> u64 {
@@ -342,6 +393,9 @@ impl Pool {
     }
 
     fn map_refusal(&self, map: &Map) -> Option<Answer> {
+        if !self.has_shape() {
+            return Some(answer(1, &[]));
+        }
         if let Some(refusal) = bad_end(map.end) {
             return Some(refusal);
         }
@@ -398,6 +452,9 @@ impl Pool {
 
     // The answer, and the lines where the list is long enough. `room` gives a list's length, told the length that is needed.
     pub fn list(&self, start: u64, end: u64, room: impl Fn(u64) -> u64) -> (Answer, Vec<u64>, u64) {
+        if !self.has_shape() {
+            return (answer(1, &[]), vec![], room(0));
+        }
         if let Some(refusal) = bad_end(end).or_else(|| bad_region(self.handle, start, end)) {
             return (refusal, vec![], room(0));
         }
@@ -429,8 +486,11 @@ impl Pool {
 
     // On any words.
     pub fn look_up(&self, va: u64) -> Answer {
+        if !self.has_shape() {
+            return answer(1, &[]);
+        }
         let span = self.handle.span();
-        let inside = if self.handle.upper { va >= 0u64.wrapping_sub(span) } else { va < span };
+        let inside = if self.handle.upper() { va >= 0u64.wrapping_sub(span) } else { va < span };
         if !inside {
             return answer(6, &[va]);
         }
@@ -494,6 +554,9 @@ impl Pool {
     }
 
     fn modify_refusal(&self, modify: &Modify) -> Option<Answer> {
+        if !self.has_shape() {
+            return Some(answer(1, &[]));
+        }
         if let Some(refusal) = bad_end(modify.end) {
             return Some(refusal);
         }
@@ -564,6 +627,9 @@ impl Pool {
 
     pub fn compact(&mut self) -> Answer {
         self.lost_fill = false;
+        if !self.has_shape() {
+            return answer(1, &[]);
+        }
         if !self.trusted && !self.is_sound() {
             return answer(8, &[]);
         }

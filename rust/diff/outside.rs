@@ -1,6 +1,7 @@
 // Where ptb and the published crate are known to differ, outside the domain (docs/DIFFERENCES.md): each is seen on both.
-use crate::face;
-use crate::model::{answer, Handle, Map, Pool};
+use crate::face::{self, Ours};
+use crate::lent::Lent;
+use crate::model::{answer, Handle, Map, Modify, Pool};
 use oracle::Oracle;
 use std::panic::{catch_unwind, set_hook, take_hook, AssertUnwindSafe};
 
@@ -10,13 +11,13 @@ const GIB: u64 = 0x4000_0000;
 const LAST: u64 = 0xFFFF_FFFF_FFFF_F000;
 
 struct Both {
-    ours: Pool,
+    ours: Ours,
     oracle: Oracle,
 }
 
 impl Both {
     fn new(n: usize, level: u64, upper: bool) -> Both {
-        Both { ours: Pool::make(n, Handle { base: BASE, level, upper }), oracle: Oracle::new(n, BASE, level, upper) }
+        Both { ours: Ours::of(&Pool::make(n, Handle { base: BASE, level, range: upper as u64 })), oracle: Oracle::new(n, BASE, level, upper) }
     }
 
     fn ours(&mut self, start: u64, end: u64, frame: u64, flags: u64) -> (u64, [u64; 4]) {
@@ -30,15 +31,17 @@ impl Both {
 
     fn both(&mut self, start: u64, end: u64, frame: u64, flags: u64) {
         assert_eq!((self.ours(start, end, frame, flags).0, self.theirs(start, end, frame, flags)), (0, 0));
-        assert!(self.ours.words == self.oracle.words());
+        assert!(self.ours.words[..] == *self.oracle.words());
     }
 }
 
 // A block that ends at 2^64, put there by another hand, and a map of its first page.
 fn lost_fill() {
     let mut pool = Both::new(2, 2, true);
-    pool.ours.plant(LAST, GIB, FLAGS);
-    pool.oracle.load(&pool.ours.words, &pool.ours.ledger);
+    let mut planted = Pool::make(2, pool.ours.handle);
+    planted.plant(LAST, GIB, FLAGS);
+    pool.ours.load(&planted.words, &planted.ledger);
+    pool.oracle.load(&planted.words, &planted.ledger);
     let first = 0u64.wrapping_sub(0x20_0000);
     assert_eq!(pool.ours(first, first + 0x1000, 0x9000, FLAGS), answer(0, &[2]));
     assert_eq!(pool.theirs(first, first + 0x1000, 0x9000, FLAGS), 0);
@@ -92,10 +95,22 @@ fn unmap_with_a_frame() {
     assert_eq!(pool.ours(0, GIB, 0x1000, 0), answer(9, &[513, 7]));
 }
 
+// A live modify of one page of a block that changes no bit: the crate splits the live block for it.
+fn live_split() {
+    let mut pool = Both::new(8, 1, false);
+    pool.both(0, GIB, GIB, FLAGS);
+    let nothing = Modify { start: 0x1000, end: 0x2000, set: 0, clear: 0, live: true };
+    assert_eq!(face::modify(&mut pool.ours, &nothing, &mut Lent::filled(0, 1)), answer(10, &[GIB + FLAGS]));
+    assert_eq!(pool.ours.words[0], GIB + FLAGS);
+    assert!(pool.oracle.modify(0x1000, 0x2000, 0, 0, true).is_ok());
+    assert_eq!(pool.oracle.words()[0], BASE + 0x1003);
+}
+
 pub fn all() {
     lost_fill();
     want_of_tables();
     freed_by_the_same_call();
     arguments();
     unmap_with_a_frame();
+    live_split();
 }

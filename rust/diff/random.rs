@@ -1,6 +1,9 @@
 // Random pools and sequences of calls on them. A sequence is made whole before it runs, so a run is given by its seed and any part of it can be run again.
 use crate::model::{size, Handle, Map, Modify, FLAG_SET};
 
+// One sequence in so many has a pool of 4,096 tables.
+const LARGE: u64 = 4000;
+
 pub struct Random(u64);
 
 impl Random {
@@ -60,21 +63,28 @@ pub enum Call {
     List(u64, u64, Room),
     Modify(Modify, Room),
     Compact,
+    // A table's number, and the length of the page.
+    Image(u64, usize),
+    Check,
+    Make,
     // Not a call: a word is written by another hand at an address, with a frame and flags.
     Plant(u64, u64, u64),
 }
 
-// Bits that are flipped in a copy of the pool before a call on that copy: in the word or in the ledger number at a place.
+// What befalls a copy of the pool before a call on that copy.
 #[derive(Clone, Copy, Debug)]
-pub struct Damage {
-    pub ledger: bool,
-    // The word is a table's address, if there is one.
-    pub link: bool,
-    pub place: u64,
-    pub flip: u64,
+pub enum Damage {
+    // Bits of a word are flipped, by choice of one that refers to a table, if there is one.
+    Word { link: bool, place: u64, flip: u64 },
+    // Bits of a ledger number are flipped.
+    Number { place: u64, flip: u32 },
+    // Words and ledger numbers are left out at the end, or added to it.
+    Lengths { words: i64, numbers: i64 },
+    // The handle is another.
+    Handle(Handle),
 }
 
-pub type Step = (Call, Option<Damage>);
+pub type Step = (Call, Vec<Damage>);
 
 #[derive(Clone, Debug)]
 pub struct Sequence {
@@ -85,6 +95,7 @@ pub struct Sequence {
 
 struct Maker<'a> {
     random: &'a mut Random,
+    n: u64,
     handle: Handle,
     // Offsets in the span, near which most regions lie, so that they meet.
     spots: Vec<u64>,
@@ -100,7 +111,7 @@ impl Maker<'_> {
     // An address of the span, given its distance from the span's start.
     fn address(&self, offset: u64) -> u64 {
         let span = self.handle.span();
-        if self.handle.upper { 0u64.wrapping_sub(span).wrapping_add(offset % span) } else { offset % span }
+        if self.handle.upper() { 0u64.wrapping_sub(span).wrapping_add(offset % span) } else { offset % span }
     }
 
     fn spot(&mut self) -> u64 {
@@ -130,7 +141,7 @@ impl Maker<'_> {
         let offset = if self.random.one_in(2) { spot - spot % size(self.level()) } else { spot - spot % 4096 } % self.handle.span();
         let (mut start, mut end) = (self.address(offset), self.address(offset).wrapping_add(self.length(offset)));
         let last = 0u64.wrapping_sub(4096);
-        if !self.handle.upper {
+        if !self.handle.upper() {
             end = end.min(self.handle.span());
         } else if end < start || end > last {
             end = last;
@@ -242,36 +253,66 @@ impl Maker<'_> {
         Call::Plant(address, frame, self.flags())
     }
 
+    fn damage(&mut self) -> Damage {
+        let flip = self.random.pick(&[1, 2, 3, 1 << 2, 1 << 3, 1 << 11, 1 << 12, 1 << 16, 1 << 20, 1 << 21, 1 << 29, 1 << 30, 1 << 31, 1 << 47, 1 << 48, 1 << 63]);
+        let place = self.random.next();
+        match self.random.below(12) {
+            0..=5 => Damage::Word { link: self.random.one_in(2), place, flip },
+            6..=8 => Damage::Number { place, flip: flip as u32 | (flip >> 32) as u32 },
+            9..=10 => {
+                let tables = self.random.pick(&[0, 0, 1, -1, 2, -2, -64]);
+                let astray = self.random.pick(&[0, 0, 1, -1, 512, -512]);
+                Damage::Lengths { words: 512 * tables + astray, numbers: tables }
+            }
+            _ => {
+                let Handle { base, level, range } = self.handle;
+                let high = 1 << 32;
+                Damage::Handle(match self.random.below(3) {
+                    0 => Handle { base: self.random.pick(&[base ^ 1, base ^ 0x800, base ^ 0x1000, (1 << 48) - 4096, 1 << 48, 0u64.wrapping_sub(4096), !0]), level, range },
+                    1 => Handle { base, level: self.random.pick(&[level ^ 1, level ^ 2, 4, level + 4, level + 256, level + high, !0]), range },
+                    _ => Handle { base, level, range: self.random.pick(&[1 - range, 2, range + 256, range + high, !0]) },
+                })
+            }
+        }
+    }
+
+    fn image(&mut self) -> Call {
+        let table = if self.random.one_in(10) { self.random.pick(&[self.n, self.n + 1, 1 << 32, !0]) } else { self.random.below(self.n) };
+        Call::Image(table, self.random.pick(&[4096, 4096, 4096, 4096, 0, 8, 4095, 4097]))
+    }
+
     fn step(&mut self, edits: bool) -> Step {
         if self.random.one_in(24) {
-            return (self.plant(), None);
+            return (self.plant(), vec![]);
         }
-        let call = match self.random.below(if edits { 14 } else { 10 }) {
-            0..=5 => Call::Map(self.map()),
-            6..=8 => {
+        let damaged = self.random.one_in(16);
+        let call = match self.random.below(if edits { 85 } else { 65 }) {
+            0..=35 => Call::Map(self.map()),
+            36..=53 => {
                 let spot = self.spot();
                 let inside = self.address(spot).wrapping_add(self.random.below(4096));
                 Call::LookUp(if self.random.one_in(20) { self.random.next() } else { inside })
             }
-            9 => {
+            54..=60 => {
                 let (start, end) = self.region();
                 Call::List(start, end, self.room())
             }
-            10..=12 => Call::Modify(self.modify(), self.room()),
+            61..=62 => self.image(),
+            63 => Call::Check,
+            64 if damaged => Call::Make,
+            64 => Call::Check,
+            65..=78 => Call::Modify(self.modify(), self.room()),
             _ => Call::Compact,
         };
-        let damage = self.random.one_in(16).then(|| Damage {
-            ledger: self.random.one_in(3),
-            link: self.random.one_in(2),
-            place: self.random.next(),
-            flip: self.random.pick(&[1, 2, 3, 1 << 2, 1 << 12, 1 << 16, 1 << 20, 1 << 21, 1 << 29, 1 << 47, 1 << 48, 1 << 63]),
-        });
-        (call, damage)
+        let damages = if damaged { self.random.pick(&[1, 1, 1, 2]) } else { 0 };
+        (call, (0..damages).map(|_| self.damage()).collect())
     }
 }
 
 pub fn sequence(random: &mut Random, edits: bool) -> Sequence {
+    let large = random.one_in(LARGE);
     let n = match random.below(16) {
+        _ if large => 4096,
         0..=1 => random.between(1, 2),
         2..=9 => random.between(3, 12),
         10..=14 => random.between(13, 32),
@@ -284,14 +325,14 @@ pub fn sequence(random: &mut Random, edits: bool) -> Sequence {
         2 => random.below(highest / 4096) * 4096,
         _ => 0x8000_0000,
     };
-    let handle = Handle { base, level: random.below(4), upper: random.one_in(2) };
+    let handle = Handle { base, level: random.below(4), range: random.below(2) };
     let mut spots = vec![0, handle.span() - 4096 * random.below(4), handle.span() - size(3u64.min(handle.level + 1))];
     for _ in 0..3 {
         let level = random.between(handle.level, 3);
         spots.push(random.next() % handle.span() / size(level) * size(level));
     }
-    let length = random.between(1, 40);
-    let mut maker = Maker { random, handle, spots, earlier: vec![] };
+    let length = random.between(1, if large { 16 } else { 40 });
+    let mut maker = Maker { random, n, handle, spots, earlier: vec![] };
     let steps = (0..length).map(|_| maker.step(edits)).collect();
     Sequence { n: n as usize, handle, steps }
 }

@@ -1,24 +1,28 @@
-// One pool three times: ptb's, the model's and the oracle's. After every call the answers, all words, the ledgers and the lists are compared.
-use crate::face;
-use crate::model::{answer, Answer, Handle, Pool};
+// One pool three times: ptb's, the model's and the oracle's. After every call the answers, all words, the ledgers and the lists are compared, and the guards around
+// all that was lent.
+use crate::face::{self, Ours};
+use crate::lent::Lent;
+use crate::model::{answer, Answer, Handle, Pool, SLOTS};
 use crate::random::{Call, Damage, Step};
 use oracle::{Oracle, Refused};
 
-const KINDS: [&str; 5] = ["map", "look up", "list", "modify", "compact"];
-const UNWRITTEN: u64 = 0x5555_5555_5555_5555;
+const KINDS: [&str; 8] = ["map", "look up", "list", "modify", "compact", "page image", "check", "make"];
+const UNWRITTEN: u8 = 0x55;
+const UNWRITTEN_WORD: u64 = 0x5555_5555_5555_5555;
 
 #[derive(Default)]
 pub struct Counts {
     // By kind of call and by the answer's number.
-    answers: [[u64; 12]; 5],
-    damaged: [[u64; 12]; 5],
+    answers: [[u64; 12]; 8],
+    damaged: [[u64; 12]; 8],
     // Calls on which the oracle had its say, and accepted calls on which it may differ: a fill that it loses.
-    oracle: [u64; 5],
+    oracle: [u64; 8],
     lost_fills: u64,
     planted: u64,
+    // Calls on a pool of 4,096 tables.
+    large: u64,
     by_rule: [u64; 5],
     words: u64,
-    pub differences: u64,
 }
 
 impl Counts {
@@ -29,7 +33,7 @@ impl Counts {
     pub fn print(&self) {
         println!("| call | run | accepted | refused, by number | compared with the oracle |");
         println!("|---|---|---|---|---|");
-        for (name, answers, oracle) in [("", &self.answers, true), (" on damaged words or ledger", &self.damaged, false)] {
+        for (name, answers, oracle) in [("", &self.answers, true), (" on a damaged pool, with other lengths or another handle", &self.damaged, false)] {
             for (kind, row) in answers.iter().enumerate().filter(|(_, row)| row.iter().sum::<u64>() > 0) {
                 let refused: Vec<String> = (1..12).filter(|&number| row[number] > 0).map(|number| format!("{number}: {}", row[number])).collect();
                 let compared = if oracle { self.oracle[kind].to_string() } else { "-".into() };
@@ -39,6 +43,7 @@ impl Counts {
         println!("chunks of accepted maps, by rules 1 to 5: {:?}", self.by_rule);
         println!("words written between calls by another hand, the pool still sound: {}", self.planted);
         println!("accepted calls that split an entry which ends at 2^64 and is not zero (the oracle loses its fill; compared with the model alone): {}", self.lost_fills);
+        println!("calls on a pool of 4,096 tables: {}", self.large);
         println!("words compared with the oracle's: {}", self.words);
     }
 }
@@ -50,6 +55,9 @@ fn kind(call: &Call) -> usize {
         Call::List(..) => 2,
         Call::Modify(..) => 3,
         Call::Compact => 4,
+        Call::Image(..) => 5,
+        Call::Check => 6,
+        Call::Make => 7,
         Call::Plant(..) => unreachable!(),
     }
 }
@@ -76,58 +84,82 @@ fn same_words(what: &str, ours: &[u64], theirs: &[u64]) -> Result<(), String> {
 }
 
 pub struct Run {
-    pub ours: Pool,
+    pub ours: Ours,
     model: Pool,
     oracle: Oracle,
 }
 
-// What a call gives: the model's answer, and the list that it writes.
-fn on_both(ours: &mut Pool, model: &mut Pool, call: &Call) -> Result<Answer, String> {
+// What a call gives: the model's answer. The list or page that it writes is compared too.
+fn on_both(ours: &mut Ours, model: &mut Pool, call: &Call) -> Result<Answer, String> {
     let (told, expected) = match call {
         Call::Map(map) => (face::map(ours, map), model.map(map)),
         Call::LookUp(va) => (face::look_up(ours, *va), model.look_up(*va)),
         Call::List(start, end, room) => {
             let (expected, lines, length) = model.list(*start, *end, |needed| room.length(needed));
-            let mut list = vec![UNWRITTEN; length as usize];
+            let mut list = Lent::filled(UNWRITTEN_WORD, length as usize);
             let told = face::list(ours, *start, *end, &mut list);
-            written(&list, &lines)?;
+            written("list", &list, &lines, UNWRITTEN_WORD)?;
             (told, expected)
         }
         Call::Modify(modify, room) => {
             let (expected, numbers, length) = model.modify(modify, |needed| room.length(needed));
-            let mut list = vec![UNWRITTEN; length as usize];
+            let mut list = Lent::filled(UNWRITTEN_WORD, length as usize);
             let told = face::modify(ours, modify, &mut list);
-            written(&list, &numbers)?;
+            written("list", &list, &numbers, UNWRITTEN_WORD)?;
             (told, expected)
         }
         Call::Compact => (face::compact(ours), model.compact()),
+        Call::Image(table, length) => {
+            let (expected, bytes) = model.image(*table, *length);
+            let mut page = Lent::filled(UNWRITTEN, *length);
+            let told = face::image(ours, *table, &mut page);
+            written("page", &page, &bytes, UNWRITTEN)?;
+            (told, expected)
+        }
+        Call::Check => (face::check(ours), model.check()),
+        Call::Make => (face::make(ours), model.remake()),
         Call::Plant(..) => unreachable!(),
     };
     same("answer", told, expected)?;
     same_words("words", &ours.words, &model.words)?;
-    same("ledger", &ours.ledger, &model.ledger)?;
+    same("ledger", &ours.ledger[..], &model.ledger[..])?;
+    same("nothing is written outside what is lent", ours.is_guarded(), true)?;
     Ok(expected)
 }
 
-// The list begins with what is expected, and the rest of it is unwritten.
-fn written(list: &[u64], expected: &[u64]) -> Result<(), String> {
-    same_words("list", &list[..expected.len()], expected)?;
-    same("the rest of the list is as it was", list[expected.len()..].iter().all(|&word| word == UNWRITTEN), true)
+// What was lent begins with what is expected, the rest of it is unwritten, and so is all around it.
+fn written<T: Copy + PartialEq + std::fmt::Debug>(what: &str, lent: &Lent<T>, expected: &[T], unwritten: T) -> Result<(), String> {
+    same(what, &lent[..expected.len()], expected)?;
+    same("the rest of it is as it was", lent[expected.len()..].iter().all(|&element| element == unwritten), true)?;
+    same("nothing is written around it", lent.is_guarded(), true)
 }
 
 impl Run {
     pub fn new(n: usize, handle: Handle) -> Run {
         let model = Pool::make(n, handle);
-        Run { ours: model.clone(), model, oracle: Oracle::new(n, handle.base, handle.level, handle.upper) }
+        // ptb makes its pool of whatever stands there.
+        let mut ours = Ours::of(&Pool::of(vec![UNWRITTEN_WORD; SLOTS * n], vec![UNWRITTEN_WORD as u32; n], handle));
+        assert_eq!(face::make(&mut ours), answer(0, &[]));
+        assert!(ours.words[..] == model.words && ours.ledger[..] == model.ledger && ours.is_guarded());
+        Run { ours, model, oracle: Oracle::new(n, handle.base, handle.level, handle.upper()) }
     }
 
-    pub fn step(&mut self, (call, damage): &Step, counts: &mut Counts) -> Result<Answer, String> {
-        if let Some(damage) = damage {
-            return self.damaged(call, damage, counts);
+    // Takes over the pools of another run of the same size.
+    pub fn load(&mut self, other: &Run) {
+        self.model.words.copy_from_slice(&other.model.words);
+        self.model.ledger.copy_from_slice(&other.model.ledger);
+        self.ours.load(&other.ours.words, &other.ours.ledger);
+        self.oracle.load(other.oracle.words(), &other.model.ledger);
+    }
+
+    pub fn step(&mut self, (call, damages): &Step, counts: &mut Counts) -> Result<Answer, String> {
+        counts.large += (self.model.ledger.len() == 4096) as u64;
+        if !damages.is_empty() {
+            return self.damaged(call, damages, counts);
         }
         if let Call::Plant(va, frame, flags) = call {
             self.model.plant(*va, *frame, *flags);
-            self.ours.words.copy_from_slice(&self.model.words);
+            self.ours.load(&self.model.words, &self.model.ledger);
             self.oracle.load(&self.model.words, &self.model.ledger);
             counts.planted += 1;
             return Ok(answer(0, &[]));
@@ -137,8 +169,8 @@ impl Run {
         for (sum, chunks) in counts.by_rule.iter_mut().zip(std::mem::take(&mut self.model.by_rule)) {
             *sum += chunks;
         }
-        same("ledger against the words", &self.ours.ledger, &self.ours.ledger_of_words()?)?;
-        same("check", face::check(&self.ours), answer(0, &[]))?;
+        same("ledger against the words", &self.model.ledger, &self.model.ledger_of_words()?)?;
+        same("check", face::check(&mut self.ours), answer(0, &[]))?;
         self.ask_oracle(call, expected, counts)?;
         Ok(expected)
     }
@@ -146,7 +178,7 @@ impl Run {
     fn ask_oracle(&mut self, call: &Call, expected: Answer, counts: &mut Counts) -> Result<(), String> {
         // The domain: what is accepted, and refusals 3 (but on modify), 5 and 6.
         let inside = match (call, expected.0) {
-            (Call::Modify(..), 3) => false,
+            (Call::Modify(..), 3) | (Call::Image(..) | Call::Check | Call::Make, _) => false,
             (_, 0 | 3 | 5 | 6) => true,
             _ => false,
         };
@@ -175,34 +207,51 @@ impl Run {
                 same_words("the oracle's list", &expected, &lines)?;
                 said
             }
-            Call::Modify(modify, _) => told(self.oracle.modify(modify.start, modify.end, modify.set, modify.clear), expected),
+            // Not live in any case: only the words are compared.
+            Call::Modify(modify, _) => told(self.oracle.modify(modify.start, modify.end, modify.set, modify.clear, false), expected),
             Call::Compact => {
                 self.oracle.compact();
                 expected
             }
-            Call::Plant(..) => unreachable!(),
+            Call::Image(..) | Call::Check | Call::Make | Call::Plant(..) => unreachable!(),
         };
         same("the oracle's answer", expected, said)?;
         counts.words += self.ours.words.len() as u64;
         same_words("the oracle's words", &self.ours.words, self.oracle.words())
     }
 
-    // The call on a copy with flipped bits, most often unsound. The check says so too.
-    fn damaged(&self, call: &Call, damage: &Damage, counts: &mut Counts) -> Result<Answer, String> {
+    // The call on a copy that something befell, most often unsound. The check says so too.
+    fn damaged(&self, call: &Call, damages: &[Damage], counts: &mut Counts) -> Result<Answer, String> {
         let mut model = self.model.clone();
         model.trusted = false;
-        if damage.ledger {
-            let place = damage.place as usize % model.ledger.len();
-            model.ledger[place] ^= damage.flip as u32 | (damage.flip >> 32) as u32;
-        } else {
-            let links: Vec<usize> = model.ledger.iter().filter(|&&number| damage.link && number >= 8).map(|&number| number as usize / 8 - 1).collect();
-            let place = if links.is_empty() { damage.place as usize % model.words.len() } else { links[damage.place as usize % links.len()] };
-            model.words[place] ^= damage.flip;
-        }
-        let mut ours = model.clone();
-        same("check", face::check(&ours), answer(if model.is_sound() { 0 } else { 8 }, &[]))?;
+        damages.iter().for_each(|damage| befall(&mut model, damage));
+        let mut ours = Ours::of(&model);
+        same("check", face::check(&mut ours), model.check())?;
         let expected = on_both(&mut ours, &mut model, call)?;
         counts.damaged[kind(call)][expected.0 as usize] += 1;
         Ok(expected)
+    }
+}
+
+fn befall(pool: &mut Pool, damage: &Damage) {
+    match *damage {
+        Damage::Word { link, place, flip } => {
+            let links: Vec<usize> = pool.ledger.iter().filter(|&&number| link && number >= 8).map(|&number| number as usize / 8 - 1).collect();
+            let any = links.get(place as usize % links.len().max(1)).copied().unwrap_or(place as usize % pool.words.len().max(1));
+            if let Some(word) = pool.words.get_mut(any) {
+                *word ^= flip;
+            }
+        }
+        Damage::Number { place, flip } => {
+            let any = place as usize % pool.ledger.len().max(1);
+            if let Some(number) = pool.ledger.get_mut(any) {
+                *number ^= flip;
+            }
+        }
+        Damage::Lengths { words, numbers } => {
+            pool.words.resize(pool.words.len().saturating_add_signed(words as isize), 0);
+            pool.ledger.resize(pool.ledger.len().saturating_add_signed(numbers as isize), 0);
+        }
+        Damage::Handle(handle) => pool.handle = handle,
     }
 }

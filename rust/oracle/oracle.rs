@@ -8,16 +8,16 @@ use std::cell::Cell;
 use std::ptr::NonNull;
 
 const SLOTS: usize = 512;
-const MOST: usize = 64;
+const MOST: usize = 4096;
 
 type Table = PageTable<El1Attributes>;
 
-// The lent tables; bit k of `free` is set where table k is free. At most 64.
+// The lent tables; bit k % 64 of word k / 64 of `free` is set where table k is free.
 struct Tables {
     first: NonNull<Table>,
     n: usize,
     base: u64,
-    free: Cell<u64>,
+    free: Vec<Cell<u64>>,
 }
 
 impl Tables {
@@ -29,7 +29,14 @@ impl Tables {
         assert!(1 <= n && n <= MOST);
         // A table is 512 words, for which zero is a value.
         let first = unsafe { NonNull::new(alloc_zeroed(Self::layout(n)) as *mut Table).unwrap() };
-        Tables { first, n, base, free: Cell::new(!0 >> (MOST - n)) }
+        let tables = Tables { first, n, base, free: vec![Cell::new(0); n.div_ceil(64)] };
+        (0..n).for_each(|k| tables.set_free(k));
+        tables
+    }
+
+    fn set_free(&self, k: usize) {
+        let word = &self.free[k / 64];
+        word.set(word.get() | 1 << (k % 64));
     }
 
     fn table(&self, k: usize) -> NonNull<Table> {
@@ -50,16 +57,16 @@ impl Drop for Tables {
 
 impl Translation<El1Attributes> for Tables {
     fn allocate_table(&mut self) -> (NonNull<Table>, PhysicalAddress) {
-        let free = self.free.get();
-        assert!(free != 0, "no free table");
-        let k = free.trailing_zeros() as usize;
-        self.free.set(free & (free - 1));
+        let place = self.free.iter().position(|word| word.get() != 0).expect("no free table");
+        let free = self.free[place].get();
+        let k = 64 * place + free.trailing_zeros() as usize;
+        self.free[place].set(free & (free - 1));
         (self.table(k), PhysicalAddress(self.base as usize + 4096 * k))
     }
 
     unsafe fn deallocate_table(&mut self, table: NonNull<Table>) {
         let k = unsafe { table.offset_from(self.first) } as usize;
-        self.free.set(self.free.get() | 1 << k);
+        self.set_free(k);
         unsafe { self.words().add(SLOTS * k).write_bytes(0, SLOTS) }
     }
 
@@ -111,8 +118,8 @@ impl Oracle {
     pub fn load(&mut self, words: &[u64], ledger: &[u32]) {
         let tables = self.root.translation();
         assert_eq!((words.len(), ledger.len()), (SLOTS * tables.n, tables.n));
-        let free = (0..tables.n).filter(|&k| ledger[k] == 0).fold(0, |free, k| free | 1 << k);
-        tables.free.set(free);
+        tables.free.iter().for_each(|word| word.set(0));
+        (0..tables.n).filter(|&k| ledger[k] == 0).for_each(|k| tables.set_free(k));
         // The crate keeps no reference to a word between its calls.
         unsafe { tables.words().copy_from_nonoverlapping(words.as_ptr(), words.len()) }
     }
@@ -144,15 +151,15 @@ impl Oracle {
         Ok(found)
     }
 
-    // Sets and clears bits of valid blocks and pages, not live.
-    pub fn modify(&mut self, start: u64, end: u64, set: u64, clear: u64) -> Result<(), Refused> {
+    // Sets and clears bits of valid blocks and pages.
+    pub fn modify(&mut self, start: u64, end: u64, set: u64, clear: u64, live: bool) -> Result<(), Refused> {
         let update = |_: &MemoryRegion, entry: &mut UpdatableDescriptor<El1Attributes>| {
             if entry.is_table() || !entry.flags().contains(El1Attributes::VALID) {
                 return Ok(());
             }
             entry.modify_flags(attributes(set), attributes(clear))
         };
-        self.root.modify_range(&region(start, end), &update, false).map(|_| ()).map_err(refused)
+        self.root.modify_range(&region(start, end), &update, live).map(|_| ()).map_err(refused)
     }
 
     pub fn compact(&mut self) {

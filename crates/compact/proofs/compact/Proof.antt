@@ -3,7 +3,7 @@ use mathlib.Core.Bool.{true}
 use native.Mathlib.Omega.{arith}
 use borrow.Author.Tests.{not-true, not-false}
 use Rattle.pool.specs.State.{st}
-use Rattle.pool.specs.Refuse.{shaped, Shaped, shaped-says}
+use Rattle.pool.specs.Refuse.{maxTables, shaped, Shaped, shaped-says}
 use Rattle.pool.specs.Sound.{soundb}
 use Rattle.compact.specs.Call.{call-misshaped, call-unsound, call-compacted}
 use Rattle.compact.proofs.compact.Statement.{statement}
@@ -71,7 +71,7 @@ compact-subtables-requires c κs =
 -- src/lib.rt:76:21
 count-used-requires : tie.Need-count-used-requires
 unfolding maxTables
-count-used-requires c κs = omega (arith, shape (c .before .before .before .before .before .before .before .before .before) .limit)
+count-used-requires c κs = omega (arith, shape (c .before .before .before .before .before .before .before .before .before .before .before .before) .limit)
 
 -- src/lib.rt:66:1
 same-length-5 : tie.Need-same-length-5

@@ -1,0 +1,63 @@
+-- `say_row` ends: it stops at the end of the row. Assumes nothing.
+use Prim.Native.Nat.{_-_}
+use native.Mathlib.Omega.{arith}
+use Rattle.report.proofs.page.say_row.Statement.{statement}
+use Rattle.report.proofs.page.say_row.Tie as tie
+use Rattle.report.proofs.page.say_row.Reads as reads
+use Rattle.report.proofs.page.say_row.Lts as lts
+use Rattle.report.proofs.page.end_of.Reads as end-of-reads
+use Rattle.report.proofs.page.page_byte.Reads as page-byte-reads
+use Rattle.report.proofs.page.say_byte.Reads as say-byte-reads
+
+abbrev Inv-loop : tie.InvT-loop
+Inv-loop page at end place₀ place = Unit {0}
+
+abbrev μ-loop : tie.MeasureT-loop
+μ-loop page at end place₀ place = end - place
+
+-- src/page.rt:35:9
+end-of-requires : tie.Need-end-of-requires Inv-loop μ-loop
+end-of-requires c κs = tt
+
+-- src/page.rt:37:5
+loop-holds : tie.Need-loop-holds Inv-loop μ-loop
+loop-holds c = tt
+
+-- src/page.rt:38:18
+page-byte-requires : tie.Need-page-byte-requires Inv-loop μ-loop
+page-byte-requires c κs = tt
+
+-- src/page.rt:38:9
+say-byte-requires : tie.Need-say-byte-requires Inv-loop μ-loop
+say-byte-requires c κs = tt
+
+-- src/page.rt:39:9
+add-place : tie.Need-add-place Inv-loop μ-loop
+add-place c = omega arith
+
+-- src/page.rt:37:5
+loop-less : tie.Need-loop-less Inv-loop μ-loop
+loop-less c = omega arith
+
+-- src/page.rt:37:5
+loop-again : tie.Need-loop-again Inv-loop μ-loop
+loop-again c = tt
+
+-- src/page.rt:34:1
+returns : tie.Need-returns Inv-loop μ-loop
+returns c = tt
+
+pub say-row-spec : {M : Type 1} → statement M
+say-row-spec =
+    tie.close
+    (tie.spec
+    Inv-loop
+    μ-loop
+    end-of-requires
+    loop-holds
+    page-byte-requires
+    say-byte-requires
+    add-place
+    loop-less
+    loop-again
+    returns)

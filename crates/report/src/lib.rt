@@ -1,0 +1,53 @@
+// Answers in words that a person reads, written to standard output.
+// Leans on script for the lines of a text. No function needs anything of its caller.
+mod entry;
+mod page;
+mod refusal;
+
+pub use entry::say_entry;
+pub use entry::say_looked;
+pub use page::say_page;
+pub use refusal::say_refusal;
+use script::Word;
+
+pub fn say(text: &[u8]) {
+    io::write_all(1, text);
+}
+
+// A part of a text.
+pub fn say_part(text: &[u8], part: Word) {
+    let start = part.start;
+    let end = part.end;
+    if end < start {
+        return;
+    }
+    if text.len() < end {
+        return;
+    }
+    io::write_all(1, &text[start..end]);
+}
+
+// A line of a text, counted from 0.
+pub fn say_line(text: &[u8], number: u64) {
+    say_part(text, script::line_of(text, number));
+}
+
+// A number in hexadecimal, of at least so many digits.
+pub fn say_hex(value: u64, width: usize) {
+    io::write_all(1, b"0x");
+    io::print_hex(1, value, width);
+}
+
+// A number in decimal, after what it counts.
+pub fn say_count(what: &[u8], count: u64) {
+    io::write_all(1, what);
+    io::print_decimal(1, count);
+}
+
+// What is wrong with a line of a script.
+pub fn say_complaint(line: u64, why: &[u8]) {
+    say_count(b"  line ", line);
+    say(b": ");
+    say(why);
+    say(b"\n");
+}

@@ -1,0 +1,193 @@
+// A script, line by line: the words of a line, and the numbers that they stand for.
+// Leans on libc's read alone. No function needs anything of its caller, and each ends on any bytes.
+mod line;
+mod number;
+mod usage;
+
+pub use line::Line;
+pub use line::read_line;
+pub use number::Number;
+pub use number::number_of;
+pub use usage::Ask;
+pub use usage::asked;
+
+// A word: the bytes from start up to end.
+pub struct Word {
+    pub start: usize,
+    pub end: usize,
+}
+
+// What the words after a command stand for.
+pub enum Values {
+    Count(usize),
+    TooMany,
+    TooLarge(Word),
+    Wrong(Word),
+}
+
+// The most words that a line has after its command.
+pub const MOST: usize = 6;
+
+// The place of a word that is not among the names.
+pub const NOWHERE: u64 = 64;
+
+// The byte at a place; a blank past the end.
+pub fn byte_at(text: &[u8], at: usize) -> u8 {
+    if at < text.len() { text[at] } else { b' ' }
+}
+
+// The first place from `at` on, below `end`, where blanks end, or a word does.
+fn skip(text: &[u8], at: usize, end: usize, blanks: bool) -> usize {
+    let mut place = at;
+    while place < end {
+        let blank = byte_at(text, place) <= b' ';
+        if blank != blanks {
+            return place;
+        }
+        place += 1;
+    }
+    place
+}
+
+// The next word from `at` on; an empty one where there is none.
+pub fn next_word(text: &[u8], at: usize, end: usize) -> Word {
+    let start = skip(text, at, end, true);
+    Word {
+        start,
+        end: skip(text, start, end, false),
+    }
+}
+
+// Where the comment of a line begins, or its end.
+pub fn comment(text: &[u8], end: usize) -> usize {
+    let mut place = 0;
+    while place < end {
+        if byte_at(text, place) == b'#' {
+            return place;
+        }
+        place += 1;
+    }
+    place
+}
+
+// Whether a word of one text is a word of another.
+fn same(text: &[u8], word: Word, other: &[u8], name: Word) -> bool {
+    let end = word.end;
+    let last = name.end;
+    let mut i = word.start;
+    let mut j = name.start;
+    while i < end {
+        if last <= j {
+            return false;
+        }
+        if byte_at(text, i) != byte_at(other, j) {
+            return false;
+        }
+        i += 1;
+        j += 1;
+    }
+    j == last
+}
+
+// A line of a text, counted from 0; an empty one past the last.
+pub fn line_of(text: &[u8], number: u64) -> Word {
+    let mut start = 0;
+    let mut left = number;
+    let mut place = 0;
+    while place < text.len() {
+        let byte = text[place];
+        place += 1;
+        if byte != b'\n' {
+            continue;
+        }
+        if left == 0 {
+            return Word {
+                start,
+                end: place - 1,
+            };
+        }
+        left -= 1;
+        start = place;
+    }
+    Word { start, end: start }
+}
+
+// Which line of the names begins with a word, counted from 0.
+pub fn place_of(text: &[u8], word: Word, names: &[u8]) -> u64 {
+    let mut place = 0;
+    while place < NOWHERE {
+        let line = line_of(names, place);
+        let name = next_word(names, line.start, line.end);
+        if same(text, word, names, name) {
+            return place;
+        }
+        place += 1;
+    }
+    NOWHERE
+}
+
+// How many words a part of a text has, up to one that begins with a mark.
+pub fn count_words(text: &[u8], part: Word, mark: u8) -> usize {
+    let end = part.end;
+    let mut at = part.start;
+    let mut count = 0;
+    while count <= MOST {
+        let word = next_word(text, at, end);
+        if word.end <= word.start {
+            return count;
+        }
+        if byte_at(text, word.start) == mark {
+            return count;
+        }
+        at = word.end;
+        count += 1;
+    }
+    count
+}
+
+// What a word stands for: a number, or a name that means one. The names stand in groups of three: the first of a group
+// means 0, the second 1, the third 2; no word is #, which begins a comment.
+fn value_of(text: &[u8], word: Word) -> Number {
+    let names = b"lower
+upper
+#
+hole
+block
+page
+accepted
+refused
+#
+#
+noblocks
+#
+";
+    let place = place_of(text, word, names);
+    if place < NOWHERE {
+        return Number::Value(place % 3);
+    }
+    number_of(text, word.start, word.end)
+}
+
+// What the words from `at` on stand for.
+pub fn values_of(text: &[u8], at: usize, end: usize, values: &mut [u64; 6]) -> Values {
+    let mut place = at;
+    let mut count = 0;
+    while count < MOST {
+        let word = next_word(text, place, end);
+        if word.end <= word.start {
+            return Values::Count(count);
+        }
+        place = word.end;
+        match value_of(text, word) {
+            Number::Value(value) => values[count] = value,
+            Number::TooLarge => return Values::TooLarge(word),
+            Number::Wrong => return Values::Wrong(word),
+        }
+        count += 1;
+    }
+    let word = next_word(text, place, end);
+    if word.start < word.end {
+        return Values::TooMany;
+    }
+    Values::Count(count)
+}

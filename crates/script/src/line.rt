@@ -1,0 +1,59 @@
+// Reading a line from standard input, a byte at a time, so that a typed line is answered at once.
+
+// A line: how long it is, counted past the buffer's end too.
+pub enum Line {
+    Length(usize),
+    End,
+}
+
+// A byte of the input.
+enum Byte {
+    Next(u8),
+    End,
+}
+
+// The length at which a line is taken as ended, whatever follows.
+const LONGEST: usize = 0x1_0000_0000;
+
+fn next_byte() -> Byte {
+    let mut one = [0u8; 1];
+    if libc::read(0, &mut one) <= 0 {
+        return Byte::End;
+    }
+    Byte::Next(one[0])
+}
+
+// A byte of the line, where there is room for it.
+fn put(text: &mut [u8; 256], at: usize, byte: u8) {
+    if at < 256 {
+        text[at] = byte;
+    }
+}
+
+// The next line, without its end; a carriage return is passed over.
+pub fn read_line(text: &mut [u8; 256]) -> Line {
+    let mut length = 0;
+    let mut passed = 0;
+    while passed < LONGEST {
+        passed += 1;
+        match next_byte() {
+            Byte::End => {
+                if length == 0 {
+                    return Line::End;
+                }
+                return Line::Length(length);
+            }
+            Byte::Next(byte) => {
+                if byte == b'\n' {
+                    return Line::Length(length);
+                }
+                if byte == b'\r' {
+                    continue;
+                }
+                put(text, length, byte);
+                length += 1;
+            }
+        }
+    }
+    Line::Length(length)
+}

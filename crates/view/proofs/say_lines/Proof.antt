@@ -1,0 +1,57 @@
+-- `say_lines` ends: each turn goes past a line. Assumes nothing.
+use Prim.Native.Nat.{_-_}
+use native.Mathlib.Omega.{arith}
+use Rattle.view.proofs.say_lines.Statement.{statement}
+use Rattle.view.proofs.say_lines.Tie as tie
+use Rattle.view.proofs.say_lines.Reads as reads
+use Rattle.view.proofs.say_lines.Lts as lts
+use Rattle.view.proofs.after_run.Reads as after-run-reads
+use Rattle.view.proofs.say_run.Reads as say-run-reads
+
+abbrev Inv-loop : tie.InvT-loop
+Inv-loop lines count line₀ line = Unit {0}
+
+abbrev μ-loop : tie.MeasureT-loop
+μ-loop lines count line₀ line = count - line
+
+-- src/lib.rt:54:5
+loop-holds : tie.Need-loop-holds Inv-loop μ-loop
+loop-holds c = tt
+
+-- src/lib.rt:55:13
+after-run-requires : tie.Need-after-run-requires Inv-loop μ-loop
+after-run-requires c κs = tt
+
+-- src/lib.rt:57:13
+returns : tie.Need-returns Inv-loop μ-loop
+returns c = tt
+
+-- src/lib.rt:59:9
+say-run-requires : tie.Need-say-run-requires Inv-loop μ-loop
+say-run-requires c κs = tt
+
+-- src/lib.rt:54:5
+loop-less : tie.Need-loop-less Inv-loop μ-loop
+loop-less c = omega arith
+
+-- src/lib.rt:54:5
+loop-again : tie.Need-loop-again Inv-loop μ-loop
+loop-again c = tt
+
+-- src/lib.rt:52:1
+returns-2 : tie.Need-returns-2 Inv-loop μ-loop
+returns-2 c = tt
+
+pub say-lines-spec : {M : Type 1} → statement M
+say-lines-spec =
+    tie.close
+    (tie.spec
+    Inv-loop
+    μ-loop
+    loop-holds
+    after-run-requires
+    returns
+    say-run-requires
+    loop-less
+    loop-again
+    returns-2)

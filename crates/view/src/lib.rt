@@ -1,0 +1,187 @@
+// What stands in the words and the ledger of a pool and in a list, in words that a person reads; and what is put there by hand.
+// Leans on report. No function needs anything of its caller.
+
+// A number of a list's line; 0 past its end.
+fn number_at(lines: &[u64], line: u64, column: u64) -> u64 {
+    if 768 <= line {
+        return 0;
+    }
+    if 4 <= column {
+        return 0;
+    }
+    let at = (line * 4 + column) as usize;
+    if at < lines.len() { lines[at] } else { 0 }
+}
+
+// Whether a line is an empty entry of a level.
+fn is_empty(lines: &[u64], line: u64, level: u64) -> bool {
+    if number_at(lines, line, 2) != 0 {
+        return false;
+    }
+    number_at(lines, line, 3) == level
+}
+
+// The line after a single one, or after a run of empty entries of one level.
+fn after_run(lines: &[u64], line: u64, count: u64) -> u64 {
+    let level = number_at(lines, line, 3);
+    let mut next = line;
+    while next < count {
+        if !is_empty(lines, next, level) {
+            return if next == line { next + 1 } else { next };
+        }
+        next += 1;
+    }
+    next
+}
+
+// A line, or a run of them.
+fn say_run(lines: &[u64], line: u64, next: u64) {
+    if next <= line {
+        return;
+    }
+    report::say_entry(
+        number_at(lines, line, 0),
+        number_at(lines, next - 1, 1),
+        number_at(lines, line, 2),
+        number_at(lines, line, 3),
+        next - line,
+    );
+}
+
+// The lines of a list; empty entries of one level that follow each other share a line.
+pub fn say_lines(lines: &[u64], count: u64) {
+    let mut line = 0;
+    while line < count {
+        let next = after_run(lines, line, count);
+        if next <= line {
+            return;
+        }
+        say_run(lines, line, next);
+        line = next;
+    }
+}
+
+// Where a word stands in the pool; the pool's length if it is in none of its tables.
+fn place_of(words: &[u64], table: u64, slot: u64) -> usize {
+    if 8 <= table {
+        return words.len();
+    }
+    if 512 <= slot {
+        return words.len();
+    }
+    (table * 512 + slot) as usize
+}
+
+// A word, by its table and slot.
+fn say_word(table: u64, slot: u64, word: u64) {
+    report::say_count(b"  table ", table);
+    report::say_count(b" word ", slot);
+    report::say(b": ");
+    report::say_hex(word, 1);
+    report::say(b"\n");
+}
+
+// The word at a table's slot, and whether there is one.
+fn say_word_at(words: &[u64], table: u64, slot: u64) -> bool {
+    let at = place_of(words, table, slot);
+    if words.len() <= at {
+        report::say(b"  there is no such word\n");
+        return false;
+    }
+    say_word(table, slot, words[at]);
+    true
+}
+
+// Some words of a table.
+pub fn say_words(words: &[u64], table: u64, first: u64, count: u64) {
+    let mut done = 0;
+    while done < count {
+        if 512 <= first {
+            return;
+        }
+        if 512 <= done {
+            return;
+        }
+        if !say_word_at(words, table, first + done) {
+            return;
+        }
+        done += 1;
+    }
+}
+
+// How many words are not zero.
+fn count_words(words: &[u64]) -> u64 {
+    let mut count = 0;
+    let mut i = 0;
+    while i < words.len() {
+        let word = words[i];
+        i += 1;
+        if word == 0 {
+            continue;
+        }
+        count += 1;
+    }
+    count
+}
+
+pub fn say_words_not_zero(words: &[u64]) {
+    report::say_count(b"  words not zero: ", count_words(words));
+    report::say(b"\n");
+}
+
+// A word written by hand.
+pub fn put(words: &mut [u64], table: u64, slot: u64, value: u64) {
+    let at = place_of(words, table, slot);
+    if words.len() <= at {
+        return report::say(b"  there is no such word\n");
+    }
+    words[at] = value;
+    say_word(table, slot, value);
+}
+
+// The slot that refers to a table, by its ledger number.
+fn say_slot(number: u64) {
+    if number < 8 {
+        return report::say(b", the root\n");
+    }
+    report::say_count(b", under table ", (number / 8 - 1) / 512);
+    report::say_count(b" slot ", (number / 8 - 1) % 512);
+    report::say(b"\n");
+}
+
+// A ledger number: the table's level, and the slot that refers to it.
+fn say_entered(table: u64, number: u64) {
+    report::say_count(b"  table ", table);
+    report::say_count(b": ", number);
+    if number == 0 {
+        return report::say(b", free\n");
+    }
+    report::say_count(b", level ", (number % 8 + 4) % 8);
+    say_slot(number);
+}
+
+fn say_row(table: usize, number: u32) {
+    say_entered(table as u64, number as u64);
+}
+
+// The ledger.
+pub fn say_ledger(ledger: &[u32]) {
+    let mut table = 0;
+    while table < ledger.len() {
+        say_row(table, ledger[table]);
+        table += 1;
+    }
+}
+
+// A ledger number entered by hand: 32 bits of it.
+pub fn enter(ledger: &mut [u32], table: u64, number: u64) {
+    let at = table as usize;
+    if ledger.len() <= at {
+        return report::say(b"  there is no such table\n");
+    }
+    if 0xFFFF_FFFF < number {
+        return report::say(b"  a ledger number has 32 bits\n");
+    }
+    ledger[at] = number as u32;
+    say_entered(table, number);
+}

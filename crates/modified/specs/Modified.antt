@@ -24,7 +24,8 @@ use Rattle.tree.specs.Walk.{Seen, mapped as seenMapped, hole as seenHole, seen}
 use Rattle.tree.specs.Edit.{edited}
 use Rattle.tree.specs.Shown.{FineTable}
 use Rattle.tree.specs.Demands.{modified as tree-modified, holes-stay, modify-others, modify-tables}
-use Rattle.mapped.specs.Terms.{walkOf, Shown, mapped, hole, shown, InSpan, leftOf, rootIn}
+use Rattle.walked.specs.AsBefore.{walkOf, Shown, mapped, hole, shown}
+use Rattle.mapped.specs.Terms.{InSpan, leftOf, rootIn}
 use Rattle.mapped.specs.Leaf.{root-fine}
 use Rattle.mapped.specs.Shown.{inBytes, walk-shown}
 use Rattle.mapped.specs.Place.{span-spans}

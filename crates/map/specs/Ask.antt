@@ -101,7 +101,7 @@ module _ (h : Handle) (end : ℕ) (m : Map) where
 
 -- ---- what they leave
 
-only-plain : (h : Handle) (f : ℕ) → only (flagSet h) f ≡ true → flagsOf f ≡ f
+pub only-plain : (h : Handle) (f : ℕ) → only (flagSet h) f ≡ true → flagsOf f ≡ f
 unfolding only flagSet el1Flags
 only-plain h f e =
     let sub : bitAnd f el1Flags ≡ f = eqb→eq (bitAnd f el1Flags) f (rw e tt) in
@@ -141,7 +141,7 @@ frame-says frame length ok = ⊎-elim
     (eq-or (frame % 4096) 0)
 
 -- both ends are multiples of 4096
-up-pages : (a : ℕ) → alignUp a 4096 % 4096 ≡ 0
+pub up-pages : (a : ℕ) → alignUp a 4096 % 4096 ≡ 0
 unfolding alignUp up sizeAt
 up-pages a = byBool (ltb (up a 4096) (2 ^ 64)) (λ e. rw e (down-paged 3 (a + 4095))) (λ e. rw e refl)
 

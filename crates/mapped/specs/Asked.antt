@@ -8,7 +8,7 @@ use lib.Bits.{bitAnd, and-le-r}
 use lib.Dec.{eqb, eqb→eq, leb, ltb, lit<}
 use borrow.Author.Tests.{ltb-true}
 use Rattle.laws.specs.Bit.{Sub}
-use Rattle.laws.specs.Size.{sizeAt, size-high, up}
+use Rattle.laws.specs.Size.{sizeAt, size-high, up, down-paged}
 use Rattle.laws.specs.Test.{byBool, le-or}
 use Rattle.address.specs.Address.{alignUp}
 use Rattle.entry.specs.Word.{only}
@@ -23,18 +23,19 @@ use Rattle.pool.specs.declared.Refusal.{Refusal}
 use Rattle.pool.specs.declared.Refusal.the-variants.{End, InvalidFlags, FlagSet, RegionBackwards, AddressRange, Frame}
 use Rattle.pool.specs.declared.Outcome.{Outcome}
 use Rattle.pool.specs.declared.Outcome.the-variants.{Accepted, Refused}
-use Rattle.verify.specs.Verify.{endFits, span as wide, inRange, verify, lower-start, lower-end, upper-start, verify-forwards}
+use Rattle.verify.specs.Verify.{endFits, span as wide, inRange, verify, lower-start, lower-end, upper-start, verify-forwards, verified-forwards}
 use Rattle.rules.specs.declared.Map.{Map}
 use Rattle.rules.specs.Fit.{Fit}
-use Rattle.map.specs.Ask.{asked, frameAsked, first as firstOf, verifyMap, passes, asked-fit}
+use Rattle.map.specs.Ask.{asked, frameAsked, first as firstOf, verifyMap, passes, only-plain, asked-fit, up-pages}
 use Rattle.tree.specs.Page.{span, span-size, span-suc, first, in-from}
 use Rattle.tree.specs.Root.{upperRoot, upper-span}
+use Rattle.tree.specs.Chunks.{Inside}
 use Rattle.mapped.specs.Terms.{rootOf}
 use Rattle.mapped.specs.Leaf.{set-below}
 use Rattle.mapped.specs.Stand.{Allowed}
 use Rattle.mapped.specs.Pieces.{Area}
 
-no-refusal : {x : Outcome} {r : Refusal} → Refused r ≡ x → x ≡ Accepted → ⊥
+pub no-refusal : {x : Outcome} {r : Refusal} → Refused r ≡ x → x ≡ Accepted → ⊥
 no-refusal e q = let z : _≡_ {A = ℕ} 0 1 = cc in omega arith
 
 -- ---- a region that refusal 6 leaves lies in the root's span
@@ -74,6 +75,26 @@ aligned-below : (a : ℕ) → alignUp a 4096 < 2 ^ 64
 unfolding alignUp
 aligned-below a = byBool (ltb (up a 4096) (2 ^ 64)) (λ e. rw e (ltb-true (up a 4096) (2 ^ 64) e)) (λ e. rw e (omega arith))
 
+-- a region that is rounded and verified, with its frame, in the root's table
+pub pages-inside : (h : Handle) (start end frame : ℕ) → h .level ≤ 3 → verify h (rounded start end) ≡ Accepted → frame % 4096 ≡ 0
+    → let left = 3 - h .level in let r = rounded start end in
+    Inside (first (suc left) (rootOf (h .range) left)) (span (suc left)) (r .start .0) (r .end .0) frame
+unfolding rounded sizeAt
+pages-inside h start end frame low ok paged =
+    let r : MemoryRegion = rounded start end in
+    let some = verified-forwards h r ok in
+    let e : h .level ≡ 3 - (3 - h .level) = omega arith in
+    let range : inRange (h .range) (3 - (3 - h .level)) r ≡ Accepted = ap (λ (l : ℕ). inRange (h .range) l r) (sym e) ∙ verify-forwards h r some ∙ ok in
+    let pages = root-pages (h .range) (3 - h .level) r (omega arith) range some (aligned-below end) (up-pages end) in
+    record { startPage = down-paged 3 start; endPage = up-pages end; framePage = paged; low = pages .0; high = pages .1 }
+
+-- flags that refusals 3 and 4 leave
+pub flags-allowed : (h : Handle) (f : ℕ) → only (flagSet h) f ≡ true → f / 2 % 2 ≡ 0 → Allowed h f
+unfolding only
+flags-allowed h f from clear =
+    let sub : Sub f (flagSet h) = eqb→eq (bitAnd f (flagSet h)) f (rw from tt) in
+    record { plain = record { bits = only-plain h f from; clear = clear; wide = omega (arith, and-le-r f (flagSet h), set-below h) }; from = sub }
+
 -- ---- what is left of a call
 
 module _ (h : Handle) (start end frame flags constraints : ℕ) where
@@ -81,34 +102,19 @@ module _ (h : Handle) (start end frame flags constraints : ℕ) where
   m = asked start end frame flags constraints
 
   module _ (ok : verifyMap h end m ≡ Accepted) where
-    from-set : Sub flags (flagSet h)
-    unfolding asked only
-    from-set = eqb→eq (bitAnd flags (flagSet h)) flags (rw (passes h end m ok .from) tt)
+    pub asked-allowed : Allowed h (m .flags)
+    asked-allowed = let p = passes h end m ok in flags-allowed h (m .flags) (p .from) (p .plain)
 
     small : flags < 2 ^ 64
-    small = omega (arith, and-le-r flags (flagSet h), from-set, set-below h)
+    unfolding asked
+    small = asked-allowed .plain .wide
 
     fit : Fit m
     fit = asked-fit h start end frame flags constraints small ok
 
-    pub asked-allowed : Allowed h (m .flags)
-    unfolding asked
-    asked-allowed = record { plain = record { bits = fit .flags .alone; clear = fit .flags .no-table; wide = small }; from = from-set }
-
-    end-below : m .region .end .0 < 2 ^ 64
-    unfolding asked rounded
-    end-below = aligned-below end
-
     pub asked-area : h .level ≤ 3 → Area (3 - h .level) (rootOf (h .range) (3 - h .level)) m
-    asked-area low =
-        let e : h .level ≡ 3 - (3 - h .level) = omega arith in
-        let range : inRange (h .range) (3 - (3 - h .level)) (m .region) ≡ Accepted =
-        ap (λ (l : ℕ). inRange (h .range) l (m .region)) (sym e) ∙ verify-forwards h (m .region) (fit .some) ∙ passes h end m ok .region in
-        let pages = root-pages (h .range) (3 - h .level) (m .region) (omega arith) range (fit .some) end-below (fit .to) in
-        record {
-          inside = record { startPage = fit .from; endPage = fit .to; framePage = fit .frame; low = pages .0; high = pages .1 };
-          room = fit .room;
-        }
+    unfolding asked
+    asked-area low = record { inside = pages-inside h start end frame low (passes h end m ok .region) (fit .frame); room = fit .room }
 
 -- ---- refusals 2 to 7 are none of the later ones
 
@@ -116,7 +122,7 @@ abbrev pub Early : Outcome → Type 0
 Early Accepted = Unit {0}
 Early (Refused r) = number r < 8
 
-cond-early : (b : Bool) (x y : Outcome) → Early x → Early y → Early (cond b x y)
+pub cond-early : (b : Bool) (x y : Outcome) → Early x → Early y → Early (cond b x y)
 cond-early true x y a e = a
 cond-early false x y a e = e
 
@@ -134,7 +140,7 @@ range-early Lower level r =
 range-early Upper level r =
     cond-early (ltb (r .start .0) (2 ^ 63) || ltb (r .start .0) (2 ^ 64 - wide level)) (Refused (AddressRange (r .start))) Accepted (lit< tt) tt
 
-verify-early : (h : Handle) (r : MemoryRegion) → Early (verify h r)
+pub verify-early : (h : Handle) (r : MemoryRegion) → Early (verify h r)
 unfolding verify
 verify-early h r = cond-early (ltb (r .end .0) (r .start .0)) (Refused (RegionBackwards r)) (inRange (h .range) (h .level) r) (lit< tt) (range-early (h .range) (h .level) r)
 

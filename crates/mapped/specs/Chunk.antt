@@ -1,42 +1,37 @@
 -- One chunk of a table of a sound pool: what the rules do on lists is what they do on the tree of its slot, and takes no more tables than that needs.
 -- Assumes nothing.
 use mathlib.Core.Path.{_≡_, refl, sym, ap, subst, subst₂, _∙_}
-use mathlib.Core.Logic.{_⊎_, inl, inr, _≢_}
-use Prim.Native.Nat.{ℕ, suc, _+_, _-_, _%_, _≤_, _<_}
+use Prim.Native.Nat.{ℕ, suc, _+_, _-_, _≤_, _<_}
 use native.Mathlib.Omega.{arith}
-use Rattle.laws.specs.Test.{eq-or}
-use Rattle.entry.specs.Sub.{subOf, sub-leaf, sub-link}
+use Rattle.entry.specs.Sub.{subOf}
 use Rattle.entry.specs.declared.Sub.the-variants.{Table}
 use Rattle.region.specs.Region.{entryIndex}
 use Rattle.pool.specs.State.{St, tables, wordAt, storeAt}
-use Rattle.pool.specs.Number.{lowestFree, free}
+use Rattle.pool.specs.Number.{free}
 use Rattle.pool.specs.declared.Handle.{Handle}
 use Rattle.pool.specs.declared.Found.the-variants.{At}
 use Rattle.table.specs.Table.{taken, freeTree}
 use Rattle.rules.specs.declared.Map.{Map}
 use Rattle.rules.specs.declared.Rule.the-variants.{Down}
-use Rattle.rules.specs.Rules.{ruleOf, fillOf}
+use Rattle.rules.specs.Rules.{ruleOf}
 use Rattle.rules.specs.Laws.{rule-page}
-use Rattle.split.specs.Split.{below, split-is, below-table, below-split}
+use Rattle.split.specs.Split.{below}
 use Rattle.need.specs.Needed.{slot-below}
 use Rattle.map.specs.Put.{mapRange}
 use Rattle.map.specs.Laws.{drop-table}
 use Rattle.map.specs.Range.{stepAt, chunk-write, chunk-keep, chunk-drop, chunk-into}
-use Rattle.forest.specs.Tree.{Tree, leaf, node, treeAt-node}
+use Rattle.forest.specs.Tree.{Tree, leaf, node}
 use Rattle.forest.specs.Sound.{TableWord, Refers}
-use Rattle.forest.specs.Frame.{slot-refers}
 use Rattle.forest.specs.Keep.{slot-leaf}
-use Rattle.sound.specs.Alloc.{free-found}
 use Rattle.sound.specs.Clauses.{levelAt}
-use Rattle.sound.specs.Codec.{Placed, codecOf, childOf, slotWord, view, word-in, used-in, treeFrom}
-use Rattle.sound.specs.Generic.{pool-sound}
-use Rattle.sound.specs.Take.{take-is, take-free}
+use Rattle.sound.specs.Codec.{Placed, codecOf, view, word-in, treeFrom}
 use Rattle.tree.specs.Visit.{down as goDown, opened, splits, fillTree}
 use Rattle.tree.specs.Shown.{FineTree}
 use Rattle.mapped.specs.Leaf.{slot-fine}
 use Rattle.mapped.specs.Rule.{saysOf, LeafRule, keeps, writes, splits as leaf-splits, TableRule, drops, enters, page-rule, leaf-rule, table-rule}
 use Rattle.mapped.specs.Stand.{Allowed, Piece, write-stands}
-use Rattle.mapped.specs.Moves.{slotShows, Ready, Slotted, Worked, kept, stored, dropped, entered, entered-ready, after, taken-ready, taken-shows, split}
+use Rattle.mapped.specs.Moves.{slotShows, Ready, Slotted, Worked, kept, stored, dropped}
+use Rattle.mapped.specs.Down.{Holds, holds-table, holds-leaf, holds, opens}
 use Rattle.mapped.specs.Pieces.{doneTo, takes, doneTable, takesTable, done-keep, done-write, done-down, takes-down, Area, piece-area}
 
 -- what opening a leaf or a table takes
@@ -48,14 +43,6 @@ pub takes-enter : (m : Map) (left : ℕ) (f : ℕ → Tree) → saysOf m (suc le
 unfolding splits opened
 takes-enter m left f e = let z : takes m (suc left) (node f) ≡ 0 + takesTable m left (node f) = takes-down m left (node f) e in omega arith
 
-done-split : (m : Map) (left w : ℕ) → saysOf m (suc left) (leaf w) ≡ goDown → doneTo m (suc left) (leaf w) ≡ doneTable m left (fillTree left w)
-unfolding opened
-done-split m left w e = done-down m left (leaf w) e
-
-done-enter : (m : Map) (left : ℕ) (f : ℕ → Tree) → saysOf m (suc left) (node f) ≡ goDown → doneTo m (suc left) (node f) ≡ doneTable m left (node f)
-unfolding opened
-done-enter m left f e = done-down m left (node f) e
-
 module _ {h : Handle} (placed : Placed h) where
   -- a map of a table with `left` levels below its own does on lists what it does on the table's tree
   abbrev pub Works : ℕ → Type 0
@@ -63,21 +50,24 @@ module _ {h : Handle} (placed : Placed h) where
       → Worked placed s (mapRange left h k m s) left k (doneTable m left (treeFrom h s left k)) (takesTable m left (treeFrom h s left k))
 
   module _ (q k : ℕ) (m : Map) (s : St) (left : ℕ) (allowed : Allowed h (m .flags)) (piece : Piece left q m) (R : Ready placed s left k) where
-    abbrev level : ℕ
+    abbrev pub level : ℕ
     level = 3 - left
 
-    abbrev i : ℕ
+    abbrev pub i : ℕ
     i = entryIndex level (m .region .start .0)
 
     abbrev w : ℕ
     w = wordAt s k i
 
     -- what is to be shown, if the slot shows t
-    abbrev Done : Tree → Type 0
+    abbrev pub Done : Tree → Type 0
     Done t = Slotted placed s (stepAt level h k m s) left k i (doneTo m left t) (takes m left t)
 
     inside : i < 512
     inside = slot-below level (m .region .start .0)
+
+    up : levelAt s k ≡ level
+    up = omega (arith, R .low)
 
     fine : FineTree left (slotShows h s left k i)
     fine = slot-fine placed (R .pool) left k i (R .used) (R .low) inside
@@ -127,78 +117,48 @@ module _ {h : Handle} (placed : Placed h) where
     goes-in : {c : ℕ} {t : St} → ruleOf l m x ≡ Down → taken (At c) t ≡ below h l k j s → mapRange left h c m t ≡ stepAt l h k m s
     goes-in {c} {t} r found = ap (λ (d : ℕ). mapRange d h c m t) (sym last) ∙ chunk-into h l k m s refl refl r found c refl high
 
-    -- ---- a split, and then the new table
+    -- ---- down, after a split if there is no table
 
-    module _ (old : ¬ (TableWord (levelAt s k) x)) (other : x % 4 ≢ 3) where
-      by-split : takes m (suc left) (leaf x) ≤ free (s .ledger) → ruleOf l m x ≡ Down → saysOf m (suc left) (leaf x) ≡ goDown → Goal (leaf x)
-      by-split room r e = go (free-found (s .ledger) (omega (arith, takes-split m left x e)))
-        where
-          go : (f : ℕ) × (lowestFree (s .ledger) ≡ At f) → Goal (leaf x)
-          go (f, found) =
-              let new : St = after placed R j slot old f found in
-              let shows = taken-shows placed R j slot old f found in
-              let fewer = take-free h (l + 1) k j (fillOf l x) s f found in
-              let enough : takesTable m left (fillTree left x) ≤ free (new .ledger) = omega (arith, takes-split m left x e) in
-              let W = works q f m new allowed (piece-area piece) (taken-ready placed R j slot old f found)
-              (subst (λ (t : Tree). takesTable m left t ≤ free (new .ledger)) (sym shows) enough) in
-              let W′ = subst (λ (t : Tree). Worked placed new (mapRange left h f m new) left f (doneTable m left t) (takesTable m left t)) shows W in
-              let there : taken (At f) new ≡ below h l k j s =
-              sym (take-is h (l + 1) k j (fillOf l x) s f found) ∙ split-is h l k j s (fillOf l x) refl
-              ∙ below-split h l k j s refl (sym (sub-leaf (h .base .0) (tables s) l x (λ table. other (table .1)))) in
-              subst (λ (s′ : St). Slotted placed s s′ (suc left) k j (doneTo m (suc left) (leaf x)) (takes m (suc left) (leaf x))) (goes-in r there)
-              (subst₂ (λ (t : Tree) (c : ℕ). Slotted placed s (mapRange left h f m new) (suc left) k j t c) (sym (done-split m left x e)) (sym (takes-split m left x e))
-              (split placed R j slot old f found W′))
+    by-down : let t = slotShows h s (suc left) k j in takes m (suc left) t ≤ free (s .ledger) → ruleOf l m x ≡ Down → saysOf m (suc left) t ≡ goDown → Goal t
+    by-down room r e =
+        let t : Tree = slotShows h s (suc left) k j in
+        let all = takes-down m left t e in
+        let O = opens placed R j slot (omega arith) in
+        let fewer = O .room in
+        let W = works q (O .table) m (O .state) allowed (piece-area piece) (O .ready)
+        (subst (λ (u : Tree). takesTable m left u ≤ free (O .state .ledger)) (sym (O .shows)) (omega arith)) in
+        let W′ = subst (λ (u : Tree). Worked placed (O .state) (mapRange left h (O .table) m (O .state)) left (O .table) (doneTable m left u) (takesTable m left u)) (O .shows) W in
+        subst (λ (s′ : St). Slotted placed s s′ (suc left) k j (doneTo m (suc left) t) (takes m (suc left) t)) (goes-in r (O .found))
+        (subst₂ (λ (u : Tree) (c : ℕ). Slotted placed s (mapRange left h (O .table) m (O .state)) (suc left) k j u c) (sym (done-down m left t e)) (sym all) (O .back W′))
 
     -- ---- a table
 
-    module _ (e : ℕ) (r : Refers (codecOf h placed) (view s) k j e) where
+    module _ (e : ℕ) (r : Refers (codecOf h placed) (view s) k j e) (leads : subOf (h .base .0) (tables s) l x ≡ Table e) where
       abbrev g : ℕ → Tree
       g i = slotShows h s left e i
 
-      is-node : treeFrom h s left e ≡ node g
-      is-node = treeAt-node (childOf (h .base .0)) left (slotWord s) e
-
-      shows-table : slotShows h s (suc left) k j ≡ node g
-      shows-table = slot-refers left r ∙ is-node
-
-      leads : (t : St) → tables t ≡ tables s → subOf (h .base .0) (tables t) l x ≡ Table e
-      leads t same =
-          rw (sym (word-in s k j slot) ∙ r .says, same)
-          (sub-link (h .base .0) (tables s) l e high (R .shape .paged) (R .shape .ended) (used-in s e (r .used)))
-
-      by-table : TableRule l m (suc left) x g → takes m (suc left) (node g) ≤ free (s .ledger) → Goal (node g)
-      by-table (drops rule says) room =
-          let fine = subst (FineTree (suc left)) shows-table (slot-fine placed (R .pool) (suc left) k j (R .used) (R .low) slot) in
+      by-table : slotShows h s (suc left) k j ≡ node g → TableRule l m (suc left) x g → takes m (suc left) (slotShows h s (suc left) k j) ≤ free (s .ledger)
+          → Goal (slotShows h s (suc left) k j)
+      by-table shows (drops rule says) room =
+          let fine = subst (FineTree (suc left)) shows (slot-fine placed (R .pool) (suc left) k j (R .used) (R .low) slot) in
           let put : freeTree left h e (storeAt k j (m .flags) s) ≡ stepAt l h k m s =
           ap (λ (d : ℕ). freeTree d h e (storeAt k j (m .flags) s)) (sym last)
-          ∙ drop-table h l x (storeAt k j (m .flags) s) refl e (leads (storeAt k j (m .flags) s) refl)
+          ∙ drop-table h l x (storeAt k j (m .flags) s) refl e leads
           ∙ chunk-drop h l k m s refl refl (m .flags) rule in
-          subst₂ (λ (s′ : St) (t : Tree). Slotted placed s s′ (suc left) k j t (takes m (suc left) (node g))) put (sym (done-write m (suc left) (m .flags) (node g) says))
+          subst Goal (sym shows)
+          (subst₂ (λ (s′ : St) (t : Tree). Slotted placed s s′ (suc left) k j t (takes m (suc left) (node g))) put (sym (done-write m (suc left) (m .flags) (node g) says))
           (dropped placed R j slot (takes m (suc left) (node g)) (m .flags) r
-          (write-stands h (suc left) q (levelAt s k) (m .flags) m (node g) allowed piece (R .low) fine says))
-      by-table (enters rule says) room =
-          let W = works q e m s allowed (piece-area piece) (entered-ready placed R j slot r)
-          (subst (λ (t : Tree). takesTable m left t ≤ free (s .ledger)) (sym is-node) (omega (arith, takes-enter m left g says))) in
-          let W′ = subst (λ (t : Tree). Worked placed s (mapRange left h e m s) left e (doneTable m left t) (takesTable m left t)) is-node W in
-          subst (λ (s′ : St). Slotted placed s s′ (suc left) k j (doneTo m (suc left) (node g)) (takes m (suc left) (node g)))
-          (goes-in rule (below-table h l k j s refl e (leads s refl)))
-          (subst₂ (λ (t : Tree) (c : ℕ). Slotted placed s (mapRange left h e m s) (suc left) k j t c) (sym (done-enter m left g says)) (sym (takes-enter m left g says))
-          (entered placed R j slot r W′))
+          (write-stands h (suc left) q (levelAt s k) (m .flags) m (node g) allowed piece (R .low) fine says)))
+      by-table shows (enters rule says) room = by-down room rule (ap (saysOf m (suc left)) shows ∙ says)
 
     up-works : takes m (suc left) (slotShows h s (suc left) k j) ≤ free (s .ledger) → Goal (slotShows h s (suc left) k j)
-    up-works room = go (eq-or (x % 4) 3)
+    up-works room = go (holds placed R j slot)
       where
-        go : (x % 4 ≡ 3) ⊎ (x % 4 ≢ 3) → Goal (slotShows h s (suc left) k j)
-        go (inl both) =
-            let n = pool-sound placed (R .pool) .names k j (R .used) (omega (arith, R .low), ap (λ (y : ℕ). y % 4) (word-in s k j slot) ∙ both) in
-            let shows = shows-table (n .0) (n .1) in
-            subst Goal (sym shows) (by-table (n .0) (n .1) (table-rule m left x (omega (arith, R .low)) (λ i. slotShows h s left (n .0) i) both)
-            (subst (λ (t : Tree). takes m (suc left) t ≤ free (s .ledger)) shows room))
-        go (inr other) =
-            let old : ¬ (TableWord (levelAt s k) x) = λ table. other (table .1) in
-            let shows = shows-leaf q k m s (suc left) allowed piece R old in
+        go : Holds placed s left k j → Goal (slotShows h s (suc left) k j)
+        go (holds-table e r both leads shows) = by-table e r leads shows (table-rule m left x (omega (arith, R .low)) (λ i. slotShows h s left e i) both) room
+        go (holds-leaf old other shows) =
             subst Goal (sym shows) (by-leaf q k m s (suc left) allowed piece R old (leaf-rule m left x (omega (arith, R .low)) other)
-            (by-split old other (subst (λ (t : Tree). takes m (suc left) t ≤ free (s .ledger)) shows room)))
+            (λ r e. subst Goal shows (by-down room r (ap (saysOf m (suc left)) shows ∙ e))))
 
   -- ---- ONE CHUNK
 

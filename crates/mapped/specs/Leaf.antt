@@ -7,11 +7,12 @@ use lib.Dec.{T, lit<}
 use Rattle.laws.specs.Bit.{Sub}
 use Rattle.laws.specs.Size.{sizeAt}
 use Rattle.entry.specs.Word.{addressOf, el1Flags}
-use Rattle.pool.specs.State.{St}
+use Rattle.pool.specs.State.{St, wordAt}
 use Rattle.pool.specs.Number.{levelOf, rootNumber}
 use Rattle.pool.specs.Sound.{flagSet, plainFlags, leafb}
 use Rattle.pool.specs.declared.Handle.{Handle}
 use Rattle.forest.specs.Tree.{treeAt-node, entry}
+use Rattle.forest.specs.Sound.{TableWord}
 use Rattle.sound.specs.Clauses.{InUse, levelAt, LeafWord, SoundPool}
 use Rattle.sound.specs.Codec.{Placed, codecOf, childOf, slotWord, treeFrom, rootTree}
 use Rattle.sound.specs.Generic.{leaf-says, pool-sound}
@@ -58,6 +59,10 @@ module _ {h : Handle} (placed : Placed h) {s : St} (P : SoundPool h s) where
 
   pub root-fine : FineTable (3 - h .level) (rootTree h s)
   root-fine = table-fine (3 - h .level) 0 root-used (root-left placed P)
+
+-- the flags of a leaf are from the set
+pub leaf-from : {h : Handle} {s : St} → SoundPool h s → (k i : ℕ) → i < 512 → InUse s k → ¬ (TableWord (levelAt s k) (wordAt s k i)) → Sub (plain (wordAt s k i)) (flagSet h)
+leaf-from {h} {s} P k i inside used old = subst (λ (x : ℕ). Sub x (flagSet h)) (plain-is (wordAt s k i)) (P .leaves k i inside used old .flags)
 
 -- ---- a fine word with flags from the set may stand
 

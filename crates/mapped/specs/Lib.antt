@@ -7,7 +7,9 @@ pub mod Stand
 -- a map on lists is a map on trees: one slot, one chunk, one table
 pub mod Moves
 pub mod Pieces
+pub mod Down
 pub mod Chunk
+pub mod Loop
 pub mod Range
 pub mod Need
 -- the call and the walk

@@ -6,11 +6,9 @@ use native.Mathlib.Bridge.{le-prop}
 use native.Mathlib.Nat.{ℕ-set}
 use native.Mathlib.Omega.{arith}
 use lib.ListN.{length, getD}
-use Rattle.laws.specs.Bit.{Sub}
 use Rattle.pool.specs.State.{St, tables, wordAt, numberAt, storeAt}
 use Rattle.pool.specs.Number.{levelOf, numberOf, lowestFree, lowest-found, free}
 use Rattle.pool.specs.Refuse.{Shaped, shaped-keep}
-use Rattle.pool.specs.Sound.{flagSet}
 use Rattle.pool.specs.declared.Handle.{Handle}
 use Rattle.pool.specs.declared.Found.the-variants.{At}
 use Rattle.table.specs.Table.{takeAt, freeTree}
@@ -19,6 +17,7 @@ use Rattle.forest.specs.Tree.{Tree, leaf, entry}
 use Rattle.forest.specs.Sound.{TableWord, IsTable, Refers}
 use Rattle.forest.specs.Under.{refers-level}
 use Rattle.forest.specs.Split.{Splits, Fit, new-tree}
+use Rattle.forest.specs.Place.{below-self, over-trans}
 use Rattle.forest.specs.Move.{Work, move-skip, move-down, move-split, split-at}
 use Rattle.sound.specs.Clauses.{InUse, levelAt, SoundPool}
 use Rattle.sound.specs.Codec.{Placed, shaped-placed, codecOf, childOf, slotWord, view, level-of, number-pos, treeFrom}
@@ -29,7 +28,7 @@ use Rattle.sound.specs.Take.{take-free, take-splits, take-fit, take-tables, tak
 use Rattle.sound.specs.Free.{free-step, free-free}
 use Rattle.tree.specs.Fine.{Fine}
 use Rattle.tree.specs.Visit.{fillTree}
-use Rattle.mapped.specs.Leaf.{plain-is, leaf-fine}
+use Rattle.mapped.specs.Leaf.{leaf-fine, leaf-from}
 use Rattle.mapped.specs.Rule.{fill-length, fill-at, fill-tree}
 use Rattle.mapped.specs.Stand.{fill-stands}
 
@@ -128,7 +127,7 @@ module _ {h : Handle} (placed : Placed h) where
       filled j small =
           subst (Stands h (level + 1)) (sym (fill-at left w (omega (arith, R .low)) j small))
           (fill-stands h left w fine j small (level + 1) (omega (arith, R .low))
-          (subst (λ (x : ℕ). Sub x (flagSet h)) (plain-is w) (R .pool .leaves k i inside (R .used) old .flags)))
+          (leaf-from (R .pool) k i inside (R .used) old))
 
       high : level + 1 ≤ 3
       high = omega arith
@@ -179,3 +178,27 @@ module _ {h : Handle} (placed : Placed h) where
         };
         spare = omega (arith, W .spare, take-free h (level + 1) k i words s f found);
       }
+
+  -- ---- work on a whole table
+
+  module _ {s s′ : St} {left k cost : ℕ} {t : Tree} (R : Ready s left k) (W : Worked s s′ left k t cost) where
+    pub worked-shaped : Shaped h s′
+    worked-shaped = shaped-keep h s s′ (R .shape) (W .same-words) (W .same-tables)
+
+    pub worked-pool : SoundPool h s′
+    worked-pool = sound-pool placed (worked-shaped .sized) (W .work .over .sound)
+
+    -- the table is still there
+    pub worked-ready : Ready s′ left k
+    worked-ready =
+        let own : numberAt s′ k ≡ numberAt s k = W .work .over .ledger k (R .used) below-self in
+        record { shape = worked-shaped; pool = worked-pool; used = rw own (R .used); low = rw own (R .low) }
+
+    -- more work after it
+    pub worked-twice : {s″ : St} {t′ : Tree} {more : ℕ} → Worked s′ s″ left k t′ more → Worked s s″ left k t′ (cost + more)
+    worked-twice next = record {
+      work = record { over = over-trans (pool-sound placed (R .pool)) (W .work .over) (next .work .over); tree = next .work .tree };
+      same-tables = next .same-tables ∙ W .same-tables;
+      same-words = next .same-words ∙ W .same-words;
+      spare = omega (arith, W .spare, next .spare);
+    }

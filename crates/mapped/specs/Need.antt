@@ -36,7 +36,7 @@ use Rattle.mapped.specs.Rule.{saysOf, LeafRule, keeps, writes, splits, T
 use Rattle.mapped.specs.Moves.{slotShows, Ready, entered-ready}
 use Rattle.mapped.specs.Pieces.{takes, takesTable}
 use Rattle.mapped.specs.Chunk.{takes-split, takes-enter}
-use Rattle.mapped.specs.Range.{slot-of}
+use Rattle.mapped.specs.Loop.{slot-of}
 
 -- nothing is taken unless the rule goes down
 takes-keep : (m : Map) (left : ℕ) (t : Tree) → saysOf m left t ≡ keep → takes m left t ≡ 0
@@ -77,7 +77,7 @@ child-fill left w a low =
     let up : 3 - suc left + 1 ≡ 3 - left = omega arith in
     ap (λ (l : ℕ). getD (fillOf (3 - suc left) w) (entryIndex l a) 0) up ∙ fill-at left w low (entryIndex (3 - left) a) (slot-below (3 - left) a)
 
-slot-fill : (left w i : ℕ) → i < 512 → trees.slotIn (fillTree left w) i ≡ leaf (fillWord left w i)
+pub slot-fill : (left w i : ℕ) → i < 512 → trees.slotIn (fillTree left w) i ≡ leaf (fillWord left w i)
 unfolding trees.slotIn
 slot-fill left w i inside = ap (λ (t : Tree). trees.slotIn t i) (fill-node left w) ∙ fill-slot left w i inside
 

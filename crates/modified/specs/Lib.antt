@@ -1,0 +1,20 @@
+-- What document 01 says of a modify, of the call itself. Read `Terms` and `Modified`; the rest leads from the lists to the trees.
+pub mod Numbers
+pub mod Terms
+-- a modify on lists is a modify on trees: one word, the two passes over a table, one table
+pub mod Word
+pub mod Passes
+pub mod Range
+pub mod Splits
+-- the list
+pub mod Gathered
+pub mod Notes
+pub mod Listing
+pub mod Counted
+pub mod Once
+-- the call
+pub mod Asked
+pub mod Call
+pub mod Place
+-- what follows
+pub mod Modified

@@ -1,0 +1,210 @@
+-- DOCUMENT 01'S MODIFY, of the call itself: `callOf` is the definition `modifyCall` that the contract of the public call cites, `walkOf` the Arm walk of the words,
+-- and nothing is asked of the pool but that the call is accepted. `shown` is what "as before" compares: kind of answer, frame, flags. Assumes nothing.
+use mathlib.Core.Path.{_≡_, refl, sym, ap, _∙_}
+use mathlib.Core.Bool.{true, false, cond}
+use mathlib.Core.List.{List, _++_}
+use lib.ListN.{length, drop}
+use mathlib.Core.Logic.{_↔_}
+use Prim.Native.Nat.{ℕ, suc, _+_, _*_, _/_, _%_, _≤_, _<_}
+use native.Mathlib.Omega.{arith}
+use Rattle.pool.specs.State.{St}
+use Rattle.pool.specs.Number.{used, free}
+use Rattle.pool.specs.declared.Handle.{Handle}
+use Rattle.pool.specs.declared.Refusal.the-variants.{WantOfRoom, HouseRule, Short}
+use Rattle.modify.specs.declared.Modified.the-variants.{Refused}
+use Rattle.modify.specs.Ask.{asked}
+use Rattle.modify.specs.Call.{Modifying, modifying}
+use Rattle.forest.specs.Tree.{Tree}
+use Rattle.forest.specs.Nodes.{nodes}
+use Rattle.sound.specs.Clauses.{SoundPool}
+use Rattle.sound.specs.Codec.{shaped-placed, rootTree}
+use Rattle.sound.specs.Hanging.{used-tree}
+use Rattle.tree.specs.Word.{valid, valid-of, valid-none}
+use Rattle.tree.specs.Walk.{Seen, mapped as seenMapped, hole as seenHole, seen}
+use Rattle.tree.specs.Edit.{edited}
+use Rattle.tree.specs.Shown.{FineTable}
+use Rattle.tree.specs.Demands.{modified as tree-modified, holes-stay, modify-others, modify-tables}
+use Rattle.walked.specs.AsBefore.{walkOf, Shown, mapped, hole, shown}
+use Rattle.mapped.specs.Terms.{InSpan, leftOf, rootIn}
+use Rattle.mapped.specs.Leaf.{root-fine}
+use Rattle.mapped.specs.Shown.{inBytes, walk-shown}
+use Rattle.mapped.specs.Place.{span-spans}
+use Rattle.modified.specs.Terms.{Call, callOf, Modifies, Passed, surveyed, InRegion, flagsAfter, pagesOf, treeAfter, madeBy, numbersOf, Fits}
+use Rattle.modified.specs.Numbers.{occurs}
+use Rattle.modified.specs.Call.{workAfter, given, splits-made, numbers-made, numbers-one, call-full, call-broken, call-short, call-accepted, full-back, broken-back, short-back, call-passed, call-fits, call-shaped, call-sound, call-tree, call-answer, call-off, call-enough, call-on}
+use Rattle.modified.specs.Place.{region-page, page-region, region-spans}
+
+-- ---- what a walk shows, read back
+
+record WasMapped (x : Seen) (f p : ℕ) : Type 0 where
+  frame : ℕ
+  is : x ≡ seenMapped f frame
+  at : frame * 4096 ≡ p
+
+was-mapped : (x : Seen) (f p : ℕ) → inBytes x ≡ mapped f p → WasMapped x f p
+unfolding inBytes
+was-mapped (seenMapped g q) f p e = record { frame = q; is = ap (λ (y : ℕ). seenMapped y q) (let z : g ≡ f = cc in z); at = let z : q * 4096 ≡ p = cc in z }
+was-mapped (seenHole g) f p e = let z : _≡_ {A = ℕ} 0 1 = cc in absurd (omega arith)
+
+was-hole : (x : Seen) (f : ℕ) → inBytes x ≡ hole f → x ≡ seenHole f
+unfolding inBytes
+was-hole (seenMapped g q) f e = let z : _≡_ {A = ℕ} 0 1 = cc in absurd (omega arith)
+was-hole (seenHole g) f e = ap seenHole (let z : g ≡ f = cc in z)
+
+still-mapped : (x f p : ℕ) → x ≡ f → f % 2 ≡ 1 → inBytes (cond (valid x) (seenMapped x p) (seenHole x)) ≡ mapped f (p * 4096)
+unfolding inBytes
+still-mapped x f p e odd = rw (e, valid-of f odd)
+
+now-hole : (x f p : ℕ) → x ≡ f → f % 2 ≡ 0 → inBytes (cond (valid x) (seenMapped x p) (seenHole x)) ≡ hole f
+unfolding inBytes
+now-hole x f p e even = rw (e, valid-none f even)
+
+flags-are : (c : Call) (f : ℕ) → edited (pagesOf c .set) (pagesOf c .clear) f ≡ flagsAfter c f
+unfolding edited flagsAfter asked
+flags-are c f = refl
+
+-- ---- AN ACCEPTED CALL
+
+module _ {h : Handle} {c : Call} {s s′ : St} {list list′ : List ℕ} {n k : ℕ} (modifies : Modifies h c s list n k s′ list′) where
+  -- the pool is sound afterwards;
+  pub modify-keeps-sound : SoundPool h s′
+  modify-keeps-sound = call-sound modifies
+
+  passed : Passed h c s
+  passed = call-passed modifies
+
+  fine : FineTable (leftOf h) (rootTree h s)
+  fine = root-fine (shaped-placed (passed .shape)) (passed .pool)
+
+  after-shown : (va : ℕ) → shown (walkOf h s′ va) ≡ inBytes (seen (suc (leftOf h)) (treeAfter h c s) (va / 4096))
+  after-shown va =
+      walk-shown (call-shaped modifies) (call-sound modifies) va ∙ ap (λ (t : Tree). inBytes (seen (suc (leftOf h)) t (va / 4096))) (call-tree modifies)
+
+  module _ (va : ℕ) where
+    before-shown : {x : Shown} → shown (walkOf h s va) ≡ x → inBytes (seen (suc (leftOf h)) (rootTree h s) (va / 4096)) ≡ x
+    before-shown is = sym (walk-shown (passed .shape) (passed .pool) va) ∙ is
+
+    module _ (at : InRegion c va) {f p : ℕ} (was : shown (walkOf h s va) ≡ mapped f p) where
+      was-page : WasMapped (seen (suc (leftOf h)) (rootTree h s) (va / 4096)) f p
+      was-page = was-mapped (seen (suc (leftOf h)) (rootTree h s) (va / 4096)) f p (before-shown was)
+
+      region-after : let x = edited (pagesOf c .set) (pagesOf c .clear) f in
+          shown (walkOf h s′ va) ≡ inBytes (cond (valid x) (seenMapped x (was-page .frame)) (seenHole x))
+      region-after =
+          after-shown va
+          ∙ ap inBytes (tree-modified (leftOf h) (rootIn h) (rootTree h s) fine (pagesOf c) (given passed) (va / 4096) (region-spans passed va at) f (was-page .frame)
+          (region-page passed va at) (was-page .is))
+
+      -- a page of the region that was mapped keeps its frame, with the flags (flags or set) without clear;
+      pub modify-valid-pages : flagsAfter c f % 2 ≡ 1 → shown (walkOf h s′ va) ≡ mapped (flagsAfter c f) p
+      modify-valid-pages v =
+          region-after ∙ still-mapped (edited (pagesOf c .set) (pagesOf c .clear) f) (flagsAfter c f) (was-page .frame) (flags-are c f) v
+          ∙ ap (mapped (flagsAfter c f)) (was-page .at)
+
+      -- where that clears VALID it is a hole with these flags;
+      pub modify-cleared-pages : flagsAfter c f % 2 ≡ 0 → shown (walkOf h s′ va) ≡ hole (flagsAfter c f)
+      modify-cleared-pages v =
+          region-after ∙ now-hole (edited (pagesOf c .set) (pagesOf c .clear) f) (flagsAfter c f) (was-page .frame) (flags-are c f) v
+
+    -- a hole of the region stays as it is;
+    pub modify-holes-stay : InRegion c va → {f : ℕ} → shown (walkOf h s va) ≡ hole f → shown (walkOf h s′ va) ≡ hole f
+    unfolding inBytes
+    modify-holes-stay at {f} was =
+        after-shown va
+        ∙ ap inBytes (holes-stay (leftOf h) (rootIn h) (rootTree h s) fine (pagesOf c) (given passed) (va / 4096) (region-spans passed va at) f (region-page passed va at)
+        (was-hole (seen (suc (leftOf h)) (rootTree h s) (va / 4096)) f (before-shown was)))
+
+    -- every other address of the span walks as before;
+    pub modify-elsewhere-as-before : InSpan h va → ¬ (InRegion c va) → shown (walkOf h s′ va) ≡ shown (walkOf h s va)
+    modify-elsewhere-as-before at other =
+        after-shown va
+        ∙ ap inBytes (modify-others (leftOf h) (rootIn h) (rootTree h s) fine (pagesOf c) (given passed) (va / 4096) (span-spans h va (passed .shape .level) at)
+        (λ of. other (page-region passed va of)))
+        ∙ sym (walk-shown (passed .shape) (passed .pool) va)
+
+  -- the answer is the tables in use afterwards: those before, with those made; none is freed
+  pub modify-tables-in-use : (n ≡ used (s′ .ledger)) × (used (s′ .ledger) ≡ used (s .ledger) + madeBy h c s)
+  modify-tables-in-use =
+      let before = used-tree (passed .shape) (passed .pool) in
+      let after = used-tree (call-shaped modifies) (call-sound modifies) in
+      let tree = ap nodes (call-tree modifies) in
+      let count = modify-tables (leftOf h) (rootIn h) (rootTree h s) (pagesOf c) in
+      (call-answer modifies .0, omega arith)
+
+  -- ---- the list
+
+  -- not live, the list stays untouched;
+  pub modify-list-untouched : c .live ≡ false → list′ ≡ list
+  modify-list-untouched off = call-off modifies off
+
+  -- live, it is answered how many numbers there are, and the list holds them and then what it held: it has room for all of them
+  pub modify-list-exactly : c .live ≡ true → (k ≡ length (numbersOf h c s)) × (k ≤ length list) × (list′ ≡ numbersOf h c s ++ drop k list)
+  modify-list-exactly on = let p = call-on modifies on in (p .0, omega (arith, p .0, call-enough modifies on), p .1)
+
+-- ---- THE REFUSALS 9 TO 11
+
+module _ (h : Handle) (c : Call) (s : St) (list : List ℕ) where
+  -- 9 is given exactly when none of refusals 1 to 8 is, and more tables are made than are free at entry, live or not;
+  pub modify-refused-9-exactly : ((a b : ℕ) × (s′ : St) × (list′ : List ℕ) × (callOf h c s list ≡ modifying (Refused (WantOfRoom a b)) s′ list′))
+      ↔ (Passed h c s × (free (s .ledger) < madeBy h c s))
+  modify-refused-9-exactly = (
+    λ at. full-back h c s list (at .4),
+    λ full. (madeBy h c s, free (s .ledger), s, list, call-full (full .0) list (full .1)),
+  )
+
+  -- it carries both numbers, and leaves the state and the list as they were;
+  pub modify-refusal-9-carries : {a b : ℕ} {s′ : St} {list′ : List ℕ} → callOf h c s list ≡ modifying (Refused (WantOfRoom a b)) s′ list′
+      → (a ≡ madeBy h c s) × (b ≡ free (s .ledger)) × (s′ ≡ s) × (list′ ≡ list)
+  modify-refusal-9-carries {a} {b} is =
+      let back = full-back h c s list is in
+      let same = sym is ∙ call-full (back .0) list (back .1) in
+      let p : Refused (WantOfRoom a b) ≡ Refused (WantOfRoom (madeBy h c s) (free (s .ledger))) = ap (λ (x : Modifying). x .answer) same in (
+        let e : a ≡ madeBy h c s = cc in e,
+        let e : b ≡ free (s .ledger) = cc in e,
+        ap (λ (x : Modifying). x .state) same,
+        ap (λ (x : Modifying). x .list) same,
+      )
+
+  -- the survey's count of splits is what the modify makes;
+  pub modify-splits-made : Passed h c s → surveyed h c s .splits ≡ madeBy h c s
+  modify-splits-made passed = splits-made passed
+
+  -- 10 is given exactly when none of refusals 1 to 9 is, and a live call breaks the house rule;
+  pub modify-refused-10-exactly : ((w : ℕ) × (s′ : St) × (list′ : List ℕ) × (callOf h c s list ≡ modifying (Refused (HouseRule w)) s′ list′))
+      ↔ (Passed h c s × (madeBy h c s ≤ free (s .ledger)) × (c .live ≡ true) × (surveyed h c s .broken ≡ true))
+  modify-refused-10-exactly = (
+    λ at. broken-back h c s list (at .3),
+    λ broken. (surveyed h c s .word, s, list, call-broken (broken .0) list (broken .1) (broken .2) (broken .3)),
+  )
+
+  -- 11 is given exactly when none of refusals 1 to 10 is, and a live call would list more numbers than the list has room for;
+  pub modify-refused-11-exactly : ((n : ℕ) × (s′ : St) × (list′ : List ℕ) × (callOf h c s list ≡ modifying (Refused (Short n)) s′ list′))
+      ↔ (Passed h c s × (madeBy h c s ≤ free (s .ledger)) × (c .live ≡ true) × (surveyed h c s .broken ≡ false) × (length list < length (numbersOf h c s)))
+  modify-refused-11-exactly = (
+    λ at. short-back h c s list (at .3),
+    λ short. (length (numbersOf h c s), s, list, call-short (short .0) list (short .1) (short .2) (short .3) (short .4)),
+  )
+
+  -- it carries the length that is needed, and leaves the state and the list as they were;
+  pub modify-refusal-11-carries : {n : ℕ} {s′ : St} {list′ : List ℕ} → callOf h c s list ≡ modifying (Refused (Short n)) s′ list′
+      → (n ≡ length (numbersOf h c s)) × (s′ ≡ s) × (list′ ≡ list)
+  modify-refusal-11-carries {n} is =
+      let back = short-back h c s list is in
+      let same = sym is ∙ call-short (back .0) list (back .1) (back .2) (back .3) (back .4) in
+      let p : Refused (Short n) ≡ Refused (Short (length (numbersOf h c s))) = ap (λ (x : Modifying). x .answer) same in
+      (let e : n ≡ length (numbersOf h c s) = cc in e, ap (λ (x : Modifying). x .state) same, ap (λ (x : Modifying). x .list) same)
+
+  -- the survey's count of numbers is the list's, where the house rule is kept;
+  pub modify-numbers-counted : Passed h c s → surveyed h c s .broken ≡ false → surveyed h c s .numbers ≡ length (numbersOf h c s)
+  modify-numbers-counted passed kept = numbers-made passed kept
+
+  -- no number stands in it twice;
+  pub modify-numbers-once : Passed h c s → (x : ℕ) → occurs x (numbersOf h c s) ≤ 1
+  modify-numbers-once passed x = numbers-one passed x
+
+  -- the call is accepted exactly when none of refusals 1 to 11 is given
+  pub modify-accepted-exactly : ((n k : ℕ) × (s′ : St) × (list′ : List ℕ) × Modifies h c s list n k s′ list′) ↔ (Passed h c s × Fits h c s list)
+  modify-accepted-exactly = (
+    λ at. (call-passed (at .4), call-fits (at .4)),
+    λ fits. let w = workAfter h c s list in (used (w .state .ledger), w .count, w .state, w .list, record { answers = call-accepted (fits .0) list (fits .1) }),
+  )

@@ -1,0 +1,96 @@
+-- The words in which document 01's Modify is said of the call: the call and its answer, its region, the flags after it, the tree after it and the tables that it
+-- makes. Definitions alone; the walk and the root's span are those of `mapped`. Assumes nothing.
+use mathlib.Core.Path.{_≡_}
+use mathlib.Core.Bool.{Bool, true, false, cond}
+use mathlib.Core.List.{List}
+use Prim.Native.Nat.{ℕ, _-_, _^_, _≤_, _<_}
+use lib.Bits.{bitAnd, bitOr}
+use Rattle.region.specs.Region.{rounded}
+use lib.ListN.{length}
+use Rattle.pool.specs.State.{St}
+use Rattle.pool.specs.Number.{free}
+use Rattle.pool.specs.Refuse.{Shaped}
+use Rattle.pool.specs.declared.Handle.{Handle}
+use Rattle.pool.specs.declared.Outcome.the-variants.{Accepted}
+use Rattle.edit.specs.declared.Edit.{Edit}
+use Rattle.survey.specs.declared.Survey.{Survey}
+use Rattle.survey.specs.Find.{surveyRange}
+use Rattle.modify.specs.declared.Modified.{Modified}
+use Rattle.modify.specs.declared.Modified.the-variants.{Tables, Live}
+use Rattle.modify.specs.Ask.{asked, verifyEdit}
+use Rattle.modify.specs.Call.{Modifying, modifying, modifyCall}
+use Rattle.forest.specs.Tree.{Tree}
+use Rattle.sound.specs.Clauses.{SoundPool}
+use Rattle.sound.specs.Codec.{rootTree}
+use Rattle.tree.specs.Modify.{Modify, modifyTree, modifyMade}
+use Rattle.tree.specs.DocumentModify.{modifyPages}
+use Rattle.mapped.specs.Terms.{leftOf, rootIn}
+use Rattle.modified.specs.Numbers.{tableNumbers}
+
+-- ---- the call
+
+-- what a call of modify gives: two addresses, the bits to set and to clear, and whether the tables are in use meanwhile
+pub record Call : Type 0 where
+  pub start : ℕ
+  pub end : ℕ
+  pub set : ℕ
+  pub clear : ℕ
+  pub live : Bool
+
+-- answer, state and list, as the contract of the public call has them
+abbrev pub callOf : Handle → Call → St → List ℕ → Modifying
+callOf h c s list = modifyCall h (c .start) (c .end) (c .set) (c .clear) (c .live) s list
+
+-- "live modify adds its count of numbers"
+unfoldable pub accepted : Bool → ℕ → ℕ → Modified
+accepted live tables numbers = cond live (Live tables numbers) (Tables tables)
+
+-- the call is accepted: it answers n tables and, live, k numbers, and leaves the state s′ and the list list′
+pub record Modifies (h : Handle) (c : Call) (s : St) (list : List ℕ) (n k : ℕ) (s′ : St) (list′ : List ℕ) : Type 0 where
+  pub answers : callOf h c s list ≡ modifying (accepted (c .live) n k) s′ list′
+
+-- the edit that it asks for
+abbrev pub askedOf : Call → Edit
+askedOf c = asked (c .start) (c .end) (c .set) (c .clear) (c .live)
+
+-- refusals 1 to 8 are not given
+pub record Passed (h : Handle) (c : Call) (s : St) : Type 0 where
+  pub shape : Shaped h s
+  pub asks : verifyEdit h (c .end) (askedOf c) ≡ Accepted
+  pub pool : SoundPool h s
+
+-- what the call finds before anything is written
+abbrev pub surveyed : Handle → Call → St → Survey
+surveyed h c s = surveyRange (leftOf h) h s 0 (askedOf c) (record { splits = 0; numbers = 0; broken = false; word = 0 })
+
+-- the address lies in the call's region: "start is rounded down and end up to 4096"
+pub record InRegion (c : Call) (va : ℕ) : Type 0 where
+  pub from : rounded (c .start) (c .end) .start .0 ≤ va
+  pub below : va < rounded (c .start) (c .end) .end .0
+
+-- the flags f after the edit: "bits to set and to clear"
+unfoldable pub flagsAfter : Call → ℕ → ℕ
+flagsAfter c f = bitAnd (bitOr f (c .set)) (2 ^ 64 - 1 - c .clear)
+
+-- ---- the root's tree
+
+-- the call in pages
+abbrev pub pagesOf : Call → Modify
+pagesOf c = let e = askedOf c in modifyPages (e .set) (e .clear) (e .region .start .0) (e .region .end .0)
+
+-- the tree after the modify, and the tables that it makes (splits); it frees none
+abbrev pub treeAfter : Handle → Call → St → Tree
+treeAfter h c s = modifyTree (leftOf h) (rootIn h) (pagesOf c) (rootTree h s)
+
+abbrev pub madeBy : Handle → Call → St → ℕ
+madeBy h c s = modifyMade (leftOf h) (rootIn h) (pagesOf c) (rootTree h s)
+
+-- the numbers of the entries whose words change: "a lower table's numbers when that table is finished, a table's own last, ascending"
+abbrev pub numbersOf : Handle → Call → St → List ℕ
+numbersOf h c s = let e = askedOf c in tableNumbers (e .set) (e .clear) (leftOf h) (e .region) (rootTree h s)
+
+-- refusals 9 to 11 are not given
+pub record Fits (h : Handle) (c : Call) (s : St) (list : List ℕ) : Type 0 where
+  pub room : madeBy h c s ≤ free (s .ledger)
+  pub kept : c .live ≡ true → surveyed h c s .broken ≡ false
+  pub enough : c .live ≡ true → surveyed h c s .numbers ≤ length list

@@ -46,7 +46,21 @@ fn by_hand(command: u64, words: &mut [u64], ledger: &mut [u32], values: &[u64; 6
     view::enter(ledger, values[0], values[1]);
 }
 
-// What writes: 7 make, 8 put, 9 enter, 10 map, 11 unmap.
+// What changes maps that stand: 12 modify, 13 live, 14 compact.
+fn change(
+    command: u64,
+    words: &mut [u64],
+    ledger: &mut [u32],
+    bench: Bench,
+    values: &[u64; 6],
+) -> Bench {
+    if command == 14 {
+        return calls::compact(words, ledger, bench);
+    }
+    calls::modify(words, ledger, bench, values, command % 2)
+}
+
+// What writes: 7 make, 8 put, 9 enter, 10 map, 11 unmap, and from 12 on what changes maps that stand.
 fn write(
     command: u64,
     words: &mut [u64],
@@ -56,6 +70,9 @@ fn write(
 ) -> Bench {
     if command == 7 {
         return calls::make(words, ledger, bench, values[1], values[2], values[3]);
+    }
+    if 12 <= command {
+        return change(command, words, ledger, bench, values);
     }
     if 10 <= command {
         return calls::map(words, ledger, bench, values);

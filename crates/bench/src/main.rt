@@ -103,6 +103,9 @@ put TABLE WORD VALUE
 enter TABLE NUMBER
 map START END FRAME FLAGS [noblocks]
 unmap START END
+modify START END SET CLEAR
+live START END SET CLEAR
+compact
 ";
     let mut words = [0u64; 4096];
     let mut ledger = [0u32; 8];

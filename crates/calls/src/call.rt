@@ -74,6 +74,57 @@ pub fn map(words: &mut [u64], ledger: &mut [u32], bench: Bench, values: &[u64; 6
     bench.answered(refusal, answer)
 }
 
+// `compact`
+pub fn compact(words: &mut [u64], ledger: &mut [u32], bench: Bench) -> Bench {
+    let mut answer = [0u64; 4];
+    let refusal = ptb::ptb_compact(
+        words,
+        ledger,
+        bench.base,
+        bench.level,
+        bench.range,
+        &mut answer,
+    );
+    say_counted(refusal, answer, b"  accepted: tables in use ");
+    bench.answered(refusal, answer)
+}
+
+// What a modify answers: the tables in use and, live, the page numbers of the entries that it changed.
+fn say_modified(refusal: u64, answer: [u64; 4], list: &[u64]) {
+    say_counted(refusal, answer, b"  accepted: tables in use ");
+    if refusal == 0 {
+        view::say_numbers(list, answer[1]);
+    }
+}
+
+// `modify START END SET CLEAR`, and `live`.
+pub fn modify(
+    words: &mut [u64],
+    ledger: &mut [u32],
+    bench: Bench,
+    values: &[u64; 6],
+    live: u64,
+) -> Bench {
+    let mut answer = [0u64; 4];
+    let mut list = [0u64; 512];
+    let refusal = ptb::ptb_modify(
+        words,
+        ledger,
+        bench.base,
+        bench.level,
+        bench.range,
+        values[0],
+        values[1],
+        values[2],
+        values[3],
+        live,
+        &mut list,
+        &mut answer,
+    );
+    say_modified(refusal, answer, &list);
+    bench.answered(refusal, answer)
+}
+
 // `look ADDRESS`
 pub fn look(words: &[u64], ledger: &[u32], bench: Bench, address: u64) -> Bench {
     let mut answer = [0u64; 4];

@@ -5,10 +5,12 @@ mod compare;
 mod state;
 
 pub use call::check;
+pub use call::compact;
 pub use call::image;
 pub use call::list;
 pub use call::look;
 pub use call::make;
 pub use call::map;
+pub use call::modify;
 pub use compare::expect;
 pub use state::Bench;

@@ -185,3 +185,21 @@ pub fn enter(ledger: &mut [u32], table: u64, number: u64) {
     ledger[at] = number as u32;
     say_entered(table, number);
 }
+
+fn say_number(number: u64) {
+    report::say(b"  page number ");
+    report::say_hex(number, 1);
+    report::say(b"\n");
+}
+
+// The first numbers of a list, a line each.
+pub fn say_numbers(list: &[u64], count: u64) {
+    let mut place = 0;
+    while place < list.len() {
+        if count <= place as u64 {
+            return;
+        }
+        say_number(list[place]);
+        place += 1;
+    }
+}

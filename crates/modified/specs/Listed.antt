@@ -16,7 +16,7 @@ use Rattle.region.specs.Chunks.{chunks, Tiles, none, more, chunks-tile}
 use Rattle.region.specs.declared.MemoryRegion.{MemoryRegion}
 use Rattle.rules.specs.declared.Map.{Map}
 use Rattle.rules.specs.Rules.{chunkMap}
-use Rattle.forest.specs.Tree.{Tree, leaf, node}
+use Rattle.forest.specs.Tree.{Tree, leaf, node, node-ext}
 use Rattle.forest.specs.Walk.{walkTree}
 use Rattle.tree.specs.Page.{span, span-zero, first, child, slotOf, slot-lt, In, in-of, in-rest, entry-rest}
 use Rattle.tree.specs.Word.{valid, frameOf, plain, Plain, fillWord}
@@ -35,7 +35,7 @@ use Rattle.mapped.specs.Stand.{Piece}
 use Rattle.mapped.specs.Pieces.{Area, slotAt, Pieces, pieces}
 use Rattle.modified.specs.Numbers.{gathered, changedNumber, ownNumbers, lowerNumbers, tableNumbers, occurs}
 use Rattle.modified.specs.Gathered.{number-changed, number-same, number-hole, own-whole, own-part, own-none, lower-whole, lower-part, lower-into, leaf-page, leaf-number, at-slot, in-node, at-node, at-others, gathered-from, sweep-before}
-use Rattle.modified.specs.Once.{occurs-append, pagesBelow, Few, nil-occurs, piece-some, gathered-few}
+use Rattle.modified.specs.Once.{occurs-append, pagesBelow, Few, nil-occurs, piece-some, gathered-few, page-few, entry-few, table-few, occurs-both}
 
 -- the first page of the entry that shows page y, in a tree with `left` levels below
 unfoldable pub firstPage : ℕ → Tree → ℕ → ℕ
@@ -79,7 +79,42 @@ parts : (w : ℕ) → plain w + w / 2 % 2 * 2 + frameOf w * 4096 ≡ w
 unfolding plain frameOf
 parts w = omega (arith, low-two w, low-four (w % 4096), low-rest w, low-same w, high-rest w)
 
+-- a table stays a table
+sweep-node : (left : ℕ) (f : MemoryRegion → ℕ → Tree → Tree) (cs : List MemoryRegion) (p : ℕ) (v : ℕ → Tree)
+    → sweep left f cs p (node v) ≡ node (λ j. slotIn (sweep left f cs p (node v)) j)
+unfolding sweep
+sweep-node left f [] p v = node-ext (λ j. sym (in-node v j))
+sweep-node left f (c ∷ cs) p v =
+    let i : ℕ = entryIndex (3 - left) (c .start .0) in
+    let w : ℕ → Tree = λ j. slotIn (atSlot i (f c p) (node v)) j in
+    let p′ : ℕ = p + (c .end .0 - c .start .0) in
+    subst (λ (t : Tree). sweep left f cs p′ t ≡ node (λ j. slotIn (sweep left f cs p′ t) j)) (sym (at-node i (f c p) v)) (sweep-node left f cs p′ w)
+
 module _ (set clear : ℕ) where
+  first-edit : (left w : ℕ) (t : Tree) (y : ℕ) → firstPage left (obey (editRule set clear w) (leaf w) t) y ≡ y - y % span left
+  unfolding editRule obey
+  first-edit left w t y = byBool (valid w) (λ e. rw e (first-leaf left (edited set clear w) y)) (λ e. rw e (first-leaf left w y))
+
+  chunked-page : (c : MemoryRegion) (p w : ℕ) → chunked (documentModify set clear) 0 c p (leaf w) ≡ obey (editRule set clear w) (leaf w) (leaf w)
+  unfolding chunked documentModify
+  chunked-page c p w = refl
+
+  module _ (left : ℕ) (c : MemoryRegion) (p : ℕ) where
+    abbrev below : Tree → Tree
+    below t = chunkedTable (documentModify set clear) left c p (opened left t)
+
+    chunked-whole : (w : ℕ) → wholeEntry (3 - suc left) c ≡ true → chunked (documentModify set clear) (suc left) c p (leaf w) ≡ obey (editRule set clear w) (leaf w) (below (leaf w))
+    unfolding chunked chunkedTable documentModify
+    chunked-whole w e = rw e
+
+    chunked-part : (w : ℕ) → wholeEntry (3 - suc left) c ≡ false → chunked (documentModify set clear) (suc left) c p (leaf w) ≡ below (leaf w)
+    unfolding chunked chunkedTable documentModify obey
+    chunked-part w e = rw e
+
+    chunked-into : (f : ℕ → Tree) → chunked (documentModify set clear) (suc left) c p (node f) ≡ below (node f)
+    unfolding chunked chunkedTable documentModify obey
+    chunked-into f = refl
+
   -- 1 for a page that is mapped and whose flags change
   unfoldable pub changes : Seen → ℕ
   changes (mapped f p) = cond (eqb (edited set clear f) f) 0 1
@@ -235,3 +270,108 @@ module _ (set clear : ℕ) where
                             ∙ (let n : 0 + changes (seen left (slotIn (node v) σ) y) ≡ changes (seen left (slotIn (node v) σ) y) = omega arith in n);
                       });
                 }
+
+      few-all : (left : ℕ) → left ≤ 3 → (x q : ℕ) (m : Map) (c : MemoryRegion) (p : ℕ) (u : Tree) → Piece left q (chunkMap m c p) → Few x c (occurs x (entryNumbers left c u))
+      few-all zero low x q m c p u piece = page-few set clear x c u (piece-some set clear x piece)
+      few-all (suc left) low x q m c p u piece = entry-few set clear x left q p m c (table-few set clear x left (omega arith)) piece u
+
+      numbers-are : (left : ℕ) (x : ℕ) (c : MemoryRegion) (t : Tree)
+          → occurs x (tableNumbers set clear left c t) ≡ occurs x (gathered left (entryNumbers left) (chunks (3 - left) (c .start .0) (c .end .0)) t)
+      unfolding tableNumbers
+      numbers-are zero x c t = refl
+      numbers-are (suc left) x c t =
+          let cs : List MemoryRegion = chunks (3 - suc left) (c .start .0) (c .end .0) in
+          let lower : MemoryRegion → Tree → List ℕ = lowerNumbers set clear (λ d v. tableNumbers set clear left d v) left in
+          occurs-append x (gathered (suc left) lower cs t) (gathered (suc left) (ownNumbers set clear (suc left)) cs t)
+          ∙ sym (occurs-both x (suc left) lower (ownNumbers set clear (suc left)) cs t)
+
+      -- a table's region
+      whole-tells : (left q : ℕ) (m : Map) (v : ℕ → Tree) → left ≤ 3 → EachTells left → Area left q m → ((j : ℕ) → j < 512 → FineTree left (v j))
+          → m .region .start .0 ≤ m .region .end .0 → m .region .start .0 / 4096 ≤ y → y < m .region .end .0 / 4096
+          → Tells (suc left) (m .region .start .0) (chunkedTable (documentModify set clear) left (m .region) (m .frame .0) (node v)) (node v) (tableNumbers set clear left (m .region) (node v))
+      unfolding chunkedTable
+      whole-tells left q m v low tells area fine some above under =
+          let cs : List MemoryRegion = chunks (3 - left) (m .region .start .0) (m .region .end .0) in
+          let T = table-tells left q m low tells (λ x c p u piece. few-all left low x (child q (slotAt left c)) m c p u piece)
+          (chunks-tile (3 - left) (m .region .start .0) (m .region .end .0)) 0 (m .frame .0) (pieces left q m low (m .frame .0) (m .region) (record { inside = area .inside; room = area .room })) v
+          (λ j k b. fine j b) above under (omega (arith, area .room)) some in
+          let U : Tree = sweep left (after left) cs (m .frame .0) (node v) in
+          let σ : ℕ = slotOf y left in
+          let same : firstPage (suc left) U y ≡ firstPage left (slotIn U σ) y =
+          ap (λ (t : Tree). firstPage (suc left) t y) (sweep-node left (after left) cs (m .frame .0) v) ∙ first-node left (λ j. slotIn U j) y in
+          record {
+            from = subst (λ (n : ℕ). m .region .start .0 / 4096 ≤ n) (sym same) (T .tell .from);
+            count = ap (λ (n : ℕ). occurs (n % 2 ^ 44) (tableNumbers set clear left (m .region) (node v))) same
+                ∙ numbers-are left (firstPage left (slotIn U σ) y % 2 ^ 44) (m .region) (node v) ∙ T .tell .count
+                ∙ ap changes (ap (λ (t : Tree). seen left t y) (in-node v σ) ∙ sym (seen-node left v y));
+          }
+
+      page-tells : EachTells 0
+      page-tells q m c p (node f) piece fine above under = absurd fine
+      page-tells q m c p (leaf w) piece fine above under =
+          let one = ap (λ (n : ℕ). y % n) span-zero ∙ mod-one y in
+          let z = span-zero in
+          let start : c .start .0 / 4096 ≡ y = omega (arith, piece .inside .low, piece .inside .high) in
+          let here : firstPage 0 (after 0 c p (leaf w)) y ≡ y = ap (λ (t : Tree). firstPage 0 t y) (chunked-page c p w) ∙ first-edit 0 w (leaf w) y ∙ (let k : y - y % span 0 ≡ y = omega arith in k) in
+          record {
+            from = omega arith;
+            count = ap (occurs (firstPage 0 (after 0 c p (leaf w)) y % 2 ^ 44)) (sym (leaf-page set clear c (leaf w)) ∙ leaf-number set clear c w)
+                ∙ changed-count 0 c w y _ fine (ap (λ (n : ℕ). n % 2 ^ 44) (here ∙ sym start)) ∙ ap changes (sym (seen-leaf 0 w y));
+          }
+
+      -- an entry that is covered as a whole
+      entry-whole : (left q p w : ℕ) (c : MemoryRegion) (m : Map) → suc left ≤ 3 → Piece (suc left) q (chunkMap m c p) → Fine (suc left) w → c .start .0 / 4096 ≤ y → y < c .end .0 / 4096
+          → wholeEntry (3 - suc left) c ≡ true → Tells (suc left) (c .start .0) (after (suc left) c p (leaf w)) (leaf w) (entryNumbers (suc left) c (leaf w))
+      unfolding wholeEntry
+      entry-whole left q p w c m low piece fine above under all =
+          let begins : c .start .0 % sizeAt (3 - suc left) ≡ 0 =
+          eqb→eq (c .start .0 % sizeAt (3 - suc left)) 0 (and-l (eqb (c .start .0 % sizeAt (3 - suc left)) 0) (eqb (c .end .0 % sizeAt (3 - suc left)) 0) (rw all tt)) in
+          let rest = entry-rest (suc left) (c .start .0) low (piece .inside .startPage) in
+          let mine = in-rest (suc left) q y (piece-in piece above under) in
+          let its = in-rest (suc left) q (c .start .0 / 4096) (in-of (suc left) q (c .start .0 / 4096) (piece .inside .low) (omega (arith, piece .inside .high))) in
+          let here : firstPage (suc left) (after (suc left) c p (leaf w)) y ≡ c .start .0 / 4096 =
+          ap (λ (t : Tree). firstPage (suc left) t y) (chunked-whole left c p w all) ∙ first-edit (suc left) w _ y
+          ∙ (let k : y - y % span (suc left) ≡ c .start .0 / 4096 = omega arith in k) in
+          record {
+            from = omega arith;
+            count = ap (occurs (firstPage (suc left) (after (suc left) c p (leaf w)) y % 2 ^ 44))
+                (ap₂ (λ (a b : List ℕ). a ++ b) (lower-whole set clear (λ d v. tableNumbers set clear left d v) left c w all) (own-whole set clear left c w all))
+                ∙ changed-count (suc left) c w y _ fine (ap (λ (n : ℕ). n % 2 ^ 44) here) ∙ ap changes (sym (seen-leaf (suc left) w y));
+          }
+
+      -- an entry that goes down
+      goes-tells : (left q p : ℕ) (c : MemoryRegion) (m : Map) (u : Tree) (v : ℕ → Tree) → suc left ≤ 3 → EachTells left → Piece (suc left) q (chunkMap m c p)
+          → ((j : ℕ) → j < 512 → FineTree left (v j)) → c .start .0 / 4096 ≤ y → y < c .end .0 / 4096 → opened left u ≡ node v → after (suc left) c p u ≡ below left c p u
+          → lowerNumbers set clear (λ d t. tableNumbers set clear left d t) left c u ≡ tableNumbers set clear left c (opened left u) → ownNumbers set clear (suc left) c u ≡ []
+          → seen (suc left) (node v) y ≡ seen (suc left) u y → Tells (suc left) (c .start .0) (after (suc left) c p u) u (entryNumbers (suc left) c u)
+      goes-tells left q p c m u v low tells piece fine above under opens goes lower own shows =
+          let T = whole-tells left q (chunkMap m c p) v (omega arith) tells (record { inside = piece .inside; room = piece .room }) fine (omega (arith, piece .some)) above under in
+          let tree : after (suc left) c p u ≡ chunkedTable (documentModify set clear) left c p (node v) = goes ∙ ap (chunkedTable (documentModify set clear) left c p) opens in
+          let numbers : entryNumbers (suc left) c u ≡ tableNumbers set clear left c (node v) ++ [] =
+          ap₂ (λ (a b : List ℕ). a ++ b) (lower ∙ ap (tableNumbers set clear left c) opens) own in
+          subst (λ (t : Tree). Tells (suc left) (c .start .0) t u (entryNumbers (suc left) c u)) (sym tree)
+          (record {
+            from = T .from;
+            count = ap (occurs _) numbers ∙ nil-occurs set clear _ (tableNumbers set clear left c (node v)) ∙ T .count ∙ ap changes shows;
+          })
+
+      opens-leaf : (left w : ℕ) → opened left (leaf w) ≡ node (fillSlot left w)
+      unfolding opened
+      opens-leaf left w = fill-node left w
+
+      opens-node : (left : ℕ) (f : ℕ → Tree) → opened left (node f) ≡ node f
+      unfolding opened
+      opens-node left f = refl
+
+      up-tells : (left : ℕ) → suc left ≤ 3 → EachTells left → EachTells (suc left)
+      up-tells left low tells q m c p (node f) piece fine above under =
+          goes-tells left q p c m (node f) f low tells piece fine above under (opens-node left f) (chunked-into left c p f) (lower-into set clear _ left c f) (own-none set clear (suc left) c f) refl
+      up-tells left low tells q m c p (leaf w) piece fine above under = byBool (wholeEntry (3 - suc left) c)
+          (λ e. entry-whole left q p w c m low piece fine above under e)
+          (λ e. goes-tells left q p c m (leaf w) (fillSlot left w) low tells piece (fine-fill-slots left w fine) above under (opens-leaf left w) (chunked-part left c p w e)
+          (lower-part set clear _ left c w e) (own-part set clear left c w e)
+          (seen-node left (fillSlot left w) y ∙ ap (λ (t : Tree). seen left t y) (fill-slot left w (slotOf y left) (slot-lt y left)) ∙ seen-leaf left _ y ∙ fill-seen left w y fine ∙ sym (seen-leaf (suc left) w y)))
+
+      each-tells : (left : ℕ) → left ≤ 3 → EachTells left
+      each-tells zero low = page-tells
+      each-tells (suc left) low = up-tells left low (each-tells left (omega arith))

@@ -1,7 +1,7 @@
 -- Exactly the entries that change are listed: for a page of the region, the number of the entry that shows it afterwards stands in the list once if the page was
 -- mapped and its flags change, and else not at all. On trees. Assumes nothing.
 use mathlib.Core.Path.{_≡_, refl, sym, ap, ap₂, subst, subst₂, _∙_}
-use mathlib.Core.Bool.{Bool, true, false, cond}
+use mathlib.Core.Bool.{true, false, cond}
 use mathlib.Core.List.{List, [], _∷_, _++_}
 use mathlib.Core.Logic.{_⊎_, inl, inr, _≢_}
 use Prim.Native.Nat.{ℕ, zero, suc, _+_, _*_, _-_, _/_, _%_, _^_, _≤_, _<_}
@@ -18,28 +18,24 @@ use Rattle.rules.specs.declared.Map.{Map}
 use Rattle.rules.specs.Rules.{chunkMap}
 use Rattle.forest.specs.Tree.{Tree, leaf, node, node-ext}
 use Rattle.forest.specs.Walk.{walkTree}
-use Rattle.tree.specs.Page.{span, span-zero, first, child, slotOf, slot-lt, In, in-of, in-rest, entry-rest}
-use Rattle.tree.specs.Word.{valid, frameOf, plain, Plain, fillWord}
+use Rattle.tree.specs.Page.{span, span-zero, child, slotOf, slot-lt, In, in-of, in-rest, entry-rest}
+use Rattle.tree.specs.Word.{valid, frameOf, plain, Plain}
 use Rattle.tree.specs.Edit.{edited, edited-frame, edited-bit, edited-plain}
 use Rattle.tree.specs.Fine.{Fine}
 use Rattle.tree.specs.Walk.{Seen, mapped, hole, seenIn, seen, seen-leaf, seen-node, seen-fine, fill-seen}
 use Rattle.tree.specs.Shown.{FineTree, fine-fill-slots}
-use Rattle.tree.specs.Visit.{fillTree, opened, obey, down, keep, write}
+use Rattle.tree.specs.Visit.{opened, obey, down}
 use Rattle.tree.specs.Slots.{fillSlot, fill-node, fill-slot}
-use Rattle.tree.specs.Chunks.{atSlot, sweep, chunked, chunkedTable, index-slot, Inside}
+use Rattle.tree.specs.Chunks.{atSlot, sweep, chunked, chunkedTable, index-slot}
 use Rattle.tree.specs.Needed.{slotIn}
 use Rattle.tree.specs.Document.{wholeEntry}
 use Rattle.tree.specs.Modify.{editRule}
 use Rattle.tree.specs.DocumentModify.{documentModify}
 use Rattle.mapped.specs.Stand.{Piece}
 use Rattle.mapped.specs.Pieces.{Area, slotAt, Pieces, pieces}
-use Rattle.modified.specs.Numbers.{gathered, changedNumber, ownNumbers, lowerNumbers, tableNumbers, occurs}
+use Rattle.modified.specs.Numbers.{gathered, changedNumber, ownNumbers, lowerNumbers, tableNumbers, occurs, firstPage}
 use Rattle.modified.specs.Gathered.{number-changed, number-same, number-hole, own-whole, own-part, own-none, lower-whole, lower-part, lower-into, leaf-page, leaf-number, at-slot, in-node, at-node, at-others, gathered-from, sweep-before}
 use Rattle.modified.specs.Once.{occurs-append, pagesBelow, Few, nil-occurs, piece-some, gathered-few, page-few, entry-few, table-few, occurs-both}
-
--- the first page of the entry that shows page y, in a tree with `left` levels below
-unfoldable pub firstPage : ℕ → Tree → ℕ → ℕ
-firstPage left t y = y - y % span (walkTree (slotOf y) left t .left)
 
 first-leaf : (left w y : ℕ) → firstPage left (leaf w) y ≡ y - y % span left
 unfolding firstPage walkTree
@@ -375,3 +371,10 @@ module _ (set clear : ℕ) where
       each-tells : (left : ℕ) → left ≤ 3 → EachTells left
       each-tells zero low = page-tells
       each-tells (suc left) low = up-tells left low (each-tells left (omega arith))
+
+      -- EXACTLY THE ENTRIES THAT CHANGE
+      pub region-tells : (left q : ℕ) (m : Map) (v : ℕ → Tree) → left ≤ 3 → Area left q m → ((j : ℕ) → j < 512 → FineTree left (v j))
+          → m .region .start .0 ≤ m .region .end .0 → m .region .start .0 / 4096 ≤ y → y < m .region .end .0 / 4096
+          → occurs (firstPage (suc left) (chunkedTable (documentModify set clear) left (m .region) (m .frame .0) (node v)) y % 2 ^ 44) (tableNumbers set clear left (m .region) (node v))
+          ≡ changes (seen (suc left) (node v) y)
+      region-tells left q m v low area fine some above under = whole-tells left q m v low (each-tells left low) area fine some above under .count

@@ -1,7 +1,7 @@
 -- No number is listed twice: each chunk lists its own page's number or those of the chunks below it, chunks share no page, and a region has fewer than 2^44 pages.
 -- Assumes nothing.
 use mathlib.Core.Path.{_≡_, refl, sym, ap, ap₂, subst, _∙_}
-use mathlib.Core.Bool.{Bool, true, false, not, cond, _&&_}
+use mathlib.Core.Bool.{not, _&&_}
 use mathlib.Core.List.{List, [], _∷_, _++_, append-nil}
 use Prim.Native.Nat.{ℕ, zero, suc, _+_, _-_, _/_, _%_, _^_, _≤_, _<_}
 use native.Mathlib.Omega.{arith}
@@ -22,7 +22,7 @@ use Rattle.tree.specs.Document.{wholeEntry}
 use Rattle.mapped.specs.Stand.{Piece}
 use Rattle.mapped.specs.Pieces.{Area, slotAt, Pieces, pieces}
 use Rattle.modified.specs.Numbers.{gathered, changedNumber, ownNumbers, lowerNumbers, tableNumbers, occurs}
-use Rattle.modified.specs.Gathered.{own-whole, own-part, own-none, lower-whole, lower-part, lower-into, leaf-page, leaf-number, leaf-none}
+use Rattle.modified.specs.Gathered.{own-whole, own-part, own-none, lower-whole, lower-part, lower-into, leaf-page, leaf-number}
 
 pub occurs-append : (x : ℕ) (xs ys : List ℕ) → occurs x (xs ++ ys) ≡ occurs x xs + occurs x ys
 unfolding occurs

@@ -1,15 +1,13 @@
 // A command by its number, with its values: the part of the pool that it works on, and the call.
-use crate::bench::Bench;
-use crate::call;
-use crate::expect;
+use calls::Bench;
 
 // The calls that read the pool: 1 check, 2 look, 3 list, 4 image.
 fn read(command: u64, words: &[u64], ledger: &[u32], bench: Bench, values: &[u64; 6]) -> Bench {
     match command {
-        1 => call::check(words, ledger, bench),
-        2 => call::look(words, ledger, bench, values[0]),
-        3 => call::list(words, ledger, bench, values[0], values[1]),
-        _ => call::image(words, ledger, bench, values[0]),
+        1 => calls::check(words, ledger, bench),
+        2 => calls::look(words, ledger, bench, values[0]),
+        3 => calls::list(words, ledger, bench, values[0], values[1]),
+        _ => calls::image(words, ledger, bench, values[0]),
     }
 }
 
@@ -57,10 +55,10 @@ fn write(
     values: &[u64; 6],
 ) -> Bench {
     if command == 7 {
-        return call::make(words, ledger, bench, values);
+        return calls::make(words, ledger, bench, values[1], values[2], values[3]);
     }
     if 10 <= command {
-        return call::map(words, ledger, bench, values);
+        return calls::map(words, ledger, bench, values);
     }
     by_hand(command, words, ledger, values);
     bench
@@ -132,7 +130,7 @@ pub fn run(
     number: u64,
 ) -> Bench {
     if command == 0 {
-        return expect::expect(bench, values, count, number);
+        return calls::expect(bench, values, count, number);
     }
     let tables = tables_of(command, bench, values);
     if 8 < tables {

@@ -1,11 +1,8 @@
 // A bench to type at: it reads a script from standard input, a call a line, and prints each answer in words.
-// Leans on ptb's calls, on script for the lines and on report for the words.
-mod bench;
-mod call;
+// Leans on calls for the library's calls, on script for the lines, on report and view for the words.
 mod command;
-mod expect;
 
-use bench::Bench;
+use calls::Bench;
 use script::Ask;
 use script::Line;
 use script::Word;

@@ -1,5 +1,5 @@
 // What the call before must have answered.
-use crate::bench::Bench;
+use crate::state::Bench;
 
 // A value of the answer, counted from 0.
 fn value_at(bench: Bench, number: usize) -> u64 {

@@ -1,5 +1,5 @@
-// The library's calls by their outside names, on the bench's pool.
-use crate::bench::Bench;
+// The calls. Each says its answer in words, and the bench keeps it.
+use crate::state::Bench;
 
 // A call that has nothing to say but that it was done.
 fn say_done(refusal: u64, answer: [u64; 4]) {
@@ -20,16 +20,23 @@ fn say_counted(refusal: u64, answer: [u64; 4], what: &[u8]) {
     }
 }
 
-// `make TABLES BASE LEVEL RANGE`
-pub fn make(words: &mut [u64], ledger: &mut [u32], bench: Bench, values: &[u64; 6]) -> Bench {
+// `make TABLES BASE LEVEL RANGE`, on as many tables.
+pub fn make(
+    words: &mut [u64],
+    ledger: &mut [u32],
+    bench: Bench,
+    base: u64,
+    level: u64,
+    range: u64,
+) -> Bench {
     let mut answer = [0u64; 4];
-    let refusal = ptb::ptb_make(words, ledger, values[1], values[2], values[3], &mut answer);
+    let refusal = ptb::ptb_make(words, ledger, base, level, range, &mut answer);
     say_done(refusal, answer);
     let after = bench.answered(refusal, answer);
     if refusal != 0 {
         return after;
     }
-    after.made(ledger.len(), values[1], values[2], values[3])
+    after.made(ledger.len(), base, level, range)
 }
 
 // `check`

@@ -11,32 +11,38 @@ use Rattle.pool.specs.declared.VaRange.{VaRange}
 use Rattle.pool.specs.declared.VaRange.the-variants.{Lower, Upper}
 use Rattle.map.specs.Ask.{asked}
 use Rattle.walk.specs.LookUp.{spanned, span-lower, span-upper}
-use Rattle.tree.specs.Page.{In, in-of}
+use Rattle.tree.specs.Page.{span, first, In, in-of}
+use Rattle.tree.specs.Chunks.{Inside}
 use Rattle.tree.specs.Root.{lower-span, upper-span}
 use Rattle.tree.specs.Demands.{OfRegion}
 use Rattle.mapped.specs.Terms.{Call, Passed, InRegion, frameFor, InSpan, leftOf, rootOf, rootIn, pagesOf}
 use Rattle.mapped.specs.Call.{area}
+
+-- ---- the pages of a region
+
+module _ {b n start end p : ℕ} (I : Inside b n start end p) (va : ℕ) where
+  pub in-page : start ≤ va → va < end → OfRegion (start / 4096) (end / 4096) (va / 4096)
+  in-page from below = record { from = omega (arith, I .startPage); below = omega (arith, I .endPage) }
+
+  pub page-in : OfRegion (start / 4096) (end / 4096) (va / 4096) → (start ≤ va) × (va < end)
+  page-in of = (omega (arith, of .from, I .startPage), omega (arith, of .below, I .endPage))
+
+pub page-spans : (left q : ℕ) {start end p page : ℕ} → Inside (first (suc left) q) (span (suc left)) start end p → OfRegion (start / 4096) (end / 4096) page → In (suc left) q page
+page-spans left q {page = page} I of = in-of (suc left) q page (omega (arith, I .low, of .from)) (omega (arith, I .high, of .below))
 
 -- ---- the call's region
 
 module _ {h : Handle} {c : Call} {s : St} (passed : Passed h c s) (va : ℕ) where
   pub region-page : InRegion c va → OfRegion (pagesOf c .from) (pagesOf c .upto) (va / 4096)
   unfolding asked
-  region-page at =
-      let I = area passed .inside in
-      record { from = omega (arith, at .from, I .startPage); below = omega (arith, at .below, I .endPage) }
+  region-page at = in-page (area passed .inside) va (at .from) (at .below)
 
   pub page-region : OfRegion (pagesOf c .from) (pagesOf c .upto) (va / 4096) → InRegion c va
   unfolding asked
-  page-region of =
-      let I = area passed .inside in
-      record { from = omega (arith, of .from, I .startPage); below = omega (arith, of .below, I .endPage) }
+  page-region of = let p = page-in (area passed .inside) va of in record { from = p .0; below = p .1 }
 
   pub region-spans : InRegion c va → In (suc (leftOf h)) (rootIn h) (va / 4096)
-  region-spans at =
-      let I = area passed .inside in
-      let of = region-page at in
-      in-of (suc (leftOf h)) (rootIn h) (va / 4096) (omega (arith, I .low, of .from)) (omega (arith, I .high, of .below))
+  region-spans at = page-spans (leftOf h) (rootIn h) (area passed .inside) (region-page at)
 
   pub frame-is : InRegion c va → (pagesOf c .frame + (va / 4096 - pagesOf c .from)) * 4096 ≡ frameFor c va
   unfolding asked down

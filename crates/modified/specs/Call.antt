@@ -4,7 +4,7 @@ use mathlib.Core.Path.{_≡_, refl, sym, ap, subst, _∙_}
 use mathlib.Core.Bool.{Bool, true, false}
 use mathlib.Core.List.{List, _++_}
 use mathlib.Core.Logic.{_⊎_, inl, inr}
-use Prim.Native.Nat.{ℕ, _≤_, _<_}
+use Prim.Native.Nat.{ℕ, suc, _/_, _%_, _^_, _≤_, _<_}
 use native.Mathlib.Omega.{arith}
 use lib.Dec.{lit<, lit≤}
 use lib.ListN.{length, drop}
@@ -31,14 +31,15 @@ use Rattle.sound.specs.Codec.{shaped-placed, childOf, slotWord, rootTree}
 use Rattle.sound.specs.Decide.{decide-sound, sound-decide}
 use Rattle.sound.specs.Hanging.{root-left}
 use Rattle.tree.specs.Modify.{GivenModify, modifyTree, modifyMade}
+use Rattle.tree.specs.Walk.{seen}
 use Rattle.tree.specs.DocumentModify.{document-modifies, document-modify-needs}
 use Rattle.mapped.specs.Terms.{leftOf, rootIn}
-use Rattle.mapped.specs.Leaf.{root-used}
+use Rattle.mapped.specs.Leaf.{slot-fine, root-used}
 use Rattle.mapped.specs.Moves.{slotShows, Ready, Worked, worked-shaped, worked-pool}
 use Rattle.mapped.specs.Pieces.{Area}
 use Rattle.mapped.specs.Asked.{Early}
 use Rattle.modified.specs.Terms.{Call, callOf, accepted, Modifies, askedOf, Passed, surveyed, pagesOf, treeAfter, madeBy, numbersOf, Fits}
-use Rattle.modified.specs.Numbers.{occurs}
+use Rattle.modified.specs.Numbers.{tableNumbers, occurs, firstPage}
 use Rattle.modified.specs.Word.{Bits}
 use Rattle.modified.specs.Range.{editTable, editTakes, areaOf, range-edits}
 use Rattle.modified.specs.Splits.{survey-splits}
@@ -46,6 +47,7 @@ use Rattle.modified.specs.Notes.{putAll, put-off, put-live}
 use Rattle.modified.specs.Listing.{range-lists}
 use Rattle.modified.specs.Counted.{survey-numbers}
 use Rattle.modified.specs.Once.{numbers-once}
+use Rattle.modified.specs.Listed.{changes, region-tells}
 use Rattle.modified.specs.Asked.{asked-bits, asked-area, asked-forwards, asked-early}
 
 -- the pool and the list that an accepted call leaves
@@ -103,6 +105,18 @@ module _ {h : Handle} {c : Call} {s : St} (passed : Passed h c s) where
   numbers-one x =
       numbers-once (e .set) (e .clear) x (leftOf h) (rootIn h) (areaOf e 0) (rootTree h s) (omega arith) area
       (asked-forwards h (c .start) (c .end) (c .set) (c .clear) (c .live) (passed .asks))
+
+  -- exactly the entries that change
+  pub numbers-tell : (y : ℕ) → e .region .start .0 / 4096 ≤ y → y < e .region .end .0 / 4096
+      → occurs (firstPage (suc (leftOf h)) (treeAfter h c s) y % 2 ^ 44) (numbersOf h c s) ≡ changes (e .set) (e .clear) (seen (suc (leftOf h)) (rootTree h s) y)
+  numbers-tell y above under =
+      let placed = shaped-placed (passed .shape) in
+      ap (λ (t : Tree). occurs (firstPage (suc (leftOf h)) t y % 2 ^ 44) (numbersOf h c s)) (sym done-tree)
+      ∙ subst (λ (t : Tree). occurs (firstPage (suc (leftOf h)) (editTable e (leftOf h) 0 t) y % 2 ^ 44) (tableNumbers (e .set) (e .clear) (leftOf h) (e .region) t)
+      ≡ changes (e .set) (e .clear) (seen (suc (leftOf h)) t y)) (sym is-node)
+      (region-tells (e .set) (e .clear) (bits .set .plain) (bits .clear .plain) y (leftOf h) (rootIn h) (areaOf e 0) (λ i. slotShows h s (leftOf h) 0 i) (omega arith) area
+      (λ j inside. slot-fine placed (passed .pool) (leftOf h) 0 j (ready .used) (ready .low) inside)
+      (asked-forwards h (c .start) (c .end) (c .set) (c .clear) (c .live) (passed .asks)) above under)
 
   -- ---- with room
 

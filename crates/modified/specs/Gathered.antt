@@ -106,20 +106,20 @@ module _ (set clear : ℕ) where
 
 -- ---- what is gathered from a table
 
-at-slot : (i : ℕ) (f : Tree → Tree) (g : ℕ → Tree) → slotIn (atSlot i f (node g)) i ≡ f (g i)
+pub at-slot : (i : ℕ) (f : Tree → Tree) (g : ℕ → Tree) → slotIn (atSlot i f (node g)) i ≡ f (g i)
 unfolding atSlot slotIn
 at-slot i f g = rw (eq-eqb i i refl)
 
-in-node : (g : ℕ → Tree) (i : ℕ) → slotIn (node g) i ≡ g i
+pub in-node : (g : ℕ → Tree) (i : ℕ) → slotIn (node g) i ≡ g i
 unfolding slotIn
 in-node g i = refl
 
 -- a table stays a table
-at-node : (i : ℕ) (f : Tree → Tree) (g : ℕ → Tree) → atSlot i f (node g) ≡ node (λ j. slotIn (atSlot i f (node g)) j)
+pub at-node : (i : ℕ) (f : Tree → Tree) (g : ℕ → Tree) → atSlot i f (node g) ≡ node (λ j. slotIn (atSlot i f (node g)) j)
 unfolding atSlot slotIn
 at-node i f g = refl
 
-at-others : (i j : ℕ) (f : Tree → Tree) (t : Tree) → j ≢ i → slotIn (atSlot i f t) j ≡ slotIn t j
+pub at-others : (i j : ℕ) (f : Tree → Tree) (t : Tree) → j ≢ i → slotIn (atSlot i f t) j ≡ slotIn t j
 unfolding atSlot slotIn
 at-others i j f (leaf w) other = refl
 at-others i j f (node g) other = rw (ne-eqb j i other)
@@ -154,7 +154,7 @@ module _ (left q : ℕ) (m : Map) (low : left ≤ 3) where
       ap₂ (λ (x y : List ℕ). x ++ y) (ap (f c) (same i (omega (arith, all .0 .from))))
       (gathered-from f cs (suc (slotAt left c)) (p + (c .end .0 - c .start .0)) t u (all .1) (λ j l. same j (omega (arith, all .0 .from))))
 
-  sweep-before : (f : MemoryRegion → ℕ → Tree → Tree) (cs : List MemoryRegion) (a p j : ℕ) (t : Tree) → Pieces left q m a p cs → j < a → slotIn (sweep left f cs p t) j ≡ slotIn t j
+  pub sweep-before : (f : MemoryRegion → ℕ → Tree → Tree) (cs : List MemoryRegion) (a p j : ℕ) (t : Tree) → Pieces left q m a p cs → j < a → slotIn (sweep left f cs p t) j ≡ slotIn t j
   unfolding sweep
   sweep-before f [] a p j t all l = refl
   sweep-before f (c ∷ cs) a p j t all l =

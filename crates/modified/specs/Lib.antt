@@ -12,6 +12,7 @@ pub mod Notes
 pub mod Listing
 pub mod Counted
 pub mod Once
+pub mod Listed
 -- the call
 pub mod Asked
 pub mod Call

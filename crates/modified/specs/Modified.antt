@@ -3,9 +3,10 @@
 use mathlib.Core.Path.{_≡_, refl, sym, ap, _∙_}
 use mathlib.Core.Bool.{true, false, cond}
 use mathlib.Core.List.{List, _++_}
+use lib.Dec.{eqb}
 use lib.ListN.{length, drop}
 use mathlib.Core.Logic.{_↔_}
-use Prim.Native.Nat.{ℕ, suc, _+_, _*_, _/_, _%_, _≤_, _<_}
+use Prim.Native.Nat.{ℕ, suc, _+_, _*_, _/_, _%_, _≤_, _<_, _^_}
 use native.Mathlib.Omega.{arith}
 use Rattle.pool.specs.State.{St}
 use Rattle.pool.specs.Number.{used, free}
@@ -30,8 +31,9 @@ use Rattle.mapped.specs.Leaf.{root-fine}
 use Rattle.mapped.specs.Shown.{inBytes, walk-shown}
 use Rattle.mapped.specs.Place.{span-spans}
 use Rattle.modified.specs.Terms.{Call, callOf, Modifies, Passed, surveyed, InRegion, flagsAfter, pagesOf, treeAfter, madeBy, numbersOf, Fits}
-use Rattle.modified.specs.Numbers.{occurs}
-use Rattle.modified.specs.Call.{workAfter, given, splits-made, numbers-made, numbers-one, call-full, call-broken, call-short, call-accepted, full-back, broken-back, short-back, call-passed, call-fits, call-shaped, call-sound, call-tree, call-answer, call-off, call-enough, call-on}
+use Rattle.modified.specs.Numbers.{occurs, firstPage}
+use Rattle.modified.specs.Listed.{changes}
+use Rattle.modified.specs.Call.{workAfter, given, splits-made, numbers-made, numbers-one, numbers-tell, call-full, call-broken, call-short, call-accepted, full-back, broken-back, short-back, call-passed, call-fits, call-shaped, call-sound, call-tree, call-answer, call-off, call-enough, call-on}
 use Rattle.modified.specs.Place.{region-page, page-region, region-spans}
 
 -- ---- what a walk shows, read back
@@ -132,6 +134,29 @@ module _ {h : Handle} {c : Call} {s s′ : St} {list list′ : List ℕ} {n k : 
       (call-answer modifies .0, omega arith)
 
   -- ---- the list
+
+  module _ (va : ℕ) (at : InRegion c va) where
+    -- the number of the entry that shows an address of the region afterwards
+    abbrev number : ℕ
+    number = firstPage (suc (leftOf h)) (rootTree h s′) (va / 4096) % 2 ^ 44
+
+    listed : occurs number (numbersOf h c s) ≡ changes (pagesOf c .set) (pagesOf c .clear) (seen (suc (leftOf h)) (rootTree h s) (va / 4096))
+    listed =
+        let of = region-page passed va at in
+        ap (λ (t : Tree). occurs (firstPage (suc (leftOf h)) t (va / 4096) % 2 ^ 44) (numbersOf h c s)) (call-tree modifies)
+        ∙ numbers-tell passed (va / 4096) (of .from) (of .below)
+
+    -- stands among the numbers once if the address was mapped and its flags change, and else not at all;
+    pub modify-changed-listed : {f p : ℕ} → shown (walkOf h s va) ≡ mapped f p → occurs number (numbersOf h c s) ≡ cond (eqb (flagsAfter c f) f) 0 1
+    unfolding changes
+    modify-changed-listed {f} {p} was =
+        let page = was-mapped (seen (suc (leftOf h)) (rootTree h s) (va / 4096)) f p (before-shown va was) in
+        listed ∙ ap (changes (pagesOf c .set) (pagesOf c .clear)) (page .is) ∙ ap (λ (x : ℕ). cond (eqb x f) 0 1) (flags-are c f)
+
+    pub modify-hole-not-listed : {f : ℕ} → shown (walkOf h s va) ≡ hole f → occurs number (numbersOf h c s) ≡ 0
+    unfolding changes
+    modify-hole-not-listed {f} was =
+        listed ∙ ap (changes (pagesOf c .set) (pagesOf c .clear)) (was-hole (seen (suc (leftOf h)) (rootTree h s) (va / 4096)) f (before-shown va was))
 
   -- not live, the list stays untouched;
   pub modify-list-untouched : c .live ≡ false → list′ ≡ list

@@ -8,6 +8,8 @@ use Rattle.region.specs.Region.{entryIndex}
 use Rattle.region.specs.Chunks.{chunks}
 use Rattle.region.specs.declared.MemoryRegion.{MemoryRegion}
 use Rattle.forest.specs.Tree.{Tree, leaf, node}
+use Rattle.forest.specs.Walk.{walkTree}
+use Rattle.tree.specs.Page.{span, slotOf}
 use Rattle.tree.specs.Word.{valid}
 use Rattle.tree.specs.Edit.{edited}
 use Rattle.tree.specs.Visit.{fillTree}
@@ -47,3 +49,7 @@ module _ (set clear : ℕ) where
 unfoldable pub occurs : ℕ → List ℕ → ℕ
 occurs x [] = 0
 occurs x (y ∷ ys) = cond (eqb x y) 1 0 + occurs x ys
+
+-- the first page of the entry that shows page y, in a tree with `left` levels below
+unfoldable pub firstPage : ℕ → Tree → ℕ → ℕ
+firstPage left t y = y - y % span (walkTree (slotOf y) left t .left)

@@ -1,7 +1,7 @@
 -- No number is listed twice: each chunk lists its own page's number or those of the chunks below it, chunks share no page, and a region has fewer than 2^44 pages.
 -- Assumes nothing.
 use mathlib.Core.Path.{_≡_, refl, sym, ap, ap₂, subst, _∙_}
-use mathlib.Core.Bool.{Bool, true, false, not, cond, _&&_}
+use mathlib.Core.Bool.{not, _&&_}
 use mathlib.Core.List.{List, [], _∷_, _++_, append-nil}
 use Prim.Native.Nat.{ℕ, zero, suc, _+_, _-_, _/_, _%_, _^_, _≤_, _<_}
 use native.Mathlib.Omega.{arith}
@@ -22,14 +22,14 @@ use Rattle.tree.specs.Document.{wholeEntry}
 use Rattle.mapped.specs.Stand.{Piece}
 use Rattle.mapped.specs.Pieces.{Area, slotAt, Pieces, pieces}
 use Rattle.modified.specs.Numbers.{gathered, changedNumber, ownNumbers, lowerNumbers, tableNumbers, occurs}
-use Rattle.modified.specs.Gathered.{own-whole, own-part, own-none, lower-whole, lower-part, lower-into, leaf-page, leaf-number, leaf-none}
+use Rattle.modified.specs.Gathered.{own-whole, own-part, own-none, lower-whole, lower-part, lower-into, leaf-page, leaf-number}
 
-occurs-append : (x : ℕ) (xs ys : List ℕ) → occurs x (xs ++ ys) ≡ occurs x xs + occurs x ys
+pub occurs-append : (x : ℕ) (xs ys : List ℕ) → occurs x (xs ++ ys) ≡ occurs x xs + occurs x ys
 unfolding occurs
 occurs-append x [] ys = omega arith
 occurs-append x (y ∷ xs) ys = let r = occurs-append x xs ys in omega arith
 
-occurs-both : (x left : ℕ) (f g : MemoryRegion → Tree → List ℕ) (cs : List MemoryRegion) (t : Tree)
+pub occurs-both : (x left : ℕ) (f g : MemoryRegion → Tree → List ℕ) (cs : List MemoryRegion) (t : Tree)
     → occurs x (gathered left (λ c u. f c u ++ g c u) cs t) ≡ occurs x (gathered left f cs t) + occurs x (gathered left g cs t)
 unfolding gathered occurs
 occurs-both x left f g [] t = refl
@@ -42,11 +42,11 @@ occurs-both x left f g (c ∷ cs) t =
     omega (arith, occurs-both x left f g cs t)
 
 -- the pages below z whose number is x
-abbrev pagesBelow : ℕ → ℕ → ℕ
+abbrev pub pagesBelow : ℕ → ℕ → ℕ
 pagesBelow x z = (z + (2 ^ 44 - 1 - x)) / 2 ^ 44
 
 -- n numbers x, no more than the pages of the region with the number x
-abbrev Few : ℕ → MemoryRegion → ℕ → Type 0
+abbrev pub Few : ℕ → MemoryRegion → ℕ → Type 0
 Few x c n = n + pagesBelow x (c .start .0 / 4096) ≤ pagesBelow x (c .end .0 / 4096)
 
 module _ (set clear x : ℕ) where
@@ -71,7 +71,7 @@ module _ (set clear x : ℕ) where
 
   module _ (left q : ℕ) (m : Map) (f : MemoryRegion → Tree → List ℕ) (t : Tree)
       (each : (c : MemoryRegion) (p : ℕ) (u : Tree) → Piece left (child q (slotAt left c)) (chunkMap m c p) → Few x c (occurs x (f c u))) where
-    gathered-few : {level s e : ℕ} {cs : List MemoryRegion} → Tiles level e s cs → (a p : ℕ) → Pieces left q m a p cs → s ≤ e
+    pub gathered-few : {level s e : ℕ} {cs : List MemoryRegion} → Tiles level e s cs → (a p : ℕ) → Pieces left q m a p cs → s ≤ e
         → occurs x (gathered left f cs t) + pagesBelow x (s / 4096) ≤ pagesBelow x (e / 4096)
     unfolding gathered occurs
     gathered-few (none l) a p all some = omega arith
@@ -82,17 +82,17 @@ module _ (set clear x : ℕ) where
         let later = gathered-few rest (suc (slotAt left c)) (p + (z - s)) (all .1) under in
         omega (arith, occurs-append x (f c u) (gathered left f cs t))
 
-  abbrev Once : ℕ → Type 0
+  abbrev pub Once : ℕ → Type 0
   Once left = (q : ℕ) (m : Map) (t : Tree) → Area left q m → m .region .start .0 ≤ m .region .end .0 → Few x (m .region) (occurs x (tableNumbers set clear left (m .region) t))
 
-  piece-some : {left q : ℕ} {m : Map} → Piece left q m → m .region .start .0 / 4096 < m .region .end .0 / 4096
+  pub piece-some : {left q : ℕ} {m : Map} → Piece left q m → m .region .start .0 / 4096 < m .region .end .0 / 4096
   piece-some piece = omega (arith, piece .some, piece .inside .startPage, piece .inside .endPage)
 
-  page-few : (c : MemoryRegion) (u : Tree) → c .start .0 / 4096 < c .end .0 / 4096 → Few x c (occurs x (ownNumbers set clear 0 c u))
+  pub page-few : (c : MemoryRegion) (u : Tree) → c .start .0 / 4096 < c .end .0 / 4096 → Few x c (occurs x (ownNumbers set clear 0 c u))
   page-few c (leaf w) some = rw (← leaf-page set clear c (leaf w), leaf-number set clear c w) (changed-few c w some)
   page-few c (node f) some = rw (own-none set clear 0 c f) (none-few c (omega arith))
 
-  nil-occurs : (xs : List ℕ) → occurs x (xs ++ []) ≡ occurs x xs
+  pub nil-occurs : (xs : List ℕ) → occurs x (xs ++ []) ≡ occurs x xs
   nil-occurs xs = ap (occurs x) (append-nil xs)
 
   module _ (left q p : ℕ) (m : Map) (c : MemoryRegion) (once : Once left) (piece : Piece (suc left) q (chunkMap m c p)) where
@@ -108,7 +108,7 @@ module _ (set clear x : ℕ) where
         let same : occurs x (entryNumbers u) ≡ occurs x (rec c v) = ap₂ (λ (y z : List ℕ). occurs x (y ++ z)) a b ∙ nil-occurs (rec c v) in
         subst (Few x c) (sym same) (once q (chunkMap m c p) v (record { inside = piece .inside; room = piece .room }) (omega (arith, piece .some)))
 
-    entry-few : (u : Tree) → Few x c (occurs x (entryNumbers u))
+    pub entry-few : (u : Tree) → Few x c (occurs x (entryNumbers u))
     entry-few (leaf w) = byBool (wholeEntry (3 - suc left) c)
         (λ e.
         let same : occurs x (entryNumbers (leaf w)) ≡ occurs x (changedNumber set clear c w) =
@@ -117,7 +117,7 @@ module _ (set clear x : ℕ) where
         (λ e. goes-few (leaf w) (opened left (leaf w)) (lower-part set clear rec left c w e) (own-part set clear left c w e))
     entry-few (node f) = goes-few (node f) (opened left (node f)) (lower-into set clear rec left c f) (own-none set clear (suc left) c f)
 
-  table-few : (left : ℕ) → left ≤ 3 → Once left
+  pub table-few : (left : ℕ) → left ≤ 3 → Once left
   unfolding tableNumbers
   table-few zero low q m t area some =
       gathered-few 0 q m (ownNumbers set clear 0) t (λ c p u piece. page-few c u (piece-some piece))

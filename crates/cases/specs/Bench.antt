@@ -103,6 +103,13 @@ A = record { level = 1; before = fresh 1 8; start = 0; end = 0x4000_0000; frame 
 unfoldable pub B : ℕ → Counted → St → Row
 B n answer after = record { level = 1; before = fresh 1 n; start = 0x1000; end = 0x3000; frame = 0x9000; flags = 0x401; answer = answer; after = after }
 
+-- beside the document's cases: the next GiB after A
+unfoldable pub poolAA : St
+poolAA = word 0 1 0x8000_0401 poolA
+
+unfoldable pub AA : Row
+AA = record { level = 1; before = poolA; start = 0x4000_0000; end = 0x8000_0000; frame = 0x8000_0000; flags = 0x401; answer = Tables 1; after = poolAA }
+
 -- C, D: one page after A, to the frame that it has, and to another
 unfoldable pub CD : ℕ → ℕ → St → Row
 CD frame count after = record { level = 1; before = poolA; start = 0x20_0000; end = 0x20_1000; frame = frame; flags = 0x401; answer = Tables count; after = after }
@@ -140,3 +147,7 @@ Maps =
 pub starred-maps : Maps
 unfolding sizeAt down up iter putPart allBelow allFrom alignUp addressOf flagsOf kindOf linkOf only el1Flags inPool leads subOf rounded entryLast entryIndex chunkEnd met chunksIn chunks rootNumber numberOf firstFrom lowestFree used free putTable zeros clear rising takeAt takeFound takeTable freeSub freeSlot freeTree maxTables shaped flagSet plainFlags fits leafb namesb hangsb tableb linkb refersb slotb soundb endFits span inRange verify valid tableWord leafWord whole rule2 blockable rule3 rule4 ruleOf fillOf splitEntry belowOf below inFound into dropEntry byRule mapChunk eachOf eachChunk mapRange ifDown sumOf sumChunks childWord neededLeaf needBelow needChunk needTable needed asked frameAsked first verifyMap putDown mapSound orElse mapCall handle fresh word table Holds poolA poolB poolD poolF poolG poolH A B CD EF G H
 starred-maps = (refl, refl, refl, refl, refl, refl, refl, refl, refl, refl, refl)
+
+pub two-blocks : Holds AA
+unfolding sizeAt down up iter putPart allBelow allFrom alignUp addressOf flagsOf kindOf linkOf only el1Flags inPool leads subOf rounded entryLast entryIndex chunkEnd met chunksIn chunks rootNumber numberOf firstFrom lowestFree used free putTable zeros clear rising takeAt takeFound takeTable freeSub freeSlot freeTree maxTables shaped flagSet plainFlags fits leafb namesb hangsb tableb linkb refersb slotb soundb endFits span inRange verify valid tableWord leafWord whole rule2 blockable rule3 rule4 ruleOf fillOf splitEntry belowOf below inFound into dropEntry byRule mapChunk eachOf eachChunk mapRange ifDown sumOf sumChunks childWord neededLeaf needBelow needChunk needTable needed asked frameAsked first verifyMap putDown mapSound orElse mapCall handle fresh word table Holds poolA poolAA AA
+two-blocks = refl

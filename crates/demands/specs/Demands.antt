@@ -3,7 +3,7 @@
 use mathlib.Core.Path.{_≡_, ap, _∙_}
 use mathlib.Core.Bool.{Bool}
 use mathlib.Core.List.{List, [], _∷_}
-use mathlib.Core.Logic.{_≢_, _↔_}
+use mathlib.Core.Logic.{_≢_, _↔_, inl, inr, ⊎-elim}
 use Prim.Native.Nat.{ℕ, _<_}
 use Rattle.pool.specs.State.{St, tables, wordAt, numberAt}
 use Rattle.pool.specs.Refuse.{number}
@@ -25,13 +25,16 @@ use Rattle.map.specs.Call.{mapCall}
 use Rattle.mapped.specs.Terms.{Call, Maps, Valid, InRegion, frameFor, Apart, InTurn, none, next, InSpan}
 use Rattle.mapped.specs.Call.{call-shaped}
 use Rattle.mapped.specs.Mapped.{map-keeps-sound, map-region-walks, map-elsewhere-as-before}
-use Rattle.demands.specs.Slip.{MakeSlip, CheckSlip, LookUpSlip, ImageSlip, ListSlip, MapSlip}
-use Rattle.demands.specs.Told.{Lowest, exactly}
+use Rattle.modify.specs.declared.Modified.the-variants as modified
+use Rattle.modify.specs.Call.{Modifying, modifyCall}
+use Rattle.demands.specs.Slip.{MakeSlip, CheckSlip, LookUpSlip, ImageSlip, ListSlip, MapSlip, ModifySlip}
+use Rattle.demands.specs.Told.{Lowest, Told, exactly}
 use Rattle.demands.specs.Refused.{make-told, check-told, compact-told, look-up-told, image-told, list-told, map-told}
+use Rattle.demands.specs.Modify.{modify-told}
 
 -- ---- DEMAND 1: "it refuses by number, in a fixed order": refused n exactly when n is the lowest number on the call's slip
 
--- (`map-told` and its like say more: what is carried, and that nothing on the slip means no refusal. Modify has the like of both in one, `modify-told`.)
+-- (`map-told` and its like say more: what is carried, and that nothing on the slip means no refusal.)
 
 pub make-refused-exactly : (h : Handle) (s : St) (n : ℕ)
     → ((r : Refusal) × (makeCall h s .answer ≡ outcome.Refused r) × (number r ≡ n)) ↔ ((r : Refusal) × Lowest (MakeSlip h s) r × (number r ≡ n))
@@ -61,6 +64,15 @@ pub map-refused-exactly : (h : Handle) (s : St) (start end frame flags constrain
     → ((r : Refusal) × (mapCall h start end frame flags constraints s .answer ≡ counted.Refused r) × (number r ≡ n))
     ↔ ((r : Refusal) × Lowest (MapSlip h s start end frame flags constraints) r × (number r ≡ n))
 map-refused-exactly h s start end frame flags constraints n = exactly (map-told h s start end frame flags constraints) (λ r q e. cc e) n
+
+module _ (h : Handle) (s : St) (start end set clear : ℕ) (live : Bool) (list : List ℕ) where
+  pub modify-refused-exactly : (n : ℕ)
+      → ((r : Refusal) × (modifyCall h start end set clear live s list .answer ≡ modified.Refused r) × (number r ≡ n))
+      ↔ ((r : Refusal) × Lowest (ModifySlip h s start end set clear live list) r × (number r ≡ n))
+  modify-refused-exactly n = exactly answered (λ r q e. cc e) n
+    where
+      answered : Told (ModifySlip h s start end set clear live list) modified.Refused (modifyCall h start end set clear live s list .answer)
+      answered = ⊎-elim (λ t. inl (t .0, ap (λ (x : Modifying). x .answer) (t .1), t .2)) (λ t. inr t) (modify-told h s start end set clear live list)
 
 -- ---- DEMAND 2, after an accepted map: "each table in use hangs from the root exactly once"
 

@@ -7,3 +7,5 @@ pub mod Unchanged
 pub mod Modify
 pub mod Demands
 pub mod ShutOut
+pub mod Gathered
+pub mod Examples

@@ -1,5 +1,5 @@
 -- Document 01, "The refusal slip", as a table of its own: when each refusal is given and what it carries, call by call. Definitions alone, in the slip's
--- order and words; no test of the code is cited. Assumes nothing.
+-- order and words. Refusals 1 to 8 cite no test of the code; 9 to 11 cite the counts that they are about (`needed`, `linesOf`, `surveyOf`). Assumes nothing.
 use mathlib.Core.Path.{_≡_}
 use mathlib.Core.Bool.{Bool, true}
 use mathlib.Core.List.{List}

@@ -26,6 +26,8 @@ use Rattle.list.specs.declared.Listed.{Listed}
 use Rattle.list.specs.declared.Listed.the-variants as listed
 use Rattle.need.specs.Needed.{needed}
 use Rattle.rules.specs.declared.Map.{Map}
+use Rattle.modify.specs.declared.Modified.{Modified}
+use Rattle.modify.specs.Call.{Modifying, modifying}
 use Rattle.map.specs.Ask.{asked, verifyMap}
 use Rattle.map.specs.Call.{putDown, mapSound, mapCall, sound-not, sound-full, sound-mapped, call-misshaped, call-refused, call-asked}
 use Rattle.demands.specs.Decided.{accepted-not}
@@ -34,6 +36,19 @@ use Rattle.demands.specs.Decided.{accepted-not}
 
 pub only-one : {A : Type 0} {x y given : A} → x ≡ given → y ≡ given → x ≡ y
 only-one e q = e ∙ sym q
+
+-- so answer and state of make, map and compact, answer and page, answer and list, answer, state and list of modify
+pub one-state : {B : Type 0} {r q : B} {t u : St} {x : Out B} → out r t ≡ x → out q u ≡ x → (r ≡ q) × (t ≡ u)
+one-state {B} e f = (ap (λ (y : Out B). y .answer) (only-one e f), ap (λ (y : Out B). y .state) (only-one e f))
+
+pub one-page : {r q : Outcome} {p l : List ℕ} {x : Imaged} → imaged r p ≡ x → imaged q l ≡ x → (r ≡ q) × (p ≡ l)
+one-page e f = (ap (λ (y : Imaged). y .answer) (only-one e f), ap (λ (y : Imaged). y .page) (only-one e f))
+
+pub one-list : {r q : Listed} {k l : List ℕ} {x : Listing} → listing r k ≡ x → listing q l ≡ x → (r ≡ q) × (k ≡ l)
+one-list e f = (ap (λ (y : Listing). y .answer) (only-one e f), ap (λ (y : Listing). y .list) (only-one e f))
+
+pub one-edit : {r q : Modified} {t u : St} {k l : List ℕ} {x : Modifying} → modifying r t k ≡ x → modifying q u l ≡ x → (r ≡ q) × (t ≡ u) × (k ≡ l)
+one-edit e f = (ap (λ (y : Modifying). y .answer) (only-one e f), ap (λ (y : Modifying). y .state) (only-one e f), ap (λ (y : Modifying). y .list) (only-one e f))
 
 -- ---- A REFUSED CALL LEAVES WHAT WAS LENT
 

@@ -202,6 +202,15 @@ module _ (h : Handle) (c : Call) (s : St) (list : List ℕ) where
     λ broken. (surveyed h c s .word, s, list, call-broken (broken .0) list (broken .1) (broken .2) (broken .3)),
   )
 
+  -- it carries the survey's word, and leaves the state and the list as they were;
+  pub modify-refusal-10-carries : {w : ℕ} {s′ : St} {list′ : List ℕ} → callOf h c s list ≡ modifying (Refused (HouseRule w)) s′ list′
+      → (w ≡ surveyed h c s .word) × (s′ ≡ s) × (list′ ≡ list)
+  modify-refusal-10-carries {w} is =
+      let back = broken-back h c s list is in
+      let same = sym is ∙ call-broken (back .0) list (back .1) (back .2) (back .3) in
+      let p : Refused (HouseRule w) ≡ Refused (HouseRule (surveyed h c s .word)) = ap (λ (x : Modifying). x .answer) same in
+      (let e : w ≡ surveyed h c s .word = cc in e, ap (λ (x : Modifying). x .state) same, ap (λ (x : Modifying). x .list) same)
+
   -- 11 is given exactly when none of refusals 1 to 10 is, and a live call would list more numbers than the list has room for;
   pub modify-refused-11-exactly : ((n : ℕ) × (s′ : St) × (list′ : List ℕ) × (callOf h c s list ≡ modifying (Refused (Short n)) s′ list′))
       ↔ (Passed h c s × (madeBy h c s ≤ free (s .ledger)) × (c .live ≡ true) × (surveyed h c s .broken ≡ false) × (length list < length (numbersOf h c s)))

@@ -94,11 +94,11 @@ says-shown left w va low fine = byBool (valid w)
 -- ---- the walk
 
 -- it takes the slots of the page
-slots-are : (va left : ℕ) → left ≤ 3 → slotsOf va left ≡ slotOf (va / 4096) left
+pub slots-are : (va left : ℕ) → left ≤ 3 → slotsOf va left ≡ slotOf (va / 4096) left
 unfolding slotsOf slotOf
 slots-are va left low = index-is (3 - left) va ∙ ap (λ (x : ℕ). x % 512) (entry-number left va low)
 
-walk-same : (f g : ℕ → ℕ) (n : ℕ) (t : Tree) → ((l : ℕ) → l < n → f l ≡ g l) → walkTree f n t ≡ walkTree g n t
+pub walk-same : (f g : ℕ → ℕ) (n : ℕ) (t : Tree) → ((l : ℕ) → l < n → f l ≡ g l) → walkTree f n t ≡ walkTree g n t
 unfolding walkTree
 walk-same f g n (leaf w) same = refl
 walk-same f g zero (node u) same = refl
@@ -106,9 +106,9 @@ walk-same f g (suc n) (node u) same =
     ap (λ (i : ℕ). walkTree f n (u i)) (same n (omega arith)) ∙ walk-same f g n (u (g n)) (λ l h. same l (omega arith))
 
 -- in a fine tree it ends in a fine word
-record FineEnds (left : ℕ) (e : Ends) : Type 0 where
-  fine : Fine (e .left) (e .word)
-  low : e .left ≤ left
+pub record FineEnds (left : ℕ) (e : Ends) : Type 0 where
+  pub fine : Fine (e .left) (e .word)
+  pub low : e .left ≤ left
 
 ends-fine : (f : ℕ → ℕ) (left : ℕ) (t : Tree) → ((l : ℕ) → f l < 512) → FineTree left t → FineEnds left (walkTree f left t)
 unfolding walkTree
@@ -117,7 +117,7 @@ ends-fine f zero (node u) slots fine = absurd fine
 ends-fine f (suc left) (node u) slots fine = let e = ends-fine f left (u (f left)) slots (fine (f left) (slots left)) in record { fine = e .fine; low = omega (arith, e .low) }
 
 -- .. below the root
-table-ends : (f : ℕ → ℕ) (left : ℕ) (t : Tree) → ((l : ℕ) → f l < 512) → FineTable left t → FineEnds left (walkTree f (suc left) t)
+pub table-ends : (f : ℕ → ℕ) (left : ℕ) (t : Tree) → ((l : ℕ) → f l < 512) → FineTable left t → FineEnds left (walkTree f (suc left) t)
 unfolding walkTree
 table-ends f left (leaf w) slots fine = absurd fine
 table-ends f left (node u) slots fine = ends-fine f left (u (f left)) slots (fine (f left) (slots left))

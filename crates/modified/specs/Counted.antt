@@ -173,7 +173,7 @@ module _ (level : ℕ) (c : MemoryRegion) (w : ℕ) (v : Survey) where
   part-adds ok = kinds (kindOf level w) ok
 
 -- a valid entry that may be covered in part is a block
-valid-block : (left w : ℕ) → suc left ≤ 3 → Fine (suc left) w → valid w ≡ true → kindOf (3 - suc left) w ≡ Block
+pub valid-block : (left w : ℕ) → suc left ≤ 3 → Fine (suc left) w → valid w ≡ true → kindOf (3 - suc left) w ≡ Block
 valid-block zero w low fine v = let o = valid-yes w v in let b = fine .clear (omega arith) in kind-block 2 w (inr refl) (omega arith)
 valid-block (suc zero) w low fine v = let o = valid-yes w v in let b = fine .clear (omega arith) in kind-block 1 w (inl refl) (omega arith)
 valid-block (suc (suc left)) w low fine v = absurd (omega (arith, valid-yes w v, fine .top (omega arith) .0))
@@ -242,7 +242,7 @@ module _ (h : Handle) (e : Edit) (c : MemoryRegion) (w : ℕ) (v : Survey) where
 -- ---- a table of a sound pool
 
 -- a chunk of whole pages is a whole entry of level 3
-page-whole : (q : ℕ) (m : Map) → Piece 0 q m → wholeEntry 3 (m .region) ≡ true
+pub page-whole : (q : ℕ) (m : Map) → Piece 0 q m → wholeEntry 3 (m .region) ≡ true
 unfolding wholeEntry
 page-whole q m piece =
     let s = size-page 3 (omega arith) in

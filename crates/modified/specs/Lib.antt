@@ -1,6 +1,7 @@
 -- What document 01 says of a modify, of the call itself. Read `Terms` and `Modified`; the rest leads from the lists to the trees.
 pub mod Numbers
 pub mod Terms
+pub mod House
 -- a modify on lists is a modify on trees: one word, the two passes over a table, one table
 pub mod Word
 pub mod Passes
@@ -17,5 +18,9 @@ pub mod Listed
 pub mod Asked
 pub mod Call
 pub mod Place
+-- the house rule
+pub mod Found
+pub mod Stays
+pub mod Lowest
 -- what follows
 pub mod Modified

@@ -51,7 +51,7 @@ unfolding firstPage
 first-le left t y = omega arith
 
 -- the page of a chunk's entry stands in the chunk's slot
-slot-in : (left q i y : ℕ) → i < 512 → In left (child q i) y → slotOf y left ≡ i
+pub slot-in : (left q i y : ℕ) → i < 512 → In left (child q i) y → slotOf y left ≡ i
 unfolding slotOf child
 slot-in left q i y inside at = omega arith
 

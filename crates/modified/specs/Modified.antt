@@ -12,6 +12,8 @@ use Rattle.pool.specs.State.{St}
 use Rattle.pool.specs.Number.{used, free}
 use Rattle.pool.specs.declared.Handle.{Handle}
 use Rattle.pool.specs.declared.Refusal.the-variants.{WantOfRoom, HouseRule, Short}
+use Rattle.edit.specs.Word.{editWord}
+use Rattle.survey.specs.House.{mayChange}
 use Rattle.modify.specs.declared.Modified.the-variants.{Refused}
 use Rattle.modify.specs.Ask.{asked}
 use Rattle.modify.specs.Call.{Modifying, modifying}
@@ -25,15 +27,18 @@ use Rattle.tree.specs.Walk.{Seen, mapped as seenMapped, hole as seenHole, seen}
 use Rattle.tree.specs.Edit.{edited}
 use Rattle.tree.specs.Shown.{FineTable}
 use Rattle.tree.specs.Demands.{modified as tree-modified, holes-stay, modify-others, modify-tables}
+use Rattle.walk.specs.Arm.{at as endsAt}
 use Rattle.walked.specs.AsBefore.{walkOf, Shown, mapped, hole, shown}
 use Rattle.mapped.specs.Terms.{InSpan, leftOf, rootIn}
 use Rattle.mapped.specs.Leaf.{root-fine}
 use Rattle.mapped.specs.Shown.{inBytes, walk-shown}
 use Rattle.mapped.specs.Place.{span-spans}
-use Rattle.modified.specs.Terms.{Call, callOf, Modifies, Passed, surveyed, InRegion, flagsAfter, pagesOf, treeAfter, madeBy, numbersOf, Fits}
+use Rattle.modified.specs.Terms.{Call, callOf, Modifies, askedOf, Passed, surveyed, InRegion, flagsAfter, pagesOf, treeAfter, madeBy, numbersOf, Fits}
 use Rattle.modified.specs.Numbers.{occurs, firstPage}
 use Rattle.modified.specs.Listed.{changes}
 use Rattle.modified.specs.Call.{workAfter, given, splits-made, numbers-made, numbers-one, numbers-tell, call-full, call-broken, call-short, call-accepted, full-back, broken-back, short-back, call-passed, call-fits, call-shaped, call-sound, call-tree, call-answer, call-off, call-enough, call-on}
+use Rattle.modified.specs.House.{reachOf, Standing, Covered, Lowest}
+use Rattle.modified.specs.Lowest.{survey-lowest, live-safe}
 use Rattle.modified.specs.Place.{region-page, page-region, region-spans}
 
 -- ---- what a walk shows, read back
@@ -166,6 +171,14 @@ module _ {h : Handle} {c : Call} {s s′ : St} {list list′ : List ℕ} {n k : 
   pub modify-list-exactly : c .live ≡ true → (k ≡ length (numbersOf h c s)) × (k ≤ length list) × (list′ ≡ numbersOf h c s ++ drop k list)
   modify-list-exactly on = let p = call-on modifies on in (p .0, omega (arith, p .0, call-enough modifies on), p .1)
 
+  -- ---- live
+
+  -- live, no valid entry is split and only the house rule's bits change: where the lookups of an address of the region ended at a valid word they end at the same
+  -- level, at that word edited; and the entry lay in the region as a whole
+  pub modify-live-safe : c .live ≡ true → {va level w : ℕ} → Standing h c s va level w
+      → (reachOf h s′ va ≡ endsAt level (editWord level (askedOf c) w)) × (mayChange h w (editWord level (askedOf c) w) ≡ true) × Covered c level va
+  modify-live-safe live stands = live-safe modifies live stands
+
 -- ---- THE REFUSALS 9 TO 11
 
 module _ (h : Handle) (c : Call) (s : St) (list : List ℕ) where
@@ -200,6 +213,31 @@ module _ (h : Handle) (c : Call) (s : St) (list : List ℕ) where
   modify-refused-10-exactly = (
     λ at. broken-back h c s list (at .3),
     λ broken. (surveyed h c s .word, s, list, call-broken (broken .0) list (broken .1) (broken .2) (broken .3)),
+  )
+
+  -- it carries the survey's word, and leaves the state and the list as they were;
+  pub modify-refusal-10-carries : {w : ℕ} {s′ : St} {list′ : List ℕ} → callOf h c s list ≡ modifying (Refused (HouseRule w)) s′ list′
+      → (w ≡ surveyed h c s .word) × (s′ ≡ s) × (list′ ≡ list)
+  modify-refusal-10-carries {w} is =
+      let back = broken-back h c s list is in
+      let same = sym is ∙ call-broken (back .0) list (back .1) (back .2) (back .3) in
+      let p : Refused (HouseRule w) ≡ Refused (HouseRule (surveyed h c s .word)) = ap (λ (x : Modifying). x .answer) same in
+      (let e : w ≡ surveyed h c s .word = cc in e, ap (λ (x : Modifying). x .state) same, ap (λ (x : Modifying). x .list) same)
+
+  -- the survey is broken with the word w exactly when w stands at the lowest address, by the Arm walk, where the call breaks the house rule;
+  pub house-rule-lowest : Passed h c s → (w : ℕ) → ((surveyed h c s .broken ≡ true) × (surveyed h c s .word ≡ w)) ↔ Lowest h c s w
+  house-rule-lowest passed w = survey-lowest passed w
+
+  -- so 10 is given with w exactly when none of refusals 1 to 9 is, the call is live, and w stands at the lowest address where it breaks the house rule;
+  pub modify-refused-10-lowest : (w : ℕ) → (callOf h c s list ≡ modifying (Refused (HouseRule w)) s list)
+      ↔ (Passed h c s × (madeBy h c s ≤ free (s .ledger)) × (c .live ≡ true) × Lowest h c s w)
+  modify-refused-10-lowest w = (
+    λ is.
+        let back = broken-back h c s list is in
+        (back .0, back .1, back .2, survey-lowest (back .0) w .0 (back .3, sym (modify-refusal-10-carries is .0))),
+    λ broken.
+        let found = survey-lowest (broken .0) w .1 (broken .3) in
+        call-broken (broken .0) list (broken .1) (broken .2) (found .0) ∙ ap (λ (x : ℕ). modifying (Refused (HouseRule x)) s list) (found .1),
   )
 
   -- 11 is given exactly when none of refusals 1 to 10 is, and a live call would list more numbers than the list has room for;

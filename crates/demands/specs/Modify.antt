@@ -3,7 +3,7 @@
 use mathlib.Core.Path.{_≡_, refl, sym, ap, _∙_}
 use mathlib.Core.Bool.{Bool, true, false}
 use mathlib.Core.List.{List}
-use mathlib.Core.Logic.{_⊎_, inl, inr, ⊎-elim, _≢_}
+use mathlib.Core.Logic.{_⊎_, inl, inr, ⊎-elim, _≢_, _↔_}
 use Prim.Native.Nat.{ℕ, _-_, _/_, _%_, _≤_, _<_}
 use native.Mathlib.Omega.{arith}
 use lib.Bits.{bitAnd}
@@ -30,9 +30,12 @@ use Rattle.modify.specs.declared.Modified.{Modified}
 use Rattle.modify.specs.declared.Modified.the-variants as modified
 use Rattle.modify.specs.Ask.{asked, verifyBits, verifyEdit, verifySurvey, bits-set-invalid, bits-clear-invalid, bits-set-outside, bits-set-valid, bits-clash, bits-clear-outside, bits-accepted, edit-end, edit-bits, edit-region, survey-full, survey-off, survey-broken, survey-short, survey-accepted}
 use Rattle.modify.specs.Call.{Modifying, modifying, answerOf, editTables, nothing, surveyOf, modifySound, modifyCall, sound-not, sound-refused, sound-edited, call-misshaped, call-refused, call-asked}
+use Rattle.modified.specs.Terms.{Call, Passed}
+use Rattle.modified.specs.House.{Lowest as LowestBreach}
+use Rattle.modified.specs.Modified.{house-rule-lowest}
 use Rattle.demands.specs.Slip.{Misshaped, BadEnd, HasBit1, OutsideSet, Backwards, BeyondRange, BadBit, BadToSet, BadFlags, ModifySlip}
 use Rattle.demands.specs.Told.{Lowest, Told, none-below, number-range, shape-lowest}
-use Rattle.demands.specs.Decided.{misshaped, not-misshaped, unsound, sound, Standing, region-told, end-told, set-told}
+use Rattle.demands.specs.Decided.{misshaped, well-shaped, not-misshaped, unsound, sound, Standing, region-told, end-told, set-told}
 
 -- ---- 3 and 4, decided
 
@@ -96,6 +99,9 @@ module _ (h : Handle) (s : St) (start end set clear : ℕ) (live : Bool) (list :
   abbrev e : Edit
   e = asked start end set clear live
 
+  abbrev c : Call
+  c = record { start = start; end = end; set = set; clear = clear; live = live }
+
   abbrev v : Survey
   v = surveyOf h e s
 
@@ -104,12 +110,12 @@ module _ (h : Handle) (s : St) (start end set clear : ℕ) (live : Bool) (list :
 
   below : (n : ℕ) → (1 < n → ¬ (Misshaped h s)) → (2 < n → ¬ (BadEnd end)) → (3 < n → (f : ℕ) → ¬ (BadBit set clear f)) → (4 < n → (f : ℕ) → ¬ (BadFlags h set clear f))
       → (5 < n → ¬ (Backwards r)) → (6 < n → (a : VirtualAddress) → ¬ (BeyondRange (h .range) (h .level) r a)) → (8 < n → ¬ (¬ (SoundPool h s)))
-      → (9 < n → v .splits ≤ free (s .ledger)) → (10 < n → ¬ ((live ≡ true) × (v .broken ≡ true))) → (11 < n → live ≡ true → v .numbers ≤ length list)
+      → (9 < n → v .splits ≤ free (s .ledger)) → (10 < n → (w : ℕ) → ¬ ((live ≡ true) × LowestBreach h c s w)) → (11 < n → live ≡ true → v .numbers ≤ length list)
       → (q : Refusal) → number q < n → ¬ (Here q)
   unfolding ModifySlip
   below n one two three four five six eight nine ten eleven = none-below Here n one (λ l x g. two l (g .1)) three four
       (λ l x g. five l (rw (← g .0) (g .1))) six (λ l x g. g) eight (λ l k x g. let z = nine l in omega (arith, g .0, g .1, g .2))
-      (λ l w g. ten l (g .0, g .1)) (λ l k g. let z = eleven l (g .0) in omega (arith, g .1, g .2))
+      ten (λ l k g. let z = eleven l (g .0) in omega (arith, g .1, g .2))
 
   abbrev Whole : Modifying
   Whole = modifyCall h start end set clear live s list
@@ -172,7 +178,7 @@ module _ (h : Handle) (s : St) (start end set clear : ℕ) (live : Bool) (list :
           whole-is : modifySound h e s list ≡ Whole
           whole-is = call-asked h start end set clear live s list fits region-is (stands .0)
 
-          lower : (n : ℕ) → (8 < n → ¬ (¬ (SoundPool h s))) → (9 < n → v .splits ≤ free (s .ledger)) → (10 < n → ¬ ((live ≡ true) × (v .broken ≡ true)))
+          lower : (n : ℕ) → (8 < n → ¬ (¬ (SoundPool h s))) → (9 < n → v .splits ≤ free (s .ledger)) → (10 < n → (w : ℕ) → ¬ ((live ≡ true) × LowestBreach h c s w))
               → (11 < n → live ≡ true → v .numbers ≤ length list) → (q : Refusal) → number q < n → ¬ (Here q)
           lower n = below n (λ l. not-misshaped h s fits) (λ l. good) (λ l. bits .1) (λ l. bits .2) (λ l. stands .1 .forwards) (λ l. stands .1 .within)
 
@@ -188,6 +194,20 @@ module _ (h : Handle) (s : St) (start end set clear : ℕ) (live : Bool) (list :
           )
 
           module _ (is : soundb h s ≡ true) where
+            passed : Passed h c s
+            passed = record { shape = well-shaped h s fits; asks = sym region-is ∙ stands .0; pool = sound h s fits is }
+
+            -- what the survey finds is the lowest breach by the walk
+            breach-is : (w : ℕ) → ((v .broken ≡ true) × (v .word ≡ w)) ↔ LowestBreach h c s w
+            unfolding surveyOf nothing
+            breach-is w = house-rule-lowest h c s list passed w
+
+            no-breach : v .broken ≡ false → (w : ℕ) → ¬ ((live ≡ true) × LowestBreach h c s w)
+            no-breach kept w g =
+                let z : true ≡ false = sym (breach-is w .1 (g .1) .0) ∙ kept in
+                let o : _≡_ {A = ℕ} 0 1 = cc in
+                omega arith
+
             surveyed : {x : Outcome} → x ≡ verifySurvey (free (s .ledger)) (length list) live v → (y : Refusal) → x ≡ Refused y → Lowest Here y → Goal
             unfolding asked surveyOf nothing
             surveyed told y q lowest = inl (y, sym (sound-refused h e s list is refl refl told y q ∙ whole-is), lowest)
@@ -195,7 +215,7 @@ module _ (h : Handle) (s : St) (start end set clear : ℕ) (live : Bool) (list :
             done : Accepted ≡ verifySurvey (free (s .ledger)) (length list) live v → v .splits ≤ free (s .ledger) → (live ≡ true → (v .broken ≡ false) × (v .numbers ≤ length list)) → Goal
             unfolding asked surveyOf nothing
             done told room rest = inr (
-              (λ q. lower 12 (λ l g. g (sound h s fits is)) (λ l. room) (λ l g. let z : true ≡ false = sym (g .1) ∙ rest (g .0) .0 in let o : _≡_ {A = ℕ} 0 1 = cc in omega arith)
+              (λ q. lower 12 (λ l g. g (sound h s fits is)) (λ l. room) (λ l w g. no-breach (rest (g .0) .0) w g)
                   (λ l on. rest on .1) q (number-range q .1)),
               λ x q. edited-not h e s list x (ap (λ (y : Modifying). y .answer) (sound-edited h e s list is refl refl told refl ∙ whole-is) ∙ q),
             )
@@ -215,7 +235,7 @@ module _ (h : Handle) (s : St) (start end set clear : ℕ) (live : Bool) (list :
                 broken : v .broken ≡ true → Goal
                 unfolding ModifySlip
                 broken q = surveyed (survey-broken (free (s .ledger)) (length list) live v room on q) (HouseRule (v .word)) refl (record {
-                  given = (on, q, refl);
+                  given = (on, breach-is (v .word) .0 (q, refl));
                   lower = lower 10 (λ l g. g (sound h s fits is)) (λ l. room) (λ l. absurd (omega arith)) (λ l. absurd (omega arith));
                 })
 
@@ -224,7 +244,7 @@ module _ (h : Handle) (s : St) (start end set clear : ℕ) (live : Bool) (list :
                   unfolding ModifySlip
                   narrow short = surveyed (survey-short (free (s .ledger)) (length list) live v room on kept short) (Short (v .numbers)) refl (record {
                     given = (on, refl, short);
-                    lower = lower 11 (λ l g. g (sound h s fits is)) (λ l. room) (λ l g. let z : true ≡ false = sym (g .1) ∙ kept in let o : _≡_ {A = ℕ} 0 1 = cc in omega arith)
+                    lower = lower 11 (λ l g. g (sound h s fits is)) (λ l. room) (λ l. no-breach kept)
                         (λ l. absurd (omega arith));
                   })
 

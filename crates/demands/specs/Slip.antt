@@ -1,5 +1,5 @@
 -- Document 01, "The refusal slip", as a table of its own: when each refusal is given and what it carries, call by call. Definitions alone, in the slip's
--- order and words. Refusals 1 to 8 cite no test of the code; 9 to 11 cite the counts that they are about (`needed`, `linesOf`, `surveyOf`). Assumes nothing.
+-- order and words. Refusals 1 to 8 and 10 cite no test of the code; 9 and 11 cite the counts that they are about (`needed`, `linesOf`, `surveyOf`). Assumes nothing.
 use mathlib.Core.Path.{_≡_}
 use mathlib.Core.Bool.{Bool, true}
 use mathlib.Core.List.{List}
@@ -27,6 +27,7 @@ use Rattle.need.specs.Needed.{needed}
 use Rattle.map.specs.Ask.{asked}
 use Rattle.modify.specs.Ask.{asked as askedEdit}
 use Rattle.modify.specs.Call.{surveyOf}
+use Rattle.modified.specs.House.{Lowest as LowestBreach}
 
 -- ---- "Given exactly when"
 
@@ -164,7 +165,8 @@ BadToSet h set clear = OutsideSet h set ⊎ ((set % 2 ≡ 1) ⊎ (bitAnd set cle
 abbrev pub BadFlags : Handle → ℕ → ℕ → ℕ → Type 0
 BadFlags h set clear f = ((f ≡ set) × BadToSet h set clear) ⊎ ((f ≡ clear) × (¬ (BadToSet h set clear)) × OutsideSet h clear)
 
--- "modify 1 to 6, 8, 9 and, live, 10, 11": the survey of an edit counts its splits and its numbers, and has the first entry that breaks the house rule
+-- "modify 1 to 6, 8, 9 and, live, 10, 11": the survey of an edit counts its splits and its numbers; 10 names the word at the lowest address, by the Arm walk, where the
+-- call breaks the house rule
 unfoldable pub ModifySlip : Handle → St → ℕ → ℕ → ℕ → ℕ → Bool → List ℕ → Refusal → Type 0
 ModifySlip h s start end set clear live list Shape = Misshaped h s
 ModifySlip h s start end set clear live list (End e) = (e ≡ end) × BadEnd end
@@ -176,5 +178,5 @@ ModifySlip h s start end set clear live list (Frame f) = ⊥
 ModifySlip h s start end set clear live list Unsound = ¬ (SoundPool h s)
 ModifySlip h s start end set clear live list (WantOfRoom n f) = (n ≡ surveyOf h (askedEdit start end set clear live) s .splits) × (f ≡ free (s .ledger)) × (f < n)
 ModifySlip h s start end set clear live list (HouseRule w) =
-    let v = surveyOf h (askedEdit start end set clear live) s in (live ≡ true) × (v .broken ≡ true) × (w ≡ v .word)
+    (live ≡ true) × LowestBreach h (record { start = start; end = end; set = set; clear = clear; live = live }) s w
 ModifySlip h s start end set clear live list (Short n) = (live ≡ true) × (n ≡ surveyOf h (askedEdit start end set clear live) s .numbers) × (length list < n)

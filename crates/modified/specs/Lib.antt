@@ -22,5 +22,6 @@ pub mod Place
 pub mod Found
 pub mod Stays
 pub mod Lowest
+pub mod Change
 -- what follows
 pub mod Modified

@@ -1,17 +1,18 @@
 -- The house rule bit by bit (document 01, "Putting down a map", Modify): `survey::House.mayChange` allows a change exactly if no bit outside "0, 7, 10, 11, 51, 53, 54
 -- and 55 to 58" differs. Assumes nothing.
-use mathlib.Core.Path.{_≡_, refl, sym, ap, ap₂, _∙_}
+use mathlib.Core.Path.{_≡_, refl, sym, ap, _∙_}
 use mathlib.Core.Bool.{Bool, true, false, cond, _&&_, _||_}
-use mathlib.Core.Logic.{_⊎_, inl, inr, _≢_}
-use Prim.Native.Nat.{ℕ, zero, suc, _+_, _*_, _/_, _%_, _^_, _≤_, _<_, min}
-use native.Mathlib.Nat.{pow-suc, mul-comm, div-div-eq-div-mul, div-eq-of-lt}
+use mathlib.Core.Logic.{_⊎_, inl, inr, _≢_, _↔_}
+use Prim.Native.Nat.{ℕ, zero, suc, _+_, _-_, _/_, _%_, _^_, _≤_, _<_, min}
+use native.Mathlib.Nat.{pow-suc, mul-comm, div-div-eq-div-mul}
 use native.Mathlib.Omega.{arith}
 use lib.Arith.{bin-ind, digits-mod}
 use lib.Bits.{bitAnd, bitXor, differ, and-step, xor-step, and-zero-l, and-shr, xor-shr}
 use lib.Dec.{eqb, eqb→eq, leb}
+use lib.Pow.{shr-shr, shr-le}
 use borrow.Author.Tests.{le-leb, lt-leb, ne-eqb, eqb-false}
 use Rattle.laws.specs.Bit.{and-odd}
-use Rattle.laws.specs.Test.{allBelow, all-to, eq-or, le-or}
+use Rattle.laws.specs.Test.{byBool, allBelow, all-to, eq-or, le-or}
 use Rattle.entry.specs.Word.{only}
 use Rattle.pool.specs.declared.Handle.{Handle}
 use Rattle.survey.specs.House.{houseRule, mayChange}
@@ -93,7 +94,60 @@ module _ (h : Handle) (old new : ℕ) where
   unfolding mayChange only
   not-differs bits =
       let f : ℕ = bitXor old new in
-      let l = lacks f (houseRule h) (eqb-false (bitAnd f (houseRule h)) f bits) in
-      (l .place, l .clear, λ same.
-      let z : bit (l .place) f ≡ 0 = xor-bit old new (l .place) ∙ ap (λ (x : ℕ). differ x (bit (l .place) new)) same ∙ differ-self (bit (l .place) new) (omega arith) in
-      omega (arith, z, l .set))
+      let l = lacks f (houseRule h) (eqb-false (bitAnd f (houseRule h)) f bits) in (
+        l .place,
+        l .clear,
+        λ same.
+            let z : bit (l .place) f ≡ 0 = xor-bit old new (l .place) ∙ ap (λ (x : ℕ). differ x (bit (l .place) new)) same ∙ differ-self (bit (l .place) new) (omega arith) in
+            omega (arith, z, l .set),
+      )
+
+-- ---- the mask
+
+-- it has exactly the bits that the document names
+mask-low : (i : ℕ) → i < 59 → bit i 0x07E8_0000_0000_0C81 ≡ cond (houseBit i) 1 0
+unfolding allBelow houseBit
+mask-low i l =
+    eqb→eq (bit i 0x07E8_0000_0000_0C81) (cond (houseBit i) 1 0) (all-to 59 (λ j. eqb (bit j 0x07E8_0000_0000_0C81) (cond (houseBit j) 1 0)) tt i l)
+
+mask-high : (i : ℕ) → 59 ≤ i → bit i 0x07E8_0000_0000_0C81 ≡ 0
+mask-high i l =
+    let e : 59 + (i - 59) ≡ i = omega arith in
+    let s = shr-shr 0x07E8_0000_0000_0C81 59 (i - 59) in
+    let z : 0 / 2 ^ (i - 59) ≡ 0 = omega (arith, shr-le 0 (i - 59)) in
+    ap (λ (j : ℕ). bit j 0x07E8_0000_0000_0C81) (sym e) ∙ ap (λ (x : ℕ). x % 2) (sym s ∙ z)
+
+none-high : (i : ℕ) → 59 ≤ i → houseBit i ≡ false
+unfolding houseBit
+none-high i l =
+    rw (
+      ne-eqb i 0 (λ e. omega arith),
+      ne-eqb i 7 (λ e. omega arith),
+      ne-eqb i 10 (λ e. omega arith),
+      ne-eqb i 11 (λ e. omega arith),
+      ne-eqb i 51 (λ e. omega arith),
+      ne-eqb i 53 (λ e. omega arith),
+      ne-eqb i 54 (λ e. omega arith),
+      le-leb 55 i (omega arith),
+      lt-leb i 58 (omega arith),
+    )
+
+pub mask-bits : (h : Handle) (i : ℕ) → bit i (houseRule h) ≡ cond (houseBit i) 1 0
+unfolding houseRule
+mask-bits h i = go (le-or 59 i)
+  where
+    go : (59 ≤ i) ⊎ (i < 59) → bit i 0x07E8_0000_0000_0C81 ≡ cond (houseBit i) 1 0
+    go (inl l) = mask-high i l ∙ ap (λ (b : Bool). cond b 1 0) (sym (none-high i l))
+    go (inr l) = mask-low i l
+
+bit-out : (b : Bool) → _≡_ {A = ℕ} (cond b 1 0) 0 → b ≡ false
+bit-out true e = absurd (omega arith)
+bit-out false e = refl
+
+-- THE HOUSE RULE'S BITS
+pub house-rule-bits : (h : Handle) (old new : ℕ) → (mayChange h old new ≡ true) ↔ ((i : ℕ) → houseBit i ≡ false → bit i old ≡ bit i new)
+house-rule-bits h old new = (
+  λ may i out. may-same h old new may i (mask-bits h i ∙ ap (λ (b : Bool). cond b 1 0) out),
+  λ same. byBool {A = mayChange h old new ≡ true} (mayChange h old new) (λ may. may)
+      (λ bits. let d = not-differs h old new bits in absurd (d .2 (same (d .0) (bit-out (houseBit (d .0)) (sym (mask-bits h (d .0)) ∙ d .1))))),
+)

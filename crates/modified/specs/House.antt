@@ -1,5 +1,5 @@
 -- The house rule for live edits (document 01, "Putting down a map", Modify, and refusal 10), by the Arm walk of the words: where a call breaks it, and the lowest such
--- address. Definitions alone; `survey::House.mayChange` says which bits may change. Assumes nothing.
+-- address. Definitions alone; `Change.house-rule-bits` says bit by bit what `mayChange` allows. Assumes nothing.
 use mathlib.Core.Path.{_≡_}
 use mathlib.Core.Bool.{false}
 use mathlib.Core.Logic.{_⊎_}

@@ -1,4 +1,4 @@
--- What document 01 says of a modify, of the call itself. Read `Terms` and `Modified`; the rest leads from the lists to the trees.
+-- What document 01 says of a modify, of the call itself. Read `Terms`, `House` and `Modified`; the rest leads from the lists to the trees.
 pub mod Numbers
 pub mod Terms
 pub mod House
@@ -22,5 +22,6 @@ pub mod Place
 pub mod Found
 pub mod Stays
 pub mod Lowest
+pub mod Change
 -- what follows
 pub mod Modified

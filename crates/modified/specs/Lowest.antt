@@ -4,10 +4,12 @@ use mathlib.Core.Path.{_≡_, refl, sym, ap, ap₂, subst, _∙_}
 use mathlib.Core.Bool.{true, false}
 use mathlib.Core.List.{List}
 use mathlib.Core.Logic.{_⊎_, inl, inr, _↔_}
-use Prim.Native.Nat.{ℕ, suc, _+_, _*_, _-_, _/_, _%_, _≤_, _<_}
+use Prim.Native.Nat.{ℕ, zero, suc, _+_, _*_, _-_, _/_, _%_, _≤_, _<_}
 use native.Mathlib.Omega.{arith}
 use Rattle.laws.specs.Size.{sizeAt, down}
 use Rattle.laws.specs.Test.{byBool, le-or}
+use Rattle.entry.specs.Word.{kindOf, kind-page}
+use Rattle.entry.specs.declared.Kind.the-variants.{Block, Page}
 use Rattle.region.specs.Region.{rounded}
 use Rattle.pool.specs.State.{St}
 use Rattle.pool.specs.Refuse.{Shaped}
@@ -26,6 +28,7 @@ use Rattle.walked.specs.Walked.{reach-tree}
 use Rattle.tree.specs.Page.{span, span-size, first, slotOf, slot-lt, in-rest, entry-start}
 use Rattle.tree.specs.Word.{valid, valid-of, valid-yes}
 use Rattle.tree.specs.Edit.{edited}
+use Rattle.tree.specs.Fine.{Fine}
 use Rattle.mapped.specs.Terms.{leftOf, rootIn}
 use Rattle.mapped.specs.Leaf.{root-fine}
 use Rattle.mapped.specs.Shown.{slots-are, walk-same, FineEnds, table-ends}
@@ -33,6 +36,7 @@ use Rattle.modified.specs.Terms.{Call, Modifies, askedOf, Passed, survey
 use Rattle.modified.specs.House.{reachOf, Standing, Covered, Breaks, Lowest}
 use Rattle.modified.specs.Word.{valid-edited}
 use Rattle.modified.specs.Asked.{asked-forwards}
+use Rattle.modified.specs.Counted.{valid-block}
 use Rattle.modified.specs.Call.{area, ready, call-passed, call-fits, call-shaped, call-sound, call-tree}
 use Rattle.modified.specs.Place.{region-page, page-region, region-spans}
 use Rattle.modified.specs.Found.{Within, newWord, Broken, First, Finds, new-is, BreaksIn, survey-finds}
@@ -130,6 +134,17 @@ module _ {h : Handle} {c : Call} {s : St} (passed : Passed h c s) where
             → (¬ (Covered c (3 - x .left) va)) ⊎ (mayChange h w (editWord (3 - x .left) e w) ≡ false)
         either (inl split) = inl (λ C. split (covered-within (x .left) va low-end C))
         either (inr bits) = inr (ap (mayChange h w) (sym (new-word w)) ∙ bits)
+
+  -- in a sound pool a valid word is a block at levels 1 and 2, a page at level 3
+  pub standing-kind : {va level w : ℕ} → Standing h c s va level w → (kindOf level w ≡ Block) ⊎ (kindOf level w ≡ Page)
+  standing-kind {va} {level} {w} S =
+      let same : at (3 - ends (va / 4096) .left) (ends (va / 4096) .word) ≡ at level w = sym (reached va) ∙ S .ends in
+      subst (λ (l : ℕ). (kindOf l w ≡ Block) ⊎ (kindOf l w ≡ Page)) (at-level same)
+      (go (ends (va / 4096) .left) (low-end va) (subst (Fine (ends (va / 4096) .left)) (at-word same) (ends-fine (va / 4096) .fine)))
+    where
+      go : (n : ℕ) → n ≤ 3 → Fine n w → (kindOf (3 - n) w ≡ Block) ⊎ (kindOf (3 - n) w ≡ Page)
+      go zero low fine = let b = fine .page refl (S .valid) in let o = S .valid in inr (kind-page 3 w (omega arith) (omega arith))
+      go (suc n) low fine = inl (valid-block n w low fine (valid-of w (S .valid)))
 
   -- ---- the survey
 

@@ -39,6 +39,7 @@ use Rattle.modified.specs.Listed.{changes}
 use Rattle.modified.specs.Call.{workAfter, given, splits-made, numbers-made, numbers-one, numbers-tell, call-full, call-broken, call-short, call-accepted, full-back, broken-back, short-back, call-passed, call-fits, call-shaped, call-sound, call-tree, call-answer, call-off, call-enough, call-on}
 use Rattle.modified.specs.House.{reachOf, Standing, Covered, Lowest}
 use Rattle.modified.specs.Lowest.{survey-lowest, live-safe}
+use Rattle.modified.specs.Change.{bit, houseBit, house-rule-bits}
 use Rattle.modified.specs.Place.{region-page, page-region, region-spans}
 
 -- ---- what a walk shows, read back
@@ -178,6 +179,10 @@ module _ {h : Handle} {c : Call} {s s′ : St} {list list′ : List ℕ} {n k : 
   pub modify-live-safe : c .live ≡ true → {va level w : ℕ} → Standing h c s va level w
       → (reachOf h s′ va ≡ endsAt level (editWord level (askedOf c) w)) × (mayChange h w (editWord level (askedOf c) w) ≡ true) × Covered c level va
   modify-live-safe live stands = live-safe modifies live stands
+
+  -- no bit but 0, 7, 10, 11, 51, 53, 54 and 55 to 58 of the word changes
+  pub modify-live-bits : c .live ≡ true → {va level w : ℕ} → Standing h c s va level w → (i : ℕ) → houseBit i ≡ false → bit i w ≡ bit i (editWord level (askedOf c) w)
+  modify-live-bits live {va} {level} {w} stands = house-rule-bits h w (editWord level (askedOf c) w) .0 (live-safe modifies live stands .1)
 
 -- ---- THE REFUSALS 9 TO 11
 

@@ -1,4 +1,4 @@
--- The calls with numbers alone: a handle made of three numbers, and each call's answer and lent state for every input.
+-- The calls with numbers alone: each call's answer and lent state for every input.
 -- A call is a definition and two laws, one for each way through its code. Assumes nothing.
 use mathlib.Core.Path.{_≡_, ap, _∙_}
 use mathlib.Core.Bool.{Bool, not, cond}
@@ -10,8 +10,6 @@ use Rattle.pool.specs.State.{St}
 use Rattle.pool.specs.Refuse.{Out, out}
 use Rattle.pool.specs.Calls.{makeCall, imageCall, Imaged, imaged}
 use Rattle.pool.specs.declared.Handle.{Handle}
-use Rattle.pool.specs.declared.VaRange.{VaRange}
-use Rattle.pool.specs.declared.VaRange.the-variants.{Lower, Upper}
 use Rattle.pool.specs.declared.Refusal.the-variants.{Shape}
 use Rattle.pool.specs.declared.Outcome.{Outcome}
 use Rattle.pool.specs.declared.Counted.{Counted}
@@ -24,15 +22,8 @@ use Rattle.map.specs.Call.{mapCall}
 use Rattle.compact.specs.Call.{compactCall}
 use Rattle.modify.specs.Call.{modifyCall, Modifying, modifying}
 use Rattle.modify.specs.declared.Modified.{Modified}
-use Rattle.ptb.specs.Answer.{Slip, slip, over, refused, told, toldCounted, toldLooked, toldListed, toldModified}
-
--- 0 is lower, 1 upper; a call refuses any other range first
-unfoldable pub rangeOf : ℕ → VaRange
-rangeOf range = cond (eqb range 0) Lower Upper
-
--- all 64 bits of each number count
-abbrev pub handleOf : ℕ → ℕ → ℕ → Handle
-handleOf base level range = record { base = record { 0 = base }; level = level; range = rangeOf range }
+use Rattle.face.specs.Handle.{handleOf}
+use Rattle.face.specs.Answer.{Slip, slip, over, refused, told, toldCounted, toldLooked, toldListed, toldModified}
 
 -- ---- make
 

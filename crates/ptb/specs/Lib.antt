@@ -1,3 +1,2 @@
--- What a caller outside sees: the numbers that a call returns and leaves in `answer`, and each call's whole effect.
-pub mod Answer
+-- What a caller outside sees: each call's whole effect.
 pub mod Face

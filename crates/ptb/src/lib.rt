@@ -1,45 +1,21 @@
 // The face for other languages: each call by its C name, with numbers alone (include/ptb.h says what each is).
-mod answer;
-
 use address::PhysicalAddress;
 use address::VirtualAddress;
+use face::answer;
+use face::handle;
 use map::Constraints;
 use map::call;
-use pool::Handle;
-use pool::VaRange;
 use pool::image;
 use pool::make;
 use walk::look_up;
 ghost use mathlib.Core.Path.{_≡_};
 ghost use Rattle.pool.specs.State.{st};
 ghost use Rattle.pool.specs.Refuse.{out};
-ghost use Rattle.ptb.specs.Answer.{slip};
-ghost use Rattle.ptb.specs.Face.{rangeOf, handleOf, makeFace, checkFace, lookUpFace, filled, listFace, mapFace, changed, modifyFace, compactFace, imageFace};
+ghost use Rattle.face.specs.Answer.{slip};
+ghost use Rattle.ptb.specs.Face.{makeFace, checkFace, lookUpFace, filled, listFace, mapFace, changed, modifyFace, compactFace, imageFace};
 
 // The number of the upper range, the highest there is.
 const UPPER: u64 = 1;
-
-// 0 is lower, 1 upper.
-fn range_of(range: u64) -> VaRange
-    ensures { λ r. ⌜ r ≡ rangeOf range ⌝ }
-{
-    if range == 0 {
-        VaRange::Lower
-    } else {
-        VaRange::Upper
-    }
-}
-
-// The handle of three numbers.
-fn handle_of(base: u64, level: u64, range: u64) -> Handle
-    ensures { λ r. ⌜ r ≡ handleOf base level range ⌝ }
-{
-    Handle {
-        base: PhysicalAddress(base),
-        level: level as usize,
-        range: range_of(range),
-    }
-}
 
 // Zeroes all words and the ledger, then enters the root as table 0.
 #[no_mangle]
@@ -56,7 +32,7 @@ pub extern "C" fn ptb_make(
     if UPPER < range {
         return 1;
     }
-    let handle = handle_of(base, level, range);
+    let handle = handle::handle_of(base, level, range);
     let outcome = make::make(words, ledger, handle);
     answer::answer_outcome(outcome, answer)
 }
@@ -76,7 +52,7 @@ pub extern "C" fn ptb_check(
     if UPPER < range {
         return 1;
     }
-    let handle = handle_of(base, level, range);
+    let handle = handle::handle_of(base, level, range);
     let outcome = checker::check(words, ledger, handle);
     answer::answer_outcome(outcome, answer)
 }
@@ -97,7 +73,7 @@ pub extern "C" fn ptb_look_up(
     if UPPER < range {
         return 1;
     }
-    let handle = handle_of(base, level, range);
+    let handle = handle::handle_of(base, level, range);
     let looked = look_up::look_up(words, ledger, handle, VirtualAddress(va));
     answer::answer_looked(looked, answer)
 }
@@ -120,7 +96,7 @@ pub extern "C" fn ptb_list(
     if UPPER < range {
         return 1;
     }
-    let handle = handle_of(base, level, range);
+    let handle = handle::handle_of(base, level, range);
     let listed = list::list(words, ledger, handle, start, end, lines);
     answer::answer_listed(listed, answer)
 }
@@ -145,7 +121,7 @@ pub extern "C" fn ptb_map(
     if UPPER < range {
         return 1;
     }
-    let handle = handle_of(base, level, range);
+    let handle = handle::handle_of(base, level, range);
     let counted = call::map(
         words,
         ledger,
@@ -180,7 +156,7 @@ pub extern "C" fn ptb_modify(
     if UPPER < range {
         return 1;
     }
-    let handle = handle_of(base, level, range);
+    let handle = handle::handle_of(base, level, range);
     let modified = modify::call::modify(
         words,
         ledger,
@@ -210,7 +186,7 @@ pub extern "C" fn ptb_compact(
     if UPPER < range {
         return 1;
     }
-    let handle = handle_of(base, level, range);
+    let handle = handle::handle_of(base, level, range);
     let counted = compact::compact(words, ledger, handle);
     answer::answer_counted(counted, answer)
 }
@@ -232,7 +208,7 @@ pub extern "C" fn ptb_image(
     if UPPER < range {
         return 1;
     }
-    let handle = handle_of(base, level, range);
+    let handle = handle::handle_of(base, level, range);
     let outcome = image::page_image(words, ledger, handle, table as usize, page);
     answer::answer_outcome(outcome, answer)
 }

@@ -1,5 +1,4 @@
 -- `ptb_check`: a range above 1, or the call told outside. Assumes nothing.
-use native.Mathlib.Omega.{arith}
 use Rattle.pool.specs.State.{st}
 use Rattle.ptb.specs.Face.{check-no-range, check-told}
 use Rattle.ptb.proofs.ptb_check.Statement.{statement}
@@ -7,8 +6,8 @@ use Rattle.ptb.proofs.ptb_check.Tie as tie
 use Rattle.ptb.proofs.ptb_check.Reads as reads
 use Rattle.ptb.proofs.ptb_check.Lts as lts
 use Rattle.checker.proofs.check.Reads as check-reads
-use Rattle.ptb.proofs.answer.answer_outcome.Reads as answer-outcome-reads
-use Rattle.ptb.proofs.handle_of.Reads as handle-of-reads
+use Rattle.face.proofs.answer.answer_outcome.Reads as answer-outcome-reads
+use Rattle.face.proofs.handle.handle_of.Reads as handle-of-reads
 
 -- src/lib.rt:73:9
 returns : tie.Need-returns
@@ -16,15 +15,15 @@ returns c = let a = c .before .before .before .args in check-no-range (a .base) 
 
 -- src/lib.rt:75:9
 handle-of-requires : tie.Need-handle-of-requires
-handle-of-requires c κs = omega arith
+handle-of-requires c κs = tt
 
 -- src/lib.rt:76:9
 check-requires : tie.Need-check-requires
-check-requires c κs = omega arith
+check-requires c κs = tt
 
 -- src/lib.rt:77:5
 answer-outcome-requires : tie.Need-answer-outcome-requires
-answer-outcome-requires c κs = omega arith
+answer-outcome-requires c κs = tt
 
 -- src/lib.rt:61:1
 returns-2 : tie.Need-returns-2

@@ -7,8 +7,8 @@ use Rattle.ptb.proofs.ptb_compact.Tie as tie
 use Rattle.ptb.proofs.ptb_compact.Reads as reads
 use Rattle.ptb.proofs.ptb_compact.Lts as lts
 use Rattle.compact.proofs.compact.Reads as compact-reads
-use Rattle.ptb.proofs.answer.answer_counted.Reads as answer-counted-reads
-use Rattle.ptb.proofs.handle_of.Reads as handle-of-reads
+use Rattle.face.proofs.answer.answer_counted.Reads as answer-counted-reads
+use Rattle.face.proofs.handle.handle_of.Reads as handle-of-reads
 
 -- src/lib.rt:175:9
 returns : tie.Need-returns
@@ -16,15 +16,15 @@ returns c = let a = c .before .before .before .args in compact-no-range (a .base
 
 -- src/lib.rt:177:9
 handle-of-requires : tie.Need-handle-of-requires
-handle-of-requires c κs = omega arith
+handle-of-requires c κs = tt
 
 -- src/lib.rt:178:9
 compact-requires : tie.Need-compact-requires
-compact-requires c κs = omega arith
+compact-requires c κs = tt
 
 -- src/lib.rt:179:5
 answer-counted-requires : tie.Need-answer-counted-requires
-answer-counted-requires c κs = omega arith
+answer-counted-requires c κs = tt
 
 -- src/lib.rt:163:1
 same-length : tie.Need-same-length

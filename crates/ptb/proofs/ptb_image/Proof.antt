@@ -7,8 +7,8 @@ use Rattle.ptb.proofs.ptb_image.Tie as tie
 use Rattle.ptb.proofs.ptb_image.Reads as reads
 use Rattle.ptb.proofs.ptb_image.Lts as lts
 use Rattle.pool.proofs.image.page_image.Reads as page-image-reads
-use Rattle.ptb.proofs.answer.answer_outcome.Reads as answer-outcome-reads
-use Rattle.ptb.proofs.handle_of.Reads as handle-of-reads
+use Rattle.face.proofs.answer.answer_outcome.Reads as answer-outcome-reads
+use Rattle.face.proofs.handle.handle_of.Reads as handle-of-reads
 
 -- src/lib.rt:95:9
 returns : tie.Need-returns
@@ -16,15 +16,15 @@ returns c = let a = c .before .before .before .before .args in image-no-range (a
 
 -- src/lib.rt:97:9
 handle-of-requires : tie.Need-handle-of-requires
-handle-of-requires c κs = omega arith
+handle-of-requires c κs = tt
 
 -- src/lib.rt:98:9
 page-image-requires : tie.Need-page-image-requires
-page-image-requires c κs = omega arith
+page-image-requires c κs = tt
 
 -- src/lib.rt:99:5
 answer-outcome-requires : tie.Need-answer-outcome-requires
-answer-outcome-requires c κs = omega arith
+answer-outcome-requires c κs = tt
 
 -- src/lib.rt:81:1
 same-length : tie.Need-same-length

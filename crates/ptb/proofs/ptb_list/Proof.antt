@@ -7,8 +7,8 @@ use Rattle.ptb.proofs.ptb_list.Tie as tie
 use Rattle.ptb.proofs.ptb_list.Reads as reads
 use Rattle.ptb.proofs.ptb_list.Lts as lts
 use Rattle.list.proofs.list.Reads as list-reads
-use Rattle.ptb.proofs.answer.answer_listed.Reads as answer-listed-reads
-use Rattle.ptb.proofs.handle_of.Reads as handle-of-reads
+use Rattle.face.proofs.answer.answer_listed.Reads as answer-listed-reads
+use Rattle.face.proofs.handle.handle_of.Reads as handle-of-reads
 
 -- src/lib.rt:121:9
 returns : tie.Need-returns
@@ -16,15 +16,15 @@ returns c = let a = c .before .before .before .before .args in list-no-range (a 
 
 -- src/lib.rt:123:9
 handle-of-requires : tie.Need-handle-of-requires
-handle-of-requires c κs = omega arith
+handle-of-requires c κs = tt
 
 -- src/lib.rt:124:9
 list-requires : tie.Need-list-requires
-list-requires c κs = omega arith
+list-requires c κs = tt
 
 -- src/lib.rt:125:5
 answer-listed-requires : tie.Need-answer-listed-requires
-answer-listed-requires c κs = omega arith
+answer-listed-requires c κs = tt
 
 -- src/lib.rt:106:1
 same-length : tie.Need-same-length

@@ -1,13 +1,12 @@
 -- `ptb_look_up`: a range above 1, or the call told outside. Assumes nothing.
-use native.Mathlib.Omega.{arith}
 use Rattle.pool.specs.State.{st}
 use Rattle.ptb.specs.Face.{look-up-no-range, look-up-told}
 use Rattle.ptb.proofs.ptb_look_up.Statement.{statement}
 use Rattle.ptb.proofs.ptb_look_up.Tie as tie
 use Rattle.ptb.proofs.ptb_look_up.Reads as reads
 use Rattle.ptb.proofs.ptb_look_up.Lts as lts
-use Rattle.ptb.proofs.answer.answer_looked.Reads as answer-looked-reads
-use Rattle.ptb.proofs.handle_of.Reads as handle-of-reads
+use Rattle.face.proofs.answer.answer_looked.Reads as answer-looked-reads
+use Rattle.face.proofs.handle.handle_of.Reads as handle-of-reads
 use Rattle.walk.proofs.look_up.look_up.Reads as look-up-reads
 
 -- src/lib.rt:98:9
@@ -16,15 +15,15 @@ returns c = let a = c .before .before .before .args in look-up-no-range (a .base
 
 -- src/lib.rt:100:9
 handle-of-requires : tie.Need-handle-of-requires
-handle-of-requires c κs = omega arith
+handle-of-requires c κs = tt
 
 -- src/lib.rt:101:9
 look-up-requires : tie.Need-look-up-requires
-look-up-requires c κs = omega arith
+look-up-requires c κs = tt
 
 -- src/lib.rt:102:5
 answer-looked-requires : tie.Need-answer-looked-requires
-answer-looked-requires c κs = omega arith
+answer-looked-requires c κs = tt
 
 -- src/lib.rt:85:1
 returns-2 : tie.Need-returns-2

@@ -7,8 +7,8 @@ use Rattle.ptb.proofs.ptb_make.Tie as tie
 use Rattle.ptb.proofs.ptb_make.Reads as reads
 use Rattle.ptb.proofs.ptb_make.Lts as lts
 use Rattle.pool.proofs.make.make.Reads as make-reads
-use Rattle.ptb.proofs.answer.answer_outcome.Reads as answer-outcome-reads
-use Rattle.ptb.proofs.handle_of.Reads as handle-of-reads
+use Rattle.face.proofs.answer.answer_outcome.Reads as answer-outcome-reads
+use Rattle.face.proofs.handle.handle_of.Reads as handle-of-reads
 
 -- src/lib.rt:53:9
 returns : tie.Need-returns
@@ -16,15 +16,15 @@ returns c = let a = c .before .before .before .args in make-no-range (a .base) (
 
 -- src/lib.rt:55:9
 handle-of-requires : tie.Need-handle-of-requires
-handle-of-requires c κs = omega arith
+handle-of-requires c κs = tt
 
 -- src/lib.rt:56:9
 make-requires : tie.Need-make-requires
-make-requires c κs = omega arith
+make-requires c κs = tt
 
 -- src/lib.rt:57:5
 answer-outcome-requires : tie.Need-answer-outcome-requires
-answer-outcome-requires c κs = omega arith
+answer-outcome-requires c κs = tt
 
 -- src/lib.rt:41:1
 same-length : tie.Need-same-length

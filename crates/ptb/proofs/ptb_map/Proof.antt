@@ -7,8 +7,8 @@ use Rattle.ptb.proofs.ptb_map.Tie as tie
 use Rattle.ptb.proofs.ptb_map.Reads as reads
 use Rattle.ptb.proofs.ptb_map.Lts as lts
 use Rattle.map.proofs.call.map.Reads as map-reads
-use Rattle.ptb.proofs.answer.answer_counted.Reads as answer-counted-reads
-use Rattle.ptb.proofs.handle_of.Reads as handle-of-reads
+use Rattle.face.proofs.answer.answer_counted.Reads as answer-counted-reads
+use Rattle.face.proofs.handle.handle_of.Reads as handle-of-reads
 
 -- src/lib.rt:146:9
 returns : tie.Need-returns
@@ -16,15 +16,15 @@ returns c = let a = c .before .before .before .args in map-no-range (a .base) (a
 
 -- src/lib.rt:148:9
 handle-of-requires : tie.Need-handle-of-requires
-handle-of-requires c κs = omega arith
+handle-of-requires c κs = tt
 
 -- src/lib.rt:149:9
 map-requires : tie.Need-map-requires
-map-requires c κs = omega arith
+map-requires c κs = tt
 
 -- src/lib.rt:159:5
 answer-counted-requires : tie.Need-answer-counted-requires
-answer-counted-requires c κs = omega arith
+answer-counted-requires c κs = tt
 
 -- src/lib.rt:129:1
 same-length : tie.Need-same-length

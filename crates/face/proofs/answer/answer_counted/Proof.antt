@@ -1,28 +1,27 @@
 -- `answer_counted` tells a count of tables outside. Assumes nothing.
-use native.Mathlib.Omega.{arith}
-use Rattle.ptb.specs.Answer.{toldCounted, accepted}
-use Rattle.ptb.proofs.answer.answer_counted.Statement.{statement}
-use Rattle.ptb.proofs.answer.answer_counted.Tie as tie
-use Rattle.ptb.proofs.answer.answer_counted.Reads as reads
-use Rattle.ptb.proofs.answer.answer_counted.Lts as lts
-use Rattle.ptb.proofs.answer.answer_refusal.Reads as answer-refusal-reads
-use Rattle.ptb.proofs.answer.one.Reads as one-reads
+use Rattle.face.specs.Answer.{toldCounted, accepted}
+use Rattle.face.proofs.answer.answer_counted.Statement.{statement}
+use Rattle.face.proofs.answer.answer_counted.Tie as tie
+use Rattle.face.proofs.answer.answer_counted.Reads as reads
+use Rattle.face.proofs.answer.answer_counted.Lts as lts
+use Rattle.face.proofs.answer.answer_refusal.Reads as answer-refusal-reads
+use Rattle.face.proofs.answer.one.Reads as one-reads
 
 -- src/answer.rt:73:25
 enum-known-counted : tie.Need-enum-known-counted
-enum-known-counted c = omega arith
+enum-known-counted c = c .match .keys1
 
 -- src/answer.rt:73:36
 one-requires : tie.Need-one-requires
-one-requires c κs = omega arith
+one-requires c κs = tt
 
 -- src/answer.rt:74:26
 enum-known-counted-2 : tie.Need-enum-known-counted-2
-enum-known-counted-2 c = omega arith
+enum-known-counted-2 c = c .match .keys2
 
 -- src/answer.rt:74:38
 answer-refusal-requires : tie.Need-answer-refusal-requires
-answer-refusal-requires c κs = omega arith
+answer-refusal-requires c κs = tt
 
 -- src/answer.rt:69:1
 returns : tie.Need-returns

@@ -1,44 +1,43 @@
 -- `answer_looked` tells what a walk answered outside. Assumes nothing.
-use native.Mathlib.Omega.{arith}
-use Rattle.ptb.specs.Answer.{toldLooked}
-use Rattle.ptb.proofs.answer.answer_looked.Statement.{statement}
-use Rattle.ptb.proofs.answer.answer_looked.Tie as tie
-use Rattle.ptb.proofs.answer.answer_looked.Reads as reads
-use Rattle.ptb.proofs.answer.answer_looked.Lts as lts
-use Rattle.ptb.proofs.answer.answer_refusal.Reads as answer-refusal-reads
-use Rattle.ptb.proofs.answer.four.Reads as four-reads
+use Rattle.face.specs.Answer.{toldLooked}
+use Rattle.face.proofs.answer.answer_looked.Statement.{statement}
+use Rattle.face.proofs.answer.answer_looked.Tie as tie
+use Rattle.face.proofs.answer.answer_looked.Reads as reads
+use Rattle.face.proofs.answer.answer_looked.Lts as lts
+use Rattle.face.proofs.answer.answer_refusal.Reads as answer-refusal-reads
+use Rattle.face.proofs.answer.four.Reads as four-reads
 
 -- src/answer.rt:83:22
 enum-known-looked : tie.Need-enum-known-looked
-enum-known-looked c = omega arith
+enum-known-looked c = c .match .keys1
 
 -- src/answer.rt:83:39
 four-requires : tie.Need-four-requires
-four-requires c κs = omega arith
+four-requires c κs = tt
 
 -- src/answer.rt:84:23
 enum-known-looked-2 : tie.Need-enum-known-looked-2
-enum-known-looked-2 c = omega arith
+enum-known-looked-2 c = c .match .keys2
 
 -- src/answer.rt:84:47
 four-requires-2 : tie.Need-four-requires-2
-four-requires-2 c κs = omega arith
+four-requires-2 c κs = tt
 
 -- src/answer.rt:85:22
 enum-known-looked-3 : tie.Need-enum-known-looked-3
-enum-known-looked-3 c = omega arith
+enum-known-looked-3 c = c .match .keys3
 
 -- src/answer.rt:85:46
 four-requires-3 : tie.Need-four-requires-3
-four-requires-3 c κs = omega arith
+four-requires-3 c κs = tt
 
 -- src/answer.rt:86:25
 enum-known-looked-4 : tie.Need-enum-known-looked-4
-enum-known-looked-4 c = omega arith
+enum-known-looked-4 c = c .match .keys4
 
 -- src/answer.rt:86:37
 answer-refusal-requires : tie.Need-answer-refusal-requires
-answer-refusal-requires c κs = omega arith
+answer-refusal-requires c κs = tt
 
 -- src/answer.rt:79:1
 returns : tie.Need-returns

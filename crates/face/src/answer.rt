@@ -7,7 +7,7 @@ use pool::Refusal;
 use walk::Looked;
 ghost use mathlib.Core.Path.{_≡_};
 ghost use mathlib.Core.List.{[], _∷_};
-ghost use Rattle.ptb.specs.Answer.{slip, over, accepted, refused, told, toldCounted, toldLooked, toldListed, toldModified};
+ghost use Rattle.face.specs.Answer.{slip, over, accepted, refused, told, toldCounted, toldLooked, toldListed, toldModified};
 
 // One value.
 fn one(number: u64, first: u64, answer: &mut [u64; 4]) -> u64

@@ -1,23 +1,22 @@
 -- `answer_outcome` tells an outcome outside. Assumes nothing.
-use native.Mathlib.Omega.{arith}
-use Rattle.ptb.specs.Answer.{told, accepted, over}
-use Rattle.ptb.proofs.answer.answer_outcome.Statement.{statement}
-use Rattle.ptb.proofs.answer.answer_outcome.Tie as tie
-use Rattle.ptb.proofs.answer.answer_outcome.Reads as reads
-use Rattle.ptb.proofs.answer.answer_outcome.Lts as lts
-use Rattle.ptb.proofs.answer.answer_refusal.Reads as answer-refusal-reads
+use Rattle.face.specs.Answer.{told, accepted, over}
+use Rattle.face.proofs.answer.answer_outcome.Statement.{statement}
+use Rattle.face.proofs.answer.answer_outcome.Tie as tie
+use Rattle.face.proofs.answer.answer_outcome.Reads as reads
+use Rattle.face.proofs.answer.answer_outcome.Lts as lts
+use Rattle.face.proofs.answer.answer_refusal.Reads as answer-refusal-reads
 
 -- src/answer.rt:49:30
 enum-told : tie.Need-enum-told
-enum-told c = omega arith
+enum-told c = c .match .keys1
 
 -- src/answer.rt:50:26
 enum-known-outcome : tie.Need-enum-known-outcome
-enum-known-outcome c = omega arith
+enum-known-outcome c = c .match .keys2
 
 -- src/answer.rt:50:38
 answer-refusal-requires : tie.Need-answer-refusal-requires
-answer-refusal-requires c κs = omega arith
+answer-refusal-requires c κs = tt
 
 -- src/answer.rt:45:1
 returns : tie.Need-returns

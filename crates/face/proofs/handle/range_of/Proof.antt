@@ -1,10 +1,10 @@
 -- `range_of` reads the number of a range. Assumes nothing.
 use borrow.Author.Tests.{eq-eqb, ne-eqb}
-use Rattle.ptb.specs.Face.{rangeOf}
-use Rattle.ptb.proofs.range_of.Statement.{statement}
-use Rattle.ptb.proofs.range_of.Tie as tie
-use Rattle.ptb.proofs.range_of.Reads as reads
-use Rattle.ptb.proofs.range_of.Lts as lts
+use Rattle.face.specs.Handle.{rangeOf}
+use Rattle.face.proofs.handle.range_of.Statement.{statement}
+use Rattle.face.proofs.handle.range_of.Tie as tie
+use Rattle.face.proofs.handle.range_of.Reads as reads
+use Rattle.face.proofs.handle.range_of.Lts as lts
 
 -- src/lib.rt:19:1
 returns : tie.Need-returns

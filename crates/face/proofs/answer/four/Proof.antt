@@ -1,11 +1,11 @@
 -- `four` stores four values over the whole of `answer`. Assumes nothing.
 use native.Mathlib.Omega.{arith}
 use mathlib.Core.Path.{ap}
-use Rattle.ptb.specs.Answer.{slip, accepted, over-four}
-use Rattle.ptb.proofs.answer.four.Statement.{statement}
-use Rattle.ptb.proofs.answer.four.Tie as tie
-use Rattle.ptb.proofs.answer.four.Reads as reads
-use Rattle.ptb.proofs.answer.four.Lts as lts
+use Rattle.face.specs.Answer.{slip, accepted, over-four}
+use Rattle.face.proofs.answer.four.Statement.{statement}
+use Rattle.face.proofs.answer.four.Tie as tie
+use Rattle.face.proofs.answer.four.Reads as reads
+use Rattle.face.proofs.answer.four.Lts as lts
 
 -- src/answer.rt:32:5
 element-write-answer : tie.Need-element-write-answer

@@ -1,11 +1,11 @@
 -- `one` stores a value over the front of `answer`. Assumes nothing.
 use native.Mathlib.Omega.{arith}
 use mathlib.Core.Path.{ap}
-use Rattle.ptb.specs.Answer.{slip, over-one}
-use Rattle.ptb.proofs.answer.one.Statement.{statement}
-use Rattle.ptb.proofs.answer.one.Tie as tie
-use Rattle.ptb.proofs.answer.one.Reads as reads
-use Rattle.ptb.proofs.answer.one.Lts as lts
+use Rattle.face.specs.Answer.{slip, over-one}
+use Rattle.face.proofs.answer.one.Statement.{statement}
+use Rattle.face.proofs.answer.one.Tie as tie
+use Rattle.face.proofs.answer.one.Reads as reads
+use Rattle.face.proofs.answer.one.Lts as lts
 
 -- src/answer.rt:12:5
 element-write-answer : tie.Need-element-write-answer

@@ -1,92 +1,91 @@
 -- `answer_refusal` gives each refusal's number and stores what it carries, arm by arm. Assumes nothing.
-use native.Mathlib.Omega.{arith}
-use Rattle.ptb.specs.Answer.{refused, over}
-use Rattle.ptb.proofs.answer.answer_refusal.Statement.{statement}
-use Rattle.ptb.proofs.answer.answer_refusal.Tie as tie
-use Rattle.ptb.proofs.answer.answer_refusal.Reads as reads
-use Rattle.ptb.proofs.answer.answer_refusal.Lts as lts
-use Rattle.ptb.proofs.answer.one.Reads as one-reads
-use Rattle.ptb.proofs.answer.two.Reads as two-reads
+use Rattle.face.specs.Answer.{refused, over}
+use Rattle.face.proofs.answer.answer_refusal.Statement.{statement}
+use Rattle.face.proofs.answer.answer_refusal.Tie as tie
+use Rattle.face.proofs.answer.answer_refusal.Reads as reads
+use Rattle.face.proofs.answer.answer_refusal.Lts as lts
+use Rattle.face.proofs.answer.one.Reads as one-reads
+use Rattle.face.proofs.answer.two.Reads as two-reads
 
 -- src/answer.rt:30:27
 enum-told : tie.Need-enum-told
-enum-told c = omega arith
+enum-told c = c .match .keys1
 
 -- src/answer.rt:31:22
 enum-known-refusal : tie.Need-enum-known-refusal
-enum-known-refusal c = omega arith
+enum-known-refusal c = c .match .keys2
 
 -- src/answer.rt:31:30
 one-requires : tie.Need-one-requires
-one-requires c κs = omega arith
+one-requires c κs = tt
 
 -- src/answer.rt:32:31
 enum-known-refusal-2 : tie.Need-enum-known-refusal-2
-enum-known-refusal-2 c = omega arith
+enum-known-refusal-2 c = c .match .keys3
 
 -- src/answer.rt:32:41
 one-requires-2 : tie.Need-one-requires-2
-one-requires-2 c κs = omega arith
+one-requires-2 c κs = tt
 
 -- src/answer.rt:33:26
 enum-known-refusal-3 : tie.Need-enum-known-refusal-3
-enum-known-refusal-3 c = omega arith
+enum-known-refusal-3 c = c .match .keys4
 
 -- src/answer.rt:33:36
 one-requires-3 : tie.Need-one-requires-3
-one-requires-3 c κs = omega arith
+one-requires-3 c κs = tt
 
 -- src/answer.rt:34:34
 enum-known-refusal-4 : tie.Need-enum-known-refusal-4
-enum-known-refusal-4 c = omega arith
+enum-known-refusal-4 c = c .match .keys5
 
 -- src/answer.rt:34:45
 two-requires : tie.Need-two-requires
-two-requires c κs = omega arith
+two-requires c κs = tt
 
 -- src/answer.rt:35:31
 enum-known-refusal-5 : tie.Need-enum-known-refusal-5
-enum-known-refusal-5 c = omega arith
+enum-known-refusal-5 c = c .match .keys6
 
 -- src/answer.rt:35:43
 one-requires-4 : tie.Need-one-requires-4
-one-requires-4 c κs = omega arith
+one-requires-4 c κs = tt
 
 -- src/answer.rt:36:24
 enum-known-refusal-6 : tie.Need-enum-known-refusal-6
-enum-known-refusal-6 c = omega arith
+enum-known-refusal-6 c = c .match .keys7
 
 -- src/answer.rt:36:34
 one-requires-5 : tie.Need-one-requires-5
-one-requires-5 c κs = omega arith
+one-requires-5 c κs = tt
 
 -- src/answer.rt:37:29
 enum-told-2 : tie.Need-enum-told-2
-enum-told-2 c = omega arith
+enum-told-2 c = c .match .keys8
 
 -- src/answer.rt:38:29
 enum-known-refusal-7 : tie.Need-enum-known-refusal-7
-enum-known-refusal-7 c = omega arith
+enum-known-refusal-7 c = c .match .keys9
 
 -- src/answer.rt:38:46
 two-requires-2 : tie.Need-two-requires-2
-two-requires-2 c κs = omega arith
+two-requires-2 c κs = tt
 
 -- src/answer.rt:39:28
 enum-known-refusal-8 : tie.Need-enum-known-refusal-8
-enum-known-refusal-8 c = omega arith
+enum-known-refusal-8 c = c .match .keys10
 
 -- src/answer.rt:39:37
 one-requires-6 : tie.Need-one-requires-6
-one-requires-6 c κs = omega arith
+one-requires-6 c κs = tt
 
 -- src/answer.rt:40:24
 enum-known-refusal-9 : tie.Need-enum-known-refusal-9
-enum-known-refusal-9 c = omega arith
+enum-known-refusal-9 c = c .match .keys11
 
 -- src/answer.rt:40:35
 one-requires-7 : tie.Need-one-requires-7
-one-requires-7 c κs = omega arith
+one-requires-7 c κs = tt
 
 -- src/answer.rt:26:1
 returns : tie.Need-returns

@@ -1,12 +1,12 @@
 -- `answer_modified` tells the tables in use and, live, a count of numbers outside. Assumes nothing.
-use Rattle.ptb.specs.Answer.{toldModified, accepted}
-use Rattle.ptb.proofs.answer.answer_modified.Statement.{statement}
-use Rattle.ptb.proofs.answer.answer_modified.Tie as tie
-use Rattle.ptb.proofs.answer.answer_modified.Reads as reads
-use Rattle.ptb.proofs.answer.answer_modified.Lts as lts
-use Rattle.ptb.proofs.answer.answer_refusal.Reads as answer-refusal-reads
-use Rattle.ptb.proofs.answer.one.Reads as one-reads
-use Rattle.ptb.proofs.answer.two.Reads as two-reads
+use Rattle.face.specs.Answer.{toldModified, accepted}
+use Rattle.face.proofs.answer.answer_modified.Statement.{statement}
+use Rattle.face.proofs.answer.answer_modified.Tie as tie
+use Rattle.face.proofs.answer.answer_modified.Reads as reads
+use Rattle.face.proofs.answer.answer_modified.Lts as lts
+use Rattle.face.proofs.answer.answer_refusal.Reads as answer-refusal-reads
+use Rattle.face.proofs.answer.one.Reads as one-reads
+use Rattle.face.proofs.answer.two.Reads as two-reads
 
 -- src/answer.rt:106:26
 enum-known-modified : tie.Need-enum-known-modified

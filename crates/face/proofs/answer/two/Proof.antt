@@ -1,11 +1,11 @@
 -- `two` stores two values over the front of `answer`. Assumes nothing.
 use native.Mathlib.Omega.{arith}
 use mathlib.Core.Path.{ap}
-use Rattle.ptb.specs.Answer.{slip, over-two}
-use Rattle.ptb.proofs.answer.two.Statement.{statement}
-use Rattle.ptb.proofs.answer.two.Tie as tie
-use Rattle.ptb.proofs.answer.two.Reads as reads
-use Rattle.ptb.proofs.answer.two.Lts as lts
+use Rattle.face.specs.Answer.{slip, over-two}
+use Rattle.face.proofs.answer.two.Statement.{statement}
+use Rattle.face.proofs.answer.two.Tie as tie
+use Rattle.face.proofs.answer.two.Reads as reads
+use Rattle.face.proofs.answer.two.Lts as lts
 
 -- src/answer.rt:20:5
 element-write-answer : tie.Need-element-write-answer

@@ -1,28 +1,27 @@
 -- `answer_listed` tells a count of lines outside. Assumes nothing.
-use native.Mathlib.Omega.{arith}
-use Rattle.ptb.specs.Answer.{toldListed, accepted}
-use Rattle.ptb.proofs.answer.answer_listed.Statement.{statement}
-use Rattle.ptb.proofs.answer.answer_listed.Tie as tie
-use Rattle.ptb.proofs.answer.answer_listed.Reads as reads
-use Rattle.ptb.proofs.answer.answer_listed.Lts as lts
-use Rattle.ptb.proofs.answer.answer_refusal.Reads as answer-refusal-reads
-use Rattle.ptb.proofs.answer.one.Reads as one-reads
+use Rattle.face.specs.Answer.{toldListed, accepted}
+use Rattle.face.proofs.answer.answer_listed.Statement.{statement}
+use Rattle.face.proofs.answer.answer_listed.Tie as tie
+use Rattle.face.proofs.answer.answer_listed.Reads as reads
+use Rattle.face.proofs.answer.answer_listed.Lts as lts
+use Rattle.face.proofs.answer.answer_refusal.Reads as answer-refusal-reads
+use Rattle.face.proofs.answer.one.Reads as one-reads
 
 -- src/answer.rt:95:23
 enum-known-listed : tie.Need-enum-known-listed
-enum-known-listed c = omega arith
+enum-known-listed c = c .match .keys1
 
 -- src/answer.rt:95:33
 one-requires : tie.Need-one-requires
-one-requires c κs = omega arith
+one-requires c κs = tt
 
 -- src/answer.rt:96:25
 enum-known-listed-2 : tie.Need-enum-known-listed-2
-enum-known-listed-2 c = omega arith
+enum-known-listed-2 c = c .match .keys2
 
 -- src/answer.rt:96:37
 answer-refusal-requires : tie.Need-answer-refusal-requires
-answer-refusal-requires c κs = omega arith
+answer-refusal-requires c κs = tt
 
 -- src/answer.rt:91:1
 returns : tie.Need-returns

@@ -1,0 +1,17 @@
+-- `handle_of` makes a handle of three numbers. Assumes nothing.
+use Rattle.face.proofs.handle.handle_of.Statement.{statement}
+use Rattle.face.proofs.handle.handle_of.Tie as tie
+use Rattle.face.proofs.handle.handle_of.Reads as reads
+use Rattle.face.proofs.handle.handle_of.Lts as lts
+use Rattle.face.proofs.handle.range_of.Reads as range-of-reads
+
+-- src/lib.rt:36:16
+range-of-requires : tie.Need-range-of-requires
+range-of-requires c κs = tt
+
+-- src/lib.rt:30:1
+returns : tie.Need-returns
+returns c = rw (c .range-of .ensures)
+
+pub handle-of-spec : {M : Type 1} → statement M
+handle-of-spec = tie.close (tie.spec range-of-requires returns)

@@ -16,9 +16,10 @@ use Rattle.pool.specs.State.{St, tables, numberAt}
 use Rattle.pool.specs.Number.{rootNumber, parentOf, used}
 use Rattle.pool.specs.Refuse.{Shaped}
 use Rattle.pool.specs.Sound.{namesb, hangsb, tableb, linkb, slotb, soundb}
+use Rattle.scan.specs.Answer.{count-most}
 use Rattle.checker.specs.Stream.{runPasses, tablePasses, tableLinks, streamb}
 use Rattle.checker.specs.Row.{wordIn, linkIn, passIn, used-sum, all-links, runs-to, runs-of}
-use Rattle.checker.specs.Named.{slot-passes, slot-links, slot-of, count-most, count-one, used-in, Named, place, names-to, named-in, Hangs, hangs-to, links-to, links-of, namedAt, named-yes, named-says, named-no}
+use Rattle.checker.specs.Named.{slot-passes, slot-links, slot-of, count-one, used-in, Named, place, names-to, named-in, Hangs, hangs-to, links-to, links-of, namedAt, named-yes, named-says, named-no}
 use Rattle.pool.specs.declared.Handle.{Handle}
 
 -- ---- the table words counted

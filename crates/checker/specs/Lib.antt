@@ -1,6 +1,5 @@
 -- The pool check: the soundness test as it is run, and that it is the soundness test.
 pub mod Stream
-pub mod Mask
 pub mod Row
 pub mod Named
 pub mod Counted

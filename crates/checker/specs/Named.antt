@@ -14,7 +14,7 @@ use Rattle.entry.specs.Word.{addressOf, linkOf}
 use Rattle.pool.specs.State.{St, tables, wordAt, numberAt}
 use Rattle.pool.specs.Number.{Names, levelOf, parentOf, slotOf}
 use Rattle.pool.specs.Sound.{flagSet, leafb, namesb, hangsb, linkb, refersb, slotb}
-use Rattle.checker.specs.Stream.{passesb, linkCount}
+use Rattle.scan.specs.Words.{passesb, linkCount}
 use Rattle.pool.specs.declared.Handle.{Handle}
 
 -- ---- a slot's test is the test of a run's word, and that a table word is a link
@@ -51,16 +51,7 @@ module _ (h : Handle) (s : St) (k i w : ℕ) where
       go false true t f = f (omega arith)
       go false false t f = t
 
--- a word counts for 1 at most, and does where it is a table word of a used table
-pub count-most : (y w : ℕ) → linkCount y w ≤ 1
-unfolding linkCount
-count-most y w = go (eqb y 0) (refersb y w)
-  where
-    go : (a b : Bool) → cond a 0 (cond b 1 0) ≤ 1
-    go true b = omega arith
-    go false true = omega arith
-    go false false = omega arith
-
+-- a word counts for 1 where it is a table word of a used table
 pub count-one : (y w : ℕ) → 0 < y → levelOf y < 3 → w % 4 ≡ 3 → linkCount y w ≡ 1
 unfolding linkCount refersb
 count-one y w u l e = rw (ne-eqb y 0 (λ z. omega arith), lt-ltb (levelOf y) 3 l, eq-eqb (w % 4) 3 e)

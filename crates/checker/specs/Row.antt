@@ -15,7 +15,8 @@ use Rattle.laws.specs.Test.{and-l, and-r, and-i, allBelow, all-to, all-of}
 use Rattle.pool.specs.State.{St, tables, numberAt}
 use Rattle.pool.specs.Number.{used}
 use Rattle.pool.specs.Sound.{flagSet}
-use Rattle.checker.specs.Stream.{passesb, passAll, linkCount, countAll, runWords, runPasses, runLinks, tableLinks}
+use Rattle.scan.specs.Words.{passesb, passAll, linkCount, countAll}
+use Rattle.checker.specs.Stream.{runWords, runPasses, runLinks, tableLinks}
 use Rattle.pool.specs.declared.Handle.{Handle}
 
 -- ---- a run of words, index by index

@@ -1,4 +1,4 @@
--- Laws that the check's loops cite: one for each way through a run, a table, and all tables. Leans on `Stream`. Assumes nothing.
+-- Laws that the check's loops cite: one for each way through a table and all tables. Leans on `Stream`. Assumes nothing.
 use mathlib.Core.Path.{_≡_, refl, sym, ap, _∙_}
 use mathlib.Core.Bool.{Bool, true, false, cond, _&&_}
 use mathlib.Core.List.{List, [], _∷_}
@@ -13,35 +13,12 @@ use Rattle.pool.specs.State.{St, tables, numberAt}
 use Rattle.pool.specs.Number.{used}
 use Rattle.pool.specs.Refuse.{Shaped}
 use Rattle.pool.specs.Sound.{tableb, soundb}
-use Rattle.checker.specs.Stream.{passAll, countAll, runOf, runWords, runPasses, runLinks, tablePasses, tableLinks, tablesRun, streamb}
-use Rattle.checker.specs.Named.{count-most}
+use Rattle.scan.specs.Answer.{count-below, passed-says, failed-says}
+use Rattle.checker.specs.Stream.{runWords, runPasses, runLinks, tablePasses, tableLinks, tablesRun, streamb}
 use Rattle.checker.specs.Counted.{stream-sound}
 use Rattle.pool.specs.declared.Handle.{Handle}
-use Rattle.checker.specs.declared.Run.{Run}
-use Rattle.checker.specs.declared.Run.the-variants.{Passed, Failed}
-
-pub count-below : (y : ℕ) (ws : List ℕ) → countAll y ws ≤ length ws
-unfolding countAll
-count-below y [] = omega arith
-count-below y (w ∷ ws) = let a = count-most y w in let r = count-below y ws in omega arith
-
--- what a run's answer says of its test
-passed-says : (b : Bool) (x y : ℕ) → Passed y ≡ cond b (Passed x) Failed → (b ≡ true) × (y ≡ x)
-passed-says true x y e = (refl, cc)
-passed-says false x y e = let z : _≡_ {A = ℕ} 0 1 = cc in absurd (omega arith)
-
-failed-says : (b : Bool) (x : ℕ) → Failed ≡ cond b (Passed x) Failed → b ≡ false
-failed-says true x e = let z : _≡_ {A = ℕ} 0 1 = cc in absurd (omega arith)
-failed-says false x e = refl
-
-module _ (set y : ℕ) (ws : List ℕ) {r : Run} (is : r ≡ runOf set y ws) where
-  pub run-passed : (count : ℕ) → r ≡ Passed count → (passAll set y ws ≡ true) × (count ≡ countAll y ws)
-  unfolding runOf
-  run-passed count e = passed-says (passAll set y ws) (countAll y ws) count (sym e ∙ is)
-
-  pub run-failed : r ≡ Failed → passAll set y ws ≡ false
-  unfolding runOf
-  run-failed e = failed-says (passAll set y ws) (countAll y ws) (sym e ∙ is)
+use Rattle.scan.specs.declared.Run.{Run}
+use Rattle.scan.specs.declared.Run.the-variants.{Passed, Failed}
 
 pub tables-passed : (h : Handle) (s : St) (links : ℕ) → T (allBelow (tables s) (tablePasses h s)) → links ≡ sum (tables s) (tableLinks s) → Passed links ≡ tablesRun h s
 unfolding tablesRun

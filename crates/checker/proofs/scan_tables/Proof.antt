@@ -10,15 +10,17 @@ use Rattle.laws.specs.Test.{allBelow, all-none, all-more}
 use Rattle.pool.specs.State.{st, tables, numberAt}
 use Rattle.pool.specs.Refuse.{maxTables}
 use Rattle.pool.specs.Sound.{flagSet}
-use Rattle.checker.specs.Stream.{runOf, runWords, runPasses, runLinks, tablePasses, tableLinks}
-use Rattle.checker.specs.Mask.{PlainSet, el1-plain}
-use Rattle.checker.specs.Scan.{count-below, run-passed, run-failed, tables-passed, tables-failed, number-fails, run-fails, table-passes}
+use Rattle.checker.specs.Stream.{runWords, runPasses, runLinks, tablePasses, tableLinks}
+use Rattle.scan.specs.Words.{runOf}
+use Rattle.scan.specs.Mask.{PlainSet, el1-plain}
+use Rattle.scan.specs.Answer.{count-below, run-passed, run-failed}
+use Rattle.checker.specs.Scan.{tables-passed, tables-failed, number-fails, run-fails, table-passes}
 use Rattle.checker.proofs.scan_tables.Statement.{statement}
 use Rattle.checker.proofs.scan_tables.Tie as tie
 use Rattle.checker.proofs.scan_tables.Reads as reads
 use Rattle.checker.proofs.scan_tables.Lts as lts
 use Rattle.pool.proofs.shape.flag_set.Reads as flag-set-reads
-use Rattle.checker.proofs.scan.Reads as scan-reads
+use Rattle.scan.proofs.scan.Reads as scan-reads
 use Rattle.checker.proofs.table_holds.Reads as table-holds-reads
 
 abbrev Inv-loop : tie.InvT-loop

@@ -7,13 +7,13 @@ use lib.Seq.{take-all}
 use lib.Bits.{bitAnd, bitOr}
 use borrow.Author.Tests.{eq-eqb, ne-eqb}
 use Rattle.entry.specs.Word.{only}
-use Rattle.checker.specs.declared.Run.the-variants.{Passed}
-use Rattle.checker.specs.Stream.{linksRun, leaves, links as linksIn}
-use Rattle.checker.specs.Mask.{leaves-none, links-none, leaves-table, leaves-leaf, links-table, links-leaf}
-use Rattle.checker.proofs.scan_links.Statement.{statement}
-use Rattle.checker.proofs.scan_links.Tie as tie
-use Rattle.checker.proofs.scan_links.Reads as reads
-use Rattle.checker.proofs.scan_links.Lts as lts
+use Rattle.scan.specs.declared.Run.the-variants.{Passed}
+use Rattle.scan.specs.Words.{linksRun, leaves, links as linksIn}
+use Rattle.scan.specs.Mask.{leaves-none, links-none, leaves-table, leaves-leaf, links-table, links-leaf}
+use Rattle.scan.proofs.scan_links.Statement.{statement}
+use Rattle.scan.proofs.scan_links.Tie as tie
+use Rattle.scan.proofs.scan_links.Reads as reads
+use Rattle.scan.proofs.scan_links.Lts as lts
 
 abbrev Inv-loop : tie.InvT-loop
 Inv-loop run allowed any₀ links₀ i₀ any links i = (i ≤ length run) × (links ≤ i) × (any ≡ leaves (take i run)) × (links ≡ linksIn (take i run))

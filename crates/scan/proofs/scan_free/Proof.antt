@@ -5,12 +5,12 @@ use lib.ListN.{length, getD, take}
 use lib.Seq.{take-all}
 use lib.Bits.{bitOr}
 use borrow.Author.Tests.{eq-eqb, ne-eqb}
-use Rattle.checker.specs.Stream.{freeRun, union}
-use Rattle.checker.specs.Mask.{union-none, union-more}
-use Rattle.checker.proofs.scan_free.Statement.{statement}
-use Rattle.checker.proofs.scan_free.Tie as tie
-use Rattle.checker.proofs.scan_free.Reads as reads
-use Rattle.checker.proofs.scan_free.Lts as lts
+use Rattle.scan.specs.Words.{freeRun, union}
+use Rattle.scan.specs.Mask.{union-none, union-more}
+use Rattle.scan.proofs.scan_free.Statement.{statement}
+use Rattle.scan.proofs.scan_free.Tie as tie
+use Rattle.scan.proofs.scan_free.Reads as reads
+use Rattle.scan.proofs.scan_free.Lts as lts
 
 abbrev Inv-loop : tie.InvT-loop
 Inv-loop run any₀ i₀ any i = (i ≤ length run) × (any ≡ union (take i run))

@@ -1,5 +1,5 @@
 -- A run of words judged by unions: one word against the bits that its level allows, unions of words, and from them a whole run.
--- Leans on `Stream`. Assumes nothing.
+-- Leans on `Words`. Assumes nothing.
 use mathlib.Core.Path.{_≡_, refl, sym, ap, ap₂, _∙_}
 use mathlib.Core.Bool.{Bool, true, false, not, cond, _&&_}
 use mathlib.Core.List.{List, [], _∷_}
@@ -20,8 +20,8 @@ use Rattle.laws.specs.Test.{eqb-cases, same-test, and-l, and-r, and-i, eq→eqb
 use Rattle.entry.specs.Word.{addressOf, only, el1Flags}
 use Rattle.pool.specs.Number.{levelOf}
 use Rattle.pool.specs.Sound.{plainFlags, fits, leafb, refersb}
-use Rattle.checker.specs.Stream.{passesb, passAll, linkCount, countAll, runOf, allowedAt, union, strays, leaves, links}
-use Rattle.checker.specs.declared.Run.the-variants.{Passed, Failed}
+use Rattle.scan.specs.Words.{passesb, passAll, linkCount, countAll, runOf, allowedAt, union, strays, leaves, links}
+use Rattle.scan.specs.declared.Run.the-variants.{Passed, Failed}
 
 -- ---- flag sets
 

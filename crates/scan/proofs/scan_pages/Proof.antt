@@ -6,12 +6,12 @@ use lib.Seq.{take-all}
 use lib.Bits.{bitAnd, bitOr}
 use borrow.Author.Tests.{eq-eqb, ne-eqb}
 use Rattle.entry.specs.Word.{only}
-use Rattle.checker.specs.Stream.{pagesRun, union, strays}
-use Rattle.checker.specs.Mask.{union-none, union-more, strays-none, strays-more}
-use Rattle.checker.proofs.scan_pages.Statement.{statement}
-use Rattle.checker.proofs.scan_pages.Tie as tie
-use Rattle.checker.proofs.scan_pages.Reads as reads
-use Rattle.checker.proofs.scan_pages.Lts as lts
+use Rattle.scan.specs.Words.{pagesRun, union, strays}
+use Rattle.scan.specs.Mask.{union-none, union-more, strays-none, strays-more}
+use Rattle.scan.proofs.scan_pages.Statement.{statement}
+use Rattle.scan.proofs.scan_pages.Tie as tie
+use Rattle.scan.proofs.scan_pages.Reads as reads
+use Rattle.scan.proofs.scan_pages.Lts as lts
 
 abbrev Inv-loop : tie.InvT-loop
 Inv-loop run allowed any₀ stray₀ i₀ any stray i = (i ≤ length run) × (any ≡ union (take i run)) × (stray ≡ strays (take i run))

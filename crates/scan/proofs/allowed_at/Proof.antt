@@ -2,11 +2,11 @@ use native.Mathlib.Omega.{arith}
 use mathlib.Core.Path.{_≡_, refl, sym, ap}
 use Prim.Native.Nat.{ℕ, zero, suc, _+_, _-_, _^_}
 use Rattle.laws.specs.Size.{sizeAt}
-use Rattle.checker.specs.Stream.{allowedAt}
-use Rattle.checker.proofs.allowed_at.Statement.{statement}
-use Rattle.checker.proofs.allowed_at.Tie as tie
-use Rattle.checker.proofs.allowed_at.Reads as reads
-use Rattle.checker.proofs.allowed_at.Lts as lts
+use Rattle.scan.specs.Words.{allowedAt}
+use Rattle.scan.proofs.allowed_at.Statement.{statement}
+use Rattle.scan.proofs.allowed_at.Tie as tie
+use Rattle.scan.proofs.allowed_at.Reads as reads
+use Rattle.scan.proofs.allowed_at.Lts as lts
 
 -- from level 3 on
 high : (set level : ℕ) → (level ≡ 0 → ⊥) → (level ≡ 1 → ⊥) → (level ≡ 2 → ⊥) → set + (2 ^ 48 - 2 ^ 12) + 2 ≡ allowedAt set level

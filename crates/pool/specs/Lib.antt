@@ -3,5 +3,4 @@ pub mod State
 pub mod Number
 pub mod Refuse
 pub mod Sound
-pub mod Image
-pub mod Calls
+pub mod Make

@@ -1,5 +1,4 @@
 // The pool: 512 words for each table, and a ledger number for each table (document 01, "Pool and ledger").
-pub mod image;
 pub mod ledger;
 pub mod make;
 pub mod shape;

@@ -7,7 +7,7 @@ use crate::zero;
 ghost use mathlib.Core.Path.{_≡_};
 ghost use Rattle.pool.specs.State.{st};
 ghost use Rattle.pool.specs.Refuse.{out};
-ghost use Rattle.pool.specs.Calls.{makeCall};
+ghost use Rattle.pool.specs.Make.{makeCall};
 
 // Zeroes all words and the ledger, then enters the root as table 0.
 pub fn make(words: &mut [u64], ledger: &mut [u32], handle: Handle) -> Outcome

@@ -8,7 +8,8 @@ use lib.Dec.{eqb, leb}
 use borrow.Author.Tests.{le-leb, lt-leb}
 use Rattle.pool.specs.State.{St}
 use Rattle.pool.specs.Refuse.{Out, out}
-use Rattle.pool.specs.Calls.{makeCall, imageCall, Imaged, imaged}
+use Rattle.pool.specs.Make.{makeCall}
+use Rattle.image.specs.Call.{imageCall, Imaged, imaged}
 use Rattle.pool.specs.declared.Handle.{Handle}
 use Rattle.pool.specs.declared.Refusal.the-variants.{Shape}
 use Rattle.pool.specs.declared.Outcome.{Outcome}

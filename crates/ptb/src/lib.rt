@@ -5,7 +5,6 @@ use face::answer;
 use face::handle;
 use map::Constraints;
 use map::call;
-use pool::image;
 use pool::make;
 use walk::look_up;
 ghost use mathlib.Core.Path.{_≡_};

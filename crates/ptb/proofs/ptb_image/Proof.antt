@@ -6,7 +6,7 @@ use Rattle.ptb.proofs.ptb_image.Statement.{statement}
 use Rattle.ptb.proofs.ptb_image.Tie as tie
 use Rattle.ptb.proofs.ptb_image.Reads as reads
 use Rattle.ptb.proofs.ptb_image.Lts as lts
-use Rattle.pool.proofs.image.page_image.Reads as page-image-reads
+use Rattle.image.proofs.page_image.Reads as page-image-reads
 use Rattle.face.proofs.answer.answer_outcome.Reads as answer-outcome-reads
 use Rattle.face.proofs.handle.handle_of.Reads as handle-of-reads
 

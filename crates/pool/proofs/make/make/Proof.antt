@@ -9,7 +9,7 @@ use borrow.Author.Tests.{not-true, not-false}
 use Rattle.pool.specs.State.{st}
 use Rattle.pool.specs.Number.{rootNumber}
 use Rattle.pool.specs.Refuse.{Shaped, shaped-says, out}
-use Rattle.pool.specs.Calls.{fresh, make-refused, make-accepted}
+use Rattle.pool.specs.Make.{fresh, make-refused, make-accepted}
 use Rattle.pool.specs.declared.Outcome.the-variants.{Accepted}
 use borrow.Author.Needs.{needs}
 use Rattle.pool.proofs.make.make.Statement.{statement}

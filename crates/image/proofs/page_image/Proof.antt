@@ -4,17 +4,17 @@ use Prim.Native.Nat.{ℕ, _+_, _*_, _-_}
 use native.Mathlib.Omega.{arith}
 use borrow.Author.Tests.{not-true, not-false}
 use Rattle.laws.specs.Part.{partOf}
 use Rattle.pool.specs.State.{st}
 use Rattle.pool.specs.Refuse.{shaped, Shaped, shaped-says}
-use Rattle.pool.specs.Image.{imageOf}
-use Rattle.pool.specs.Calls.{imaged, image-misshaped, image-no-table, image-short, image-written}
+use Rattle.image.specs.Image.{imageOf}
+use Rattle.image.specs.Call.{imaged, image-misshaped, image-no-table, image-short, image-written}
 use Rattle.pool.specs.declared.Outcome.the-variants.{Accepted}
-use Rattle.pool.proofs.image.page_image.Statement.{statement}
-use Rattle.pool.proofs.image.page_image.Tie as tie
-use Rattle.pool.proofs.image.page_image.Reads as reads
-use Rattle.pool.proofs.image.page_image.Lts as lts
-use Rattle.pool.proofs.image.write_to.Reads as write-to-reads
+use Rattle.image.proofs.page_image.Statement.{statement}
+use Rattle.image.proofs.page_image.Tie as tie
+use Rattle.image.proofs.page_image.Reads as reads
+use Rattle.image.proofs.page_image.Lts as lts
+use Rattle.image.proofs.write_to.Reads as write-to-reads
 use Rattle.pool.proofs.shape.is_shaped.Reads as is-shaped-reads
 
 -- past the first test the shape is known
 good : (c : tie.Else1) → let a = c .before .before .before .before .before .args in shaped (a .handle) (st (a .words .now) (a .ledger .now)) ≡ true

@@ -4,11 +4,11 @@ use Prim.Native.Nat.{ℕ, _/_, _%_, _-_, _≤_}
 use native.Mathlib.Omega.{arith}
 use lib.ListN.{length, set, take, drop, length-set}
 use Rattle.laws.specs.Part.{write-more, write-all}
-use Rattle.pool.specs.Image.{bytesOf, length-bytes, bytes-at, divided, divided-more}
-use Rattle.pool.proofs.image.put_word.Statement.{statement}
-use Rattle.pool.proofs.image.put_word.Tie as tie
-use Rattle.pool.proofs.image.put_word.Reads as reads
-use Rattle.pool.proofs.image.put_word.Lts as lts
+use Rattle.image.specs.Image.{bytesOf, length-bytes, bytes-at, divided, divided-more}
+use Rattle.image.proofs.put_word.Statement.{statement}
+use Rattle.image.proofs.put_word.Tie as tie
+use Rattle.image.proofs.put_word.Reads as reads
+use Rattle.image.proofs.put_word.Lts as lts
 
 abbrev Inv-loop : tie.InvT-loop
 Inv-loop bytes₀ word rest₀ i₀ bytes rest i = (i ≤ 8) × (length bytes ≡ 8) × (bytes ≡ take i (bytesOf 8 word) ++ drop i bytes₀) × (rest ≡ divided i word)

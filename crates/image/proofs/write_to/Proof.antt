@@ -5,12 +5,12 @@ use native.Mathlib.Omega.{arith}
 use lib.ListN.{length, getD}
 use borrow.Rule.Slice.PartMut.{putMid}
 use Rattle.laws.specs.Part.{putPart, length-put, part-back}
-use Rattle.pool.specs.Image.{bytesOf, length-bytes, imagedTo, imaged-none, imaged-more, imaged-all}
-use Rattle.pool.proofs.image.write_to.Statement.{statement}
-use Rattle.pool.proofs.image.write_to.Tie as tie
-use Rattle.pool.proofs.image.write_to.Reads as reads
-use Rattle.pool.proofs.image.write_to.Lts as lts
-use Rattle.pool.proofs.image.put_word.Reads as put-word-reads
+use Rattle.image.specs.Image.{bytesOf, length-bytes, imagedTo, imaged-none, imaged-more, imaged-all}
+use Rattle.image.proofs.write_to.Statement.{statement}
+use Rattle.image.proofs.write_to.Tie as tie
+use Rattle.image.proofs.write_to.Reads as reads
+use Rattle.image.proofs.write_to.Lts as lts
+use Rattle.image.proofs.put_word.Reads as put-word-reads
 
 abbrev Inv-loop : tie.InvT-loop
 Inv-loop table page₀ i₀ page i = (i ≤ length table) × (length page ≡ length page₀) × (page ≡ imagedTo i table page₀)

@@ -1,14 +1,14 @@
 // One table as the bytes of a page: PageTable::write_to of paging.rs (aarch64-paging 0.12.3).
-use crate::Handle;
-use crate::Outcome;
-use crate::Refusal;
-use crate::shape;
+use pool::Handle;
+use pool::Outcome;
+use pool::Refusal;
+use pool::shape;
 ghost use mathlib.Core.Path.{_≡_};
 ghost use Prim.Native.Nat.{_*_};
 ghost use lib.ListN.{length};
 ghost use Rattle.pool.specs.State.{st};
-ghost use Rattle.pool.specs.Image.{bytesOf, imageOf};
-ghost use Rattle.pool.specs.Calls.{imaged, imageCall};
+ghost use Rattle.image.specs.Image.{bytesOf, imageOf};
+ghost use Rattle.image.specs.Call.{imaged, imageCall};
 
 // The eight bytes of a word, lowest first.
 fn put_word(bytes: &mut [u8], word: u64)

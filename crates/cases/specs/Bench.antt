@@ -27,7 +27,7 @@ use Rattle.pool.specs.declared.VaRange.the-variants.{Lower}
 use Rattle.verify.specs.Verify.{endFits, span, inRange, verify}
 use Rattle.rules.specs.Rules.{valid, tableWord, leafWord, whole, rule2, blockable, rule3, rule4, ruleOf, fillOf}
 use Rattle.split.specs.Split.{splitEntry, belowOf, below, inFound, into}
-use Rattle.map.specs.Put.{dropEntry, byRule, mapChunk, eachOf, eachChunk, mapRange}
+use Rattle.put.specs.Put.{dropEntry, byRule, mapChunk, eachOf, eachChunk, mapRange}
 use Rattle.need.specs.Needed.{ifDown, sumOf, sumChunks, childWord, neededLeaf, needBelow, needChunk, needTable, needed}
 use Rattle.map.specs.Ask.{asked, frameAsked, first, verifyMap}
 use Rattle.map.specs.Call.{putDown, mapSound, orElse, mapCall}

@@ -17,7 +17,7 @@ use Rattle.pool.specs.declared.Outcome.the-variants.{Accepted, Refused}
 use Rattle.pool.specs.declared.Counted.{Counted}
 use Rattle.pool.specs.declared.Counted.the-variants as counted
 use Rattle.rules.specs.declared.Map.{Map}
-use Rattle.map.specs.Put.{mapRange}
+use Rattle.put.specs.Put.{mapRange}
 use Rattle.need.specs.Needed.{needed}
 use Rattle.map.specs.Ask.{asked, verifyMap}
 

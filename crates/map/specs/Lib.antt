@@ -1,6 +1,3 @@
--- Map: what the rules do on lists, one table after the other, and the call.
-pub mod Put
-pub mod Laws
-pub mod Range
+-- Map: what the call asks, and the call.
 pub mod Ask
 pub mod Call

@@ -1,7 +1,6 @@
 // The call: refusals 1 to 9 in their order, then the map.
 use crate::Constraints;
 use crate::ask;
-use crate::range;
 use address::PhysicalAddress;
 use address::VirtualAddress;
 use pool::Counted;
@@ -33,7 +32,7 @@ fn map_sound(words: &mut [u64], ledger: &mut [u32], handle: Handle, map: Map) ->
     if free < needed {
         return Counted::Refused(Refusal::WantOfRoom(needed, free));
     }
-    range::map_range(words, ledger, handle, 0, handle.level, map);
+    put::map_range(words, ledger, handle, 0, handle.level, map);
     Counted::Tables(ledger::count_used(ledger))
 }
 

@@ -17,9 +17,9 @@ use Rattle.rules.specs.Rules.{ruleOf}
 use Rattle.rules.specs.Laws.{rule-page}
 use Rattle.split.specs.Split.{below}
 use Rattle.need.specs.Needed.{slot-below}
-use Rattle.map.specs.Put.{mapRange}
-use Rattle.map.specs.Laws.{drop-table}
-use Rattle.map.specs.Range.{stepAt, chunk-write, chunk-keep, chunk-drop, chunk-into}
+use Rattle.put.specs.Put.{mapRange}
+use Rattle.put.specs.Laws.{drop-table}
+use Rattle.put.specs.Range.{stepAt, chunk-write, chunk-keep, chunk-drop, chunk-into}
 use Rattle.forest.specs.Tree.{Tree, leaf, node}
 use Rattle.forest.specs.Sound.{TableWord, Refers}
 use Rattle.forest.specs.Keep.{slot-leaf}

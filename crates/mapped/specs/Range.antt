@@ -10,8 +10,8 @@ use Rattle.pool.specs.State.{St}
 use Rattle.pool.specs.declared.Handle.{Handle}
 use Rattle.rules.specs.declared.Map.{Map}
 use Rattle.rules.specs.Rules.{chunkMap}
-use Rattle.map.specs.Put.{eachOf, eachChunk, mapRange}
-use Rattle.map.specs.Range.{stepAt, map-open}
+use Rattle.put.specs.Put.{eachOf, eachChunk, mapRange}
+use Rattle.put.specs.Range.{stepAt, map-open}
 use Rattle.sound.specs.Codec.{Placed, treeFrom}
 use Rattle.tree.specs.Page.{child}
 use Rattle.tree.specs.Chunks.{chunked, chunkedTable}

@@ -22,7 +22,7 @@ use Rattle.map.proofs.call.map_sound.Tie as tie
 use Rattle.map.proofs.call.map_sound.Reads as reads
 use Rattle.map.proofs.call.map_sound.Lts as lts
 use Rattle.checker.proofs.count_sound.Reads as count-sound-reads
-use Rattle.map.proofs.range.map_range.Reads as map-range-reads
+use Rattle.put.proofs.map_range.Reads as map-range-reads
 use Rattle.need.proofs.count_over.Reads as count-over-reads
 use Rattle.pool.proofs.ledger.count_used.Reads as count-used-reads
 

@@ -7,7 +7,7 @@ use Rattle.entry.specs.declared.Sub.the-variants.{Table, Outside, Leaf}
 use Rattle.pool.specs.State.{St, tables}
 use Rattle.table.specs.Table.{freeSub, freeTree}
 use Rattle.pool.specs.declared.Handle.{Handle}
-use Rattle.map.specs.Put.{dropEntry}
+use Rattle.put.specs.Put.{dropEntry}
 
 -- ---- a subtree dropped
 

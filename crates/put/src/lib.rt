@@ -12,7 +12,7 @@ ghost use Prim.Native.Nat.{_*_, _-_, _≤_, _<_};
 ghost use lib.ListN.{length};
 ghost use Rattle.pool.specs.State.{st};
 ghost use Rattle.pool.specs.Refuse.{Shaped};
-ghost use Rattle.map.specs.Put.{dropEntry, mapRange};
+ghost use Rattle.put.specs.Put.{dropEntry, mapRange};
 ghost use Rattle.rules.specs.Fit.{Fit};
 
 // The subtree that a word referred to is freed.

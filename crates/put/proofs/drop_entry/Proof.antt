@@ -4,47 +4,47 @@ use native.Mathlib.Omega.{arith}
 use Rattle.entry.proofs.Tags.{no-table}
 use Rattle.entry.specs.Sub.{sub-below}
 use Rattle.pool.specs.State.{st}
-use Rattle.map.specs.Laws.{drop-table, drop-outside, drop-leaf}
+use Rattle.put.specs.Laws.{drop-table, drop-outside, drop-leaf}
 use borrow.Author.Needs.{needs}
-use Rattle.map.proofs.range.drop_entry.Statement.{statement}
-use Rattle.map.proofs.range.drop_entry.Tie as tie
-use Rattle.map.proofs.range.drop_entry.Reads as reads
-use Rattle.map.proofs.range.drop_entry.Lts as lts
+use Rattle.put.proofs.drop_entry.Statement.{statement}
+use Rattle.put.proofs.drop_entry.Tie as tie
+use Rattle.put.proofs.drop_entry.Reads as reads
+use Rattle.put.proofs.drop_entry.Lts as lts
 use Rattle.entry.proofs.subtable.Reads as subtable-reads
 use Rattle.table.proofs.free.Reads as free-reads
 
--- src/range.rt:58:9
+-- src/lib.rt:58:9
 subtable-requires : tie.Need-subtable-requires
 subtable-requires c κs = search needs
 
--- src/range.rt:59:20
+-- src/lib.rt:59:20
 enum-known-kind : tie.Need-enum-known-kind
 enum-known-kind c = c .match .keys1
 
--- src/range.rt:60:9
+-- src/lib.rt:60:9
 returns : tie.Need-returns
 returns c =
     let a = c .before .before .before .before .args in
     let sub = c .before .subtable in
     ⊎-elim (λ e. drop-outside (a .handle) (a .level) (a .word) (st (a .words .now) (a .ledger .now)) (sub .ensures) e) (λ e. drop-leaf (a .handle) (a .level) (a .word) (st (a .words .now) (a .ledger .now)) (sub .ensures) e) (no-table (sub .result) (c .match .keys2))
 
--- src/range.rt:62:43
+-- src/lib.rt:62:43
 add-free : tie.Need-add-free
 add-free c = search needs
 
--- src/range.rt:62:5
+-- src/lib.rt:62:5
 free-requires : tie.Need-free-requires
 free-requires c κs = (omega arith, sub-below _ _ _ _ _ (sym (c .before .before .before .before .before .subtable .ensures) ∙ c .before .before .before .kind .given .1), omega arith)
 
--- src/range.rt:54:1
+-- src/lib.rt:54:1
 same-length : tie.Need-same-length
 same-length c = search needs
 
--- src/range.rt:54:1
+-- src/lib.rt:54:1
 same-length-2 : tie.Need-same-length-2
 same-length-2 c = search needs
 
--- src/range.rt:54:1
+-- src/lib.rt:54:1
 returns-2 : tie.Need-returns-2
 returns-2 c =
     let a = c .before .before .before .before .before .before .before .before .before .before .before .before .before .args in

@@ -19,7 +19,7 @@ use Rattle.rules.specs.declared.Rule.{Rule}
 use Rattle.rules.specs.declared.Rule.the-variants.{Write, Keep, Drop, Down}
 use Rattle.rules.specs.Rules.{ruleOf, chunkMap}
 use Rattle.split.specs.Split.{below, inFound, into}
-use Rattle.map.specs.Put.{dropEntry, byRule, mapChunk, eachOf, eachChunk, mapRange}
+use Rattle.put.specs.Put.{dropEntry, byRule, mapChunk, eachOf, eachChunk, mapRange}
 
 -- ---- one level down
 

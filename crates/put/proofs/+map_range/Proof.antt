@@ -11,22 +11,22 @@ use Rattle.rules.specs.declared.Map.{Map}
 use Rattle.rules.specs.Rules.{chunkMap}
 use Rattle.rules.specs.Fit.{Fit, chunk-paged, chunk-fit, rest-paged}
 use Rattle.rules.specs.Laws.{drop-high, down-high}
-use Rattle.map.specs.Put.{eachChunk}
-use Rattle.map.specs.Range.{stepAt, map-open, each-done, each-step, chunk-write, chunk-keep, chunk-drop, chunk-none, chunk-into}
+use Rattle.put.specs.Put.{eachChunk}
+use Rattle.put.specs.Range.{stepAt, map-open, each-done, each-step, chunk-write, chunk-keep, chunk-drop, chunk-none, chunk-into}
 use Rattle.split.specs.Split.{below-inside}
 use Prim.Native.Nat.{ℕ, _<_}
 use borrow.Fn.Kinds.{In}
 use borrow.Fn.PlainCycle.{Measures, is, falls, and}
-use Rattle.map.proofs.range.map_range.Reads as map-range
-use Rattle.map.proofs.range.map_range.Kinds as map-range-kinds
-use Rattle.map.proofs.range.+map_range.Lts-map_range as map-range-lts
+use Rattle.put.proofs.map_range.Reads as map-range
+use Rattle.put.proofs.map_range.Kinds as map-range-kinds
+use Rattle.put.proofs.+map_range.Lts-map_range as map-range-lts
 use Rattle.split.proofs.descend.Reads as descend-reads
-use Rattle.map.proofs.range.drop_entry.Reads as drop-entry-reads
+use Rattle.put.proofs.drop_entry.Reads as drop-entry-reads
 use Rattle.rules.proofs.rule_of.Reads as rule-of-reads
 use Rattle.region.proofs.chunk_end.Reads as chunk-end-reads
 use Rattle.region.proofs.entry_index.Reads as entry-index-reads
-use Rattle.map.proofs.range.+map_range.{statement}
-use Rattle.map.proofs.range.+map_range.Tie.{close}
+use Rattle.put.proofs.+map_range.{statement}
+use Rattle.put.proofs.+map_range.Tie.{close}
 
 abbrev μ-map-range : Measures 2 map-range-kinds.ps ℕ
 μ-map-range κs a = 3 - a .1 .1 .1 .1 .0
@@ -107,71 +107,71 @@ facts t c =
           ∙ sym (each-step (a .level) (stepAt (a .level) (a .handle) (a .k)) (a .map) (at .loop .at) (a .map .region .end .0) (at .loop .frame) s low) ∙ inv .6;
     }
 
--- src/range.rt:73:5
+-- src/lib.rt:73:5
 map-range-loop-holds : (t : ℕ) → map-range-lts.Need-loop-holds (calls t) (map-range-at t) map-range.Post map-range-Inv-loop map-range-μ-loop
 map-range-loop-holds t c = let a = c .before .before .args in let p = c .before .before .pre .1 in (p .3 .some, p .3 .from, p .3 .frame, p .3 .room, refl, refl, refl)
 
--- src/range.rt:74:13
+-- src/lib.rt:74:13
 map-range-chunk-end-requires : (t : ℕ) → map-range-lts.Need-chunk-end-requires (calls t) (map-range-at t) map-range.Post map-range-Inv-loop map-range-μ-loop
 map-range-chunk-end-requires t c κs = search needs
 
--- src/range.rt:84:13
+-- src/lib.rt:84:13
 map-range-entry-index-requires : (t : ℕ) → map-range-lts.Need-entry-index-requires (calls t) (map-range-at t) map-range.Post map-range-Inv-loop map-range-μ-loop
 map-range-entry-index-requires t c κs = search needs
 
--- src/range.rt:85:18
+-- src/lib.rt:85:18
 map-range-sub-frame : (t : ℕ) → map-range-lts.Need-sub-frame (calls t) (map-range-at t) map-range.Post map-range-Inv-loop map-range-μ-loop
 map-range-sub-frame t c = omega (arith, facts t c .above)
 
--- src/range.rt:85:9
+-- src/lib.rt:85:9
 map-range-add-frame : (t : ℕ) → map-range-lts.Need-add-frame (calls t) (map-range-at t) map-range.Post map-range-Inv-loop map-range-μ-loop
 map-range-add-frame t c = let f = facts t c in omega (arith, f .above, f .room)
 
--- src/range.rt:87:26
+-- src/lib.rt:87:26
 map-range-mul-word : (t : ℕ) → map-range-lts.Need-mul-word (calls t) (map-range-at t) map-range.Post map-range-Inv-loop map-range-μ-loop
 map-range-mul-word t c = let f = facts t c in omega (arith, f .slot, f .shape .sized)
 
--- src/range.rt:87:26
+-- src/lib.rt:87:26
 map-range-add-word : (t : ℕ) → map-range-lts.Need-add-word (calls t) (map-range-at t) map-range.Post map-range-Inv-loop map-range-μ-loop
 map-range-add-word t c = let f = facts t c in omega (arith, f .slot, f .shape .sized)
 
--- src/range.rt:87:20
+-- src/lib.rt:87:20
 map-range-mul-word-2 : (t : ℕ) → map-range-lts.Need-mul-word-2 (calls t) (map-range-at t) map-range.Post map-range-Inv-loop map-range-μ-loop
 map-range-mul-word-2 t c = let f = facts t c in omega (arith, f .slot, f .shape .sized)
 
--- src/range.rt:87:20
+-- src/lib.rt:87:20
 map-range-slice-read-word : (t : ℕ) → map-range-lts.Need-slice-read-word (calls t) (map-range-at t) map-range.Post map-range-Inv-loop map-range-μ-loop
 map-range-slice-read-word t c = let f = facts t (c .before) in omega (arith, f .slot, f .shape .sized)
 
--- src/range.rt:88:13
+-- src/lib.rt:88:13
 map-range-rule-of-requires : (t : ℕ) → map-range-lts.Need-rule-of-requires (calls t) (map-range-at t) map-range.Post map-range-Inv-loop map-range-μ-loop
 map-range-rule-of-requires t c κs = let f = facts t (c .before) in (f .fit, f .above)
 
--- src/range.rt:90:25
+-- src/lib.rt:90:25
 map-range-enum-known-rule : (t : ℕ) → map-range-lts.Need-enum-known-rule (calls t) (map-range-at t) map-range.Post map-range-Inv-loop map-range-μ-loop
 map-range-enum-known-rule t c = c .match .keys1
 
--- src/range.rt:91:23
+-- src/lib.rt:91:23
 map-range-mul-words : (t : ℕ) → map-range-lts.Need-mul-words (calls t) (map-range-at t) map-range.Post map-range-Inv-loop map-range-μ-loop
 map-range-mul-words t c = let f = facts t (c .before .before .before .before .before) in omega (arith, f .slot, f .shape .sized)
 
--- src/range.rt:91:23
+-- src/lib.rt:91:23
 map-range-add-words : (t : ℕ) → map-range-lts.Need-add-words (calls t) (map-range-at t) map-range.Post map-range-Inv-loop map-range-μ-loop
 map-range-add-words t c = let f = facts t (c .before .before .before .before .before) in omega (arith, f .slot, f .shape .sized)
 
--- src/range.rt:91:17
+-- src/lib.rt:91:17
 map-range-mul-words-2 : (t : ℕ) → map-range-lts.Need-mul-words-2 (calls t) (map-range-at t) map-range.Post map-range-Inv-loop map-range-μ-loop
 map-range-mul-words-2 t c = let f = facts t (c .before .before .before .before .before) in omega (arith, f .slot, f .shape .sized)
 
--- src/range.rt:91:17
+-- src/lib.rt:91:17
 map-range-slice-write-words : (t : ℕ) → map-range-lts.Need-slice-write-words (calls t) (map-range-at t) map-range.Post map-range-Inv-loop map-range-μ-loop
 map-range-slice-write-words t c = let f = facts t (c .before .before .before .before .before) in omega (arith, f .slot, f .shape .sized)
 
--- src/range.rt:73:5
+-- src/lib.rt:73:5
 map-range-loop-less : (t : ℕ) → map-range-lts.Need-loop-less (calls t) (map-range-at t) map-range.Post map-range-Inv-loop map-range-μ-loop
 map-range-loop-less t c = omega (arith, facts t (c .before .before .before .before .before) .above)
 
--- src/range.rt:73:5
+-- src/lib.rt:73:5
 map-range-loop-again : (t : ℕ) → map-range-lts.Need-loop-again (calls t) (map-range-at t) map-range.Post map-range-Inv-loop map-range-μ-loop
 map-range-loop-again t c =
     let at = c .before .before .before .before .before .before .before .before in
@@ -190,11 +190,11 @@ map-range-loop-again t c =
 map-range-enum-told : (t : ℕ) → map-range-lts.Need-enum-told (calls t) (map-range-at t) map-range.Post map-range-Inv-loop map-range-μ-loop
 map-range-enum-told t c = search needs
 
--- src/range.rt:73:5
+-- src/lib.rt:73:5
 map-range-loop-less-2 : (t : ℕ) → map-range-lts.Need-loop-less-2 (calls t) (map-range-at t) map-range.Post map-range-Inv-loop map-range-μ-loop
 map-range-loop-less-2 t c = omega (arith, facts t (c .before .before .before .before) .above)
 
--- src/range.rt:73:5
+-- src/lib.rt:73:5
 map-range-loop-again-2 : (t : ℕ) → map-range-lts.Need-loop-again-2 (calls t) (map-range-at t) map-range.Post map-range-Inv-loop map-range-μ-loop
 map-range-loop-again-2 t c =
     let at = c .before .before .before .before .before .before .before in
@@ -210,38 +210,38 @@ map-range-loop-again-2 t c =
       ap (eachChunk (a .level) (stepAt (a .level) (a .handle) (a .k)) (leftOf t place)) (chunk-keep (a .handle) (a .level) (a .k) (chunkOf t place) (st (at .loop .words) (at .loop .ledger)) (f .index) (c .before .before .rule-of .ensures) (c .enum-told .given .1)) ∙ f .next,
     )
 
--- src/range.rt:94:24
+-- src/lib.rt:94:24
 map-range-enum-known-rule-2 : (t : ℕ) → map-range-lts.Need-enum-known-rule-2 (calls t) (map-range-at t) map-range.Post map-range-Inv-loop map-range-μ-loop
 map-range-enum-known-rule-2 t c = c .match .keys3
 
--- src/range.rt:95:23
+-- src/lib.rt:95:23
 map-range-mul-words-3 : (t : ℕ) → map-range-lts.Need-mul-words-3 (calls t) (map-range-at t) map-range.Post map-range-Inv-loop map-range-μ-loop
 map-range-mul-words-3 t c = let f = facts t (c .before .before .before .before .before) in omega (arith, f .slot, f .shape .sized)
 
--- src/range.rt:95:23
+-- src/lib.rt:95:23
 map-range-add-words-2 : (t : ℕ) → map-range-lts.Need-add-words-2 (calls t) (map-range-at t) map-range.Post map-range-Inv-loop map-range-μ-loop
 map-range-add-words-2 t c = let f = facts t (c .before .before .before .before .before) in omega (arith, f .slot, f .shape .sized)
 
--- src/range.rt:95:17
+-- src/lib.rt:95:17
 map-range-mul-words-4 : (t : ℕ) → map-range-lts.Need-mul-words-4 (calls t) (map-range-at t) map-range.Post map-range-Inv-loop map-range-μ-loop
 map-range-mul-words-4 t c = let f = facts t (c .before .before .before .before .before) in omega (arith, f .slot, f .shape .sized)
 
--- src/range.rt:95:17
+-- src/lib.rt:95:17
 map-range-slice-write-words-2 : (t : ℕ) → map-range-lts.Need-slice-write-words-2 (calls t) (map-range-at t) map-range.Post map-range-Inv-loop map-range-μ-loop
 map-range-slice-write-words-2 t c = let f = facts t (c .before .before .before .before .before) in omega (arith, f .slot, f .shape .sized)
 
--- src/range.rt:96:17
+-- src/lib.rt:96:17
 map-range-drop-entry-requires : (t : ℕ) → map-range-lts.Need-drop-entry-requires (calls t) (map-range-at t) map-range.Post map-range-Inv-loop map-range-μ-loop
 map-range-drop-entry-requires t c κs =
     let place = c .before .before .before .before .before .before .before in
     let f = facts t place in
     (length-set (c .before .before .before .before .before .before .before .before .before .before .loop .words) _ _ ∙ f .shape .sized, drop-high (c .before .before .before .before .before .before .before .before .before .before .before .before .before .args .level) (chunkOf t place) _ (c .before .before .before .before .before .rule-of .ensures) _ (c .before .before .before .rule2 .given .1))
 
--- src/range.rt:73:5
+-- src/lib.rt:73:5
 map-range-loop-less-3 : (t : ℕ) → map-range-lts.Need-loop-less-3 (calls t) (map-range-at t) map-range.Post map-range-Inv-loop map-range-μ-loop
 map-range-loop-less-3 t c = omega (arith, facts t (c .before .before .before .before .before .before .before .before .before .before .before .before) .above)
 
--- src/range.rt:73:5
+-- src/lib.rt:73:5
 map-range-loop-again-3 : (t : ℕ) → map-range-lts.Need-loop-again-3 (calls t) (map-range-at t) map-range.Post map-range-Inv-loop map-range-μ-loop
 map-range-loop-again-3 t c =
     let at = c .before .before .before .before .before .before .before .before .before .before .before .before .before .before .before in
@@ -257,30 +257,30 @@ map-range-loop-again-3 t c =
       ap (eachChunk (a .level) (stepAt (a .level) (a .handle) (a .k)) (leftOf t place)) (c .before .before .before .before .drop-entry .ensures ∙ chunk-drop (a .handle) (a .level) (a .k) (chunkOf t place) (st (at .loop .words) (at .loop .ledger)) (f .index) (c .before .before .before .before .before .before .before .before .before .before .rule-of .ensures) _ (c .before .before .before .before .before .before .before .before .rule2 .given .1)) ∙ f .next,
     )
 
--- src/range.rt:99:37
+-- src/lib.rt:99:37
 map-range-enum-told-2 : (t : ℕ) → map-range-lts.Need-enum-told-2 (calls t) (map-range-at t) map-range.Post map-range-Inv-loop map-range-μ-loop
 map-range-enum-told-2 t c = search needs
 
--- src/range.rt:99:21
+-- src/lib.rt:99:21
 map-range-descend-requires : (t : ℕ) → map-range-lts.Need-descend-requires (calls t) (map-range-at t) map-range.Post map-range-Inv-loop map-range-μ-loop
 map-range-descend-requires t c κs =
     let place = c .before .before .before .before .before .before in
     let f = facts t place in
     (f .shape, down-high (c .before .before .before .before .before .before .before .before .before .before .before .before .args .level) (chunkOf t place) _ (c .before .before .before .before .rule-of .ensures) (c .before .before .enum-told2 .given .1), omega (arith, c .before .before .before .before .before .before .before .before .before .loop .inv .5, c .before .before .before .before .before .before .before .before .before .before .before .before .pre .1 .1), f .slot)
 
--- src/range.rt:100:31
+-- src/lib.rt:100:31
 map-range-enum-known-under : (t : ℕ) → map-range-lts.Need-enum-known-under (calls t) (map-range-at t) map-range.Post map-range-Inv-loop map-range-μ-loop
 map-range-enum-known-under t c = search needs
 
--- src/range.rt:101:21
+-- src/lib.rt:101:21
 map-range-enum-told-3 : (t : ℕ) → map-range-lts.Need-enum-told-3 (calls t) (map-range-at t) map-range.Post map-range-Inv-loop map-range-μ-loop
 map-range-enum-told-3 t c = search needs
 
--- src/range.rt:73:5
+-- src/lib.rt:73:5
 map-range-loop-less-4 : (t : ℕ) → map-range-lts.Need-loop-less-4 (calls t) (map-range-at t) map-range.Post map-range-Inv-loop map-range-μ-loop
 map-range-loop-less-4 t c = omega (arith, facts t (c .before .before .before .before .before .before .before .before .before .before .before .before .before) .above)
 
--- src/range.rt:73:5
+-- src/lib.rt:73:5
 map-range-loop-again-4 : (t : ℕ) → map-range-lts.Need-loop-again-4 (calls t) (map-range-at t) map-range.Post map-range-Inv-loop map-range-μ-loop
 map-range-loop-again-4 t c =
     let at = c .before .before .before .before .before .before .before .before .before .before .before .before .before .before .before .before in
@@ -296,13 +296,13 @@ map-range-loop-again-4 t c =
       ap (eachChunk (a .level) (stepAt (a .level) (a .handle) (a .k)) (leftOf t place)) (chunk-none (a .handle) (a .level) (a .k) (chunkOf t place) (st (at .loop .words) (at .loop .ledger)) (f .index) (c .before .before .before .before .before .before .before .before .before .before .before .rule-of .ensures) (c .before .before .before .before .before .before .before .before .before .enum-told2 .given .1) (c .before .before .before .before .before .before .descend .ensures) (c .enum-told3 .given .1)) ∙ f .next,
     )
 
--- src/range.rt:103:53
+-- src/lib.rt:103:53
 map-range-add-map-range : (t : ℕ) → map-range-lts.Need-add-map-range (calls t) (map-range-at t) map-range.Post map-range-Inv-loop map-range-μ-loop
 map-range-add-map-range t c =
     let place = c .before .before .before .before .before .before .before .before .before .before .before .before .before .before .before .before in
     omega (arith, down-high (c .before .before .before .before .before .before .before .before .before .before .before .before .before .before .before .before .before .before .before .before .before .before .args .level) (chunkOf t place) _ (c .before .before .before .before .before .before .before .before .before .before .before .before .before .before .rule-of .ensures) (c .before .before .before .before .before .before .before .before .before .before .before .before .enum-told2 .given .1))
 
--- src/range.rt:103:17
+-- src/lib.rt:103:17
 map-range-map-range-requires : (t : ℕ) → map-range-lts.Need-map-range-requires (calls t) (map-range-at t) map-range.Post map-range-Inv-loop map-range-μ-loop
 map-range-map-range-requires t c κs =
     let place = c .before .before .before .before .before .before .before .before .before .before .before .before .before .before .before .before in
@@ -317,11 +317,11 @@ map-range-map-range-requires t c κs =
       (shaped-keep (a .handle) s (st (under .descend .last .0) (under .descend .last .1 .0)) (f .shape) (under .descend .kept .0) (under .descend .kept .1 .0), omega (arith, found, under .descend .kept .1 .0), omega (arith, high), f .fit),
     )
 
--- src/range.rt:73:5
+-- src/lib.rt:73:5
 map-range-loop-less-5 : (t : ℕ) → map-range-lts.Need-loop-less-5 (calls t) (map-range-at t) map-range.Post map-range-Inv-loop map-range-μ-loop
 map-range-loop-less-5 t c = omega (arith, facts t (c .before .before .before .before .before .before .before .before .before .before .before .before .before .before .before .before .before .before .before .before .before) .above)
 
--- src/range.rt:73:5
+-- src/lib.rt:73:5
 map-range-loop-again-5 : (t : ℕ) → map-range-lts.Need-loop-again-5 (calls t) (map-range-at t) map-range.Post map-range-Inv-loop map-range-μ-loop
 map-range-loop-again-5 t c =
     let at = c .before .before .before .before .before .before .before .before .before .before .before .before .before .before .before .before .before .before .before .before .before .before .before .before in
@@ -337,15 +337,15 @@ map-range-loop-again-5 t c =
       ap (eachChunk (a .level) (stepAt (a .level) (a .handle) (a .k)) (leftOf t place)) (c .before .before .before .before .map-range .ensures ∙ chunk-into (a .handle) (a .level) (a .k) (chunkOf t place) (st (at .loop .words) (at .loop .ledger)) (f .index) (c .before .before .before .before .before .before .before .before .before .before .before .before .before .before .before .before .before .before .before .rule-of .ensures) (c .before .before .before .before .before .before .before .before .before .before .before .before .before .before .before .before .before .enum-told2 .given .1) (c .before .before .before .before .before .before .before .before .before .before .before .before .before .before .descend .ensures) _ (c .before .before .before .before .before .before .before .before .under .given .1) (down-high (a .level) (chunkOf t place) _ (c .before .before .before .before .before .before .before .before .before .before .before .before .before .before .before .before .before .before .before .rule-of .ensures) (c .before .before .before .before .before .before .before .before .before .before .before .before .before .before .before .before .before .enum-told2 .given .1))) ∙ f .next,
     )
 
--- src/range.rt:66:1
+-- src/lib.rt:66:1
 map-range-same-length : (t : ℕ) → map-range-lts.Need-same-length (calls t) (map-range-at t) map-range.Post map-range-Inv-loop map-range-μ-loop
 map-range-same-length t c = omega arith
 
--- src/range.rt:66:1
+-- src/lib.rt:66:1
 map-range-same-length-2 : (t : ℕ) → map-range-lts.Need-same-length-2 (calls t) (map-range-at t) map-range.Post map-range-Inv-loop map-range-μ-loop
 map-range-same-length-2 t c = omega arith
 
--- src/range.rt:66:1
+-- src/lib.rt:66:1
 map-range-returns : (t : ℕ) → map-range-lts.Need-returns (calls t) (map-range-at t) map-range.Post map-range-Inv-loop map-range-μ-loop
 map-range-returns t c =
     let at = c .before in

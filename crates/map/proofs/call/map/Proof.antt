@@ -1,5 +1,5 @@
 use borrow.Author.Needs.{needs}
-use mathlib.Core.Path.{_≡_, sym, ap, subst, _∙_}
+use mathlib.Core.Path.{_≡_, refl, sym, ap, subst, _∙_}
 use mathlib.Core.Bool.{true}
 use native.Mathlib.Omega.{arith}
 use borrow.Author.Tests.{not-true, not-false}
@@ -28,11 +28,11 @@ is-shaped-requires c κs = tt
 
 -- src/call.rt:55:9
 same-length : tie.Need-same-length
-same-length c = omega arith
+same-length c = refl
 
 -- src/call.rt:55:9
 same-length-2 : tie.Need-same-length-2
-same-length-2 c = omega arith
+same-length-2 c = refl
 
 -- src/call.rt:55:9
 returns : tie.Need-returns
@@ -60,11 +60,11 @@ map-sound-requires c κs = let a = c .before .before .before .before .before .be
 
 -- src/call.rt:39:1
 same-length-3 : tie.Need-same-length-3
-same-length-3 c = omega arith
+same-length-3 c = refl
 
 -- src/call.rt:39:1
 same-length-4 : tie.Need-same-length-4
-same-length-4 c = omega arith
+same-length-4 c = refl
 
 -- src/call.rt:39:1
 returns-2 : tie.Need-returns-2

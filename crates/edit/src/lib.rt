@@ -7,11 +7,12 @@ use region::MemoryRegion;
 ghost use mathlib.Core.Path.{_≡_};
 ghost use Prim.Native.Nat.{_+_, _*_, _-_, _≤_, _<_};
 ghost use lib.ListN.{length};
+ghost use Rattle.region.specs.Region.{region};
 ghost use Rattle.pool.specs.State.{st};
 ghost use Rattle.pool.specs.Refuse.{Shaped};
 ghost use Rattle.edit.specs.Word.{editWord};
 ghost use Rattle.edit.specs.Own.{numbered, putNumber, noted, ownRange};
-ghost use Rattle.edit.specs.Range.{own, work, modifyRange};
+ghost use Rattle.edit.specs.Range.{own, chunkEdit, work, modifyRange};
 
 // What to do: the region, the bits to set and to clear, and whether the tables are in use meanwhile.
 pub struct Edit {
@@ -90,6 +91,21 @@ pub fn is_own(level: usize, region: MemoryRegion, word: u64) -> bool
     region.is_block(level)
 }
 
+// The same edit of one chunk.
+pub fn chunk_edit(edit: Edit, start: u64, stop: u64) -> Edit
+    ensures { λ r. ⌜ r ≡ chunkEdit edit (region start stop) ⌝ }
+{
+    Edit {
+        region: MemoryRegion {
+            start: VirtualAddress(start),
+            end: VirtualAddress(stop),
+        },
+        set: edit.set,
+        clear: edit.clear,
+        live: edit.live,
+    }
+}
+
 // Every chunk of the edit in table k: first what lies in lower tables, then the table's own entries. Answers with how many numbers the list has.
 pub fn modify_range(
     words: &mut [u64],
@@ -113,24 +129,15 @@ pub fn modify_range(
     let mut count = before;
     while at < end {
         let stop = region::chunk_end(at, end, level);
-        let chunk = MemoryRegion {
-            start: VirtualAddress(at),
-            end: VirtualAddress(stop),
-        };
         let i = region::entry_index(at, level);
+        let part = chunk_edit(edit, at, stop);
         at = stop;
-        if is_own(level, chunk, words[512 * k + i]) {
+        if is_own(level, part.region, words[512 * k + i]) {
             continue;
         }
         let under = split::descend(words, ledger, handle, level, k, i);
         let Found::At(j) = under else {
             continue;
-        };
-        let part = Edit {
-            region: chunk,
-            set: edit.set,
-            clear: edit.clear,
-            live: edit.live,
         };
         count = modify_range(words, ledger, handle, j, level + 1, part, list, count);
     }

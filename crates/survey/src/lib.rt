@@ -148,16 +148,8 @@ pub fn survey_range(
     let mut seen = before;
     while at < end {
         let stop = region::chunk_end(at, end, level);
-        let part = Edit {
-            region: MemoryRegion {
-                start: VirtualAddress(at),
-                end: VirtualAddress(stop),
-            },
-            set: edit.set,
-            clear: edit.clear,
-            live: edit.live,
-        };
         let i = region::entry_index(at, level);
+        let part = edit::chunk_edit(edit, at, stop);
         at = stop;
         let word = words[512 * k + i];
         let kind = entry::subtable(handle.base, ledger.len(), level, word);

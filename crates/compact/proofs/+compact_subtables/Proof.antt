@@ -1,10 +1,10 @@
 use mathlib.Core.Logic.{⊎-elim}
-use mathlib.Core.Path.{_≡_, refl, sym, ap, _∙_}
-use Prim.Native.Nat.{ℕ, _+_, _-_, _≤_, _<_}
+use mathlib.Core.Path.{_≡_, refl, sym, ap, _∙_, subst⁻¹}
+use Prim.Native.Nat.{ℕ, _+_, _*_, _-_, _≤_, _<_}
 use native.Mathlib.Omega.{arith}
 use lib.ListN.{length}
 use Rattle.laws.specs.Slot.{iter, iter-none, iter-step}
-use Rattle.entry.specs.Sub.{sub-below}
+use Rattle.entry.specs.Sub.{sub-found}
 use Rattle.entry.proofs.Tags.{no-table}
 use Rattle.pool.specs.State.{St, st}
 use Rattle.pool.specs.declared.Handle.{Handle}
@@ -42,6 +42,14 @@ Inv-loop words₀ ledger₀ handle k level next₀ words ledger next =
 
 abbrev μ-loop : lts.MeasureT-loop
 μ-loop words₀ ledger₀ handle k level next₀ words ledger next = 512 - next
+
+-- one slot fewer is left
+less : {i : ℕ} → i < 512 → 512 - (i + 1) < 512 - i
+less h = omega arith
+
+-- a table's level is one of the upper three
+lower : {level t : ℕ} → 3 - level ≡ t → level < 3 → (3 - (level + 1) < t) × (level + 1 ≤ 3)
+lower e h = (omega arith, omega arith)
 
 -- src/lib.rt:50:9
 returns : (t : ℕ) → lts.Need-returns (calls t) (started t) reads.Post Inv-loop μ-loop
@@ -83,7 +91,7 @@ enum-known-kind t c = c .match .keys1
 
 -- src/lib.rt:53:5
 loop-less : (t : ℕ) → lts.Need-loop-less (calls t) (started t) reads.Post Inv-loop μ-loop
-loop-less t c = omega arith
+loop-less t c = less (c .before .before .before .loop-test .taken)
 
 -- src/lib.rt:53:5
 loop-again : (t : ℕ) → lts.Need-loop-again (calls t) (started t) reads.Post Inv-loop μ-loop
@@ -108,19 +116,31 @@ add-compact-subtables t c = omega arith
 -- src/lib.rt:60:9
 compact-subtables-requires : (t : ℕ) → lts.Need-compact-subtables-requires (calls t) (started t) reads.Post Inv-loop μ-loop
 compact-subtables-requires t c κs =
-    let sub = c .before .before .before .before .before .subtable in
-    (omega arith, (omega arith, sub-below _ _ _ _ _ (sym (sub .ensures) ∙ c .before .before .before .kind .given .1), omega arith))
+    let told = c .before .before .before in
+    let found = sub-found _ _ _ _ _ (sym (told .before .before .subtable .ensures) ∙ told .kind .given .1) in
+    let at = c .before .before .before .before .before .before .before .before .loop .inv in
+    let p = c .before .before .before .before .before .before .before .before .before .before .before .before .pre in
+    let low = lower (p .0) (found .high) in
+    (low .0, (at .1 ∙ p .1 .0 ∙ ap (λ (n : ℕ). 512 * n) (sym (at .2)), found .below, low .1))
 
 -- src/lib.rt:61:9
 release-empty-requires : (t : ℕ) → lts.Need-release-empty-requires (calls t) (started t) reads.Post Inv-loop μ-loop
 release-empty-requires t c κs =
+    let called = c .before .before .before .before .before .before .compact-subtables in
     let told = c .before .before .before .before .before .before .before .before .before .before in
-    let j = sub-below _ _ _ _ _ (sym (told .before .before .subtable .ensures) ∙ told .kind .given .1) in
-    (omega arith, omega arith, omega arith, omega arith)
+    let j = sub-found _ _ _ _ _ (sym (told .before .before .subtable .ensures) ∙ told .kind .given .1) .below in
+    let at = c .before .before .before .before .before .before .before .before .before .before .before .before .before .before .before .loop .inv in
+    let p = c .before .before .before .before .before .before .before .before .before .before .before .before .before .before .before .before .before .before .before .pre .1 in
+    let long = called .kept .1 .0 ∙ at .2 in (
+      called .kept .0 ∙ at .1 ∙ p .0 ∙ ap (λ (n : ℕ). 512 * n) (sym long),
+      subst⁻¹ (λ (n : ℕ). c .before .before .before .before .before .before .before .before .before .before .before .before .before .before .before .before .before .before .before .args .k < n) long (p .1),
+      c .before .before .before .before .before .before .before .before .before .before .before .before .before .before .loop-test .taken,
+      subst⁻¹ (λ (n : ℕ). told .kind .given .0 .0 < n) (called .kept .1 .0) j,
+    )
 
 -- src/lib.rt:53:5
 loop-less-2 : (t : ℕ) → lts.Need-loop-less-2 (calls t) (started t) reads.Post Inv-loop μ-loop
-loop-less-2 t c = omega arith
+loop-less-2 t c = less (c .before .before .before .before .before .before .before .before .before .before .before .before .before .before .before .before .before .before .before .loop-test .taken)
 
 -- src/lib.rt:53:5
 loop-again-2 : (t : ℕ) → lts.Need-loop-again-2 (calls t) (started t) reads.Post Inv-loop μ-loop
@@ -132,8 +152,8 @@ loop-again-2 t c =
     let s = st (at .loop .words) (at .loop .ledger) in
     let j = told .kind .given .0 .0 in (
       omega (arith, told .before .before .before .before .loop-test .taken),
-      omega arith,
-      omega arith,
+      c .before .before .before .before .release-empty .kept .0 ∙ called .compact-subtables .kept .0 ∙ at .loop .inv .1,
+      c .before .before .before .before .release-empty .kept .1 .0 ∙ called .compact-subtables .kept .1 .0 ∙ at .loop .inv .2,
       iter-step (compactEntry (below (a .level) (a .handle)) (a .handle) (a .level) (a .k)) (at .loop .next) (st (a .words .now) (a .ledger .now)) (at .loop .inv .3)
           (c .before .before .before .before .release-empty .ensures
           ∙ ap (releaseEmpty (a .k) (at .loop .next) j) (called .compact-subtables .ensures)
@@ -142,11 +162,11 @@ loop-again-2 t c =
 
 -- src/lib.rt:45:1
 same-length : (t : ℕ) → lts.Need-same-length (calls t) (started t) reads.Post Inv-loop μ-loop
-same-length t c = omega arith
+same-length t c = c .before .loop .inv .1
 
 -- src/lib.rt:45:1
 same-length-2 : (t : ℕ) → lts.Need-same-length-2 (calls t) (started t) reads.Post Inv-loop μ-loop
-same-length-2 t c = omega arith
+same-length-2 t c = c .before .loop .inv .2
 
 -- src/lib.rt:45:1
 returns-2 : (t : ℕ) → lts.Need-returns-2 (calls t) (started t) reads.Post Inv-loop μ-loop

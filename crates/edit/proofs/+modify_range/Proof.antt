@@ -4,17 +4,19 @@ use native.Mathlib.Omega.{arith}
 use lib.ListN.{length}
 use Rattle.region.specs.Region.{region, entryIndex}
 use Rattle.region.specs.Chunks.{chunk-fits}
-use Rattle.pool.specs.State.{st}
+use Rattle.pool.specs.State.{st, wordAt}
 use Rattle.pool.specs.Refuse.{Shaped, shaped-keep}
 use Rattle.split.specs.Split.{below-inside}
+use Rattle.edit.specs.declared.Edit.{Edit}
 use Rattle.edit.specs.Each.{eachChunk, each-done, each-step}
-use Rattle.edit.specs.Range.{Work, work, ownWork, stepAt, own-done, modify-pages, modify-open, step-own, step-none, step-into}
+use Rattle.edit.specs.Range.{Work, work, own, ownWork, modifyRange, stepAt, own-done, modify-pages, modify-open, step-own, step-none, step-into}
 use Prim.Native.Nat.{ℕ, _<_}
 use borrow.Fn.Kinds.{In}
 use borrow.Fn.PlainCycle.{Measures, is, falls, and}
 use Rattle.edit.proofs.modify_range.Reads as modify-range
 use Rattle.edit.proofs.modify_range.Kinds as modify-range-kinds
 use Rattle.edit.proofs.+modify_range.Lts-modify_range as modify-range-lts
+use Rattle.edit.proofs.chunk_edit.Reads as chunk-edit-reads
 use Rattle.edit.proofs.edit_own.Reads as edit-own-reads
 use Rattle.edit.proofs.is_own.Reads as is-own-reads
 use Rattle.region.proofs.chunk_end.Reads as chunk-end-reads
@@ -39,7 +41,7 @@ modify-range-below t =
     modify-range.Pre
 
 abbrev calls : ℕ → modify-range-lts.Claims
-calls t = (edit-own-reads.Asked, edit-own-reads.Learnt, chunk-end-reads.Asked, chunk-end-reads.Learnt, entry-index-reads.Asked, entry-index-reads.Learnt, is-own-reads.Asked, is-own-reads.Learnt, descend-reads.Asked, descend-reads.Learnt, modify-range-below t, modify-range.Post)
+calls t = (edit-own-reads.Asked, edit-own-reads.Learnt, chunk-end-reads.Asked, chunk-end-reads.Learnt, entry-index-reads.Asked, entry-index-reads.Learnt, chunk-edit-reads.Asked, chunk-edit-reads.Learnt, is-own-reads.Asked, is-own-reads.Learnt, descend-reads.Asked, descend-reads.Learnt, modify-range-below t, modify-range.Post)
 
 abbrev modify-range-Inv-loop : modify-range-lts.InvT-loop
 modify-range-Inv-loop words₀ ledger₀ handle k level edit list₀ before end at₀ count₀ words ledger list at count =
@@ -103,6 +105,14 @@ onwards t c w e =
     let a = c .before .before .before .before .before .before .before .before .args in
     ap (eachChunk (a .level) (stepAt (a .level) (a .handle) (a .k) (a .edit)) (region (c .before .chunk-end .result) (a .edit .region .end .0))) e ∙ facts t c .next
 
+-- whether the chunk's entry is the table's own, asked of the region itself
+is-own : (t : ℕ) (c : modify-range-lts.After-is-own (calls t) (modify-range-at t) modify-range.Post modify-range-Inv-loop modify-range-μ-loop) → let place = c .before .before .before in let a = c .before .before .before .before .before .before .before .before .before .before .before .args in
+    own (a .level) (region (place .before .before .before .loop .at) (place .before .chunk-end .result)) (wordAt (workOf t place .state) (a .k) (place .entry-index .result)) ≡ c .is-own .result
+is-own t c =
+    let place = c .before .before .before in
+    let a = c .before .before .before .before .before .before .before .before .before .before .before .args in
+    sym (c .is-own .ensures ∙ ap (λ (e : Edit). own (a .level) (e .region) (wordAt (workOf t place .state) (a .k) (place .entry-index .result))) (c .before .before .chunk-edit .ensures))
+
 -- src/lib.rt:108:9
 modify-range-edit-own-requires : (t : ℕ) → modify-range-lts.Need-edit-own-requires (calls t) (modify-range-at t) modify-range.Post modify-range-Inv-loop modify-range-μ-loop
 modify-range-edit-own-requires t c κs = let p = c .before .before .before .before .before .before .pre .1 in omega (arith, p .0 .sized, p .1)
@@ -134,21 +144,24 @@ modify-range-chunk-end-requires t c κs = tt
 modify-range-entry-index-requires : (t : ℕ) → modify-range-lts.Need-entry-index-requires (calls t) (modify-range-at t) modify-range.Post modify-range-Inv-loop modify-range-μ-loop
 modify-range-entry-index-requires t c κs = tt
 
+modify-range-chunk-edit-requires : (t : ℕ) → modify-range-lts.Need-chunk-edit-requires (calls t) (modify-range-at t) modify-range.Post modify-range-Inv-loop modify-range-μ-loop
+modify-range-chunk-edit-requires t c κs = tt
+
 -- src/lib.rt:121:39
 modify-range-mul-is-own : (t : ℕ) → modify-range-lts.Need-mul-is-own (calls t) (modify-range-at t) modify-range.Post modify-range-Inv-loop modify-range-μ-loop
-modify-range-mul-is-own t c = let f = facts t c in omega (arith, f .slot, f .table, f .shape .sized)
+modify-range-mul-is-own t c = let f = facts t (c .before) in omega (arith, f .slot, f .table, f .shape .sized)
 
 -- src/lib.rt:121:39
 modify-range-add-is-own : (t : ℕ) → modify-range-lts.Need-add-is-own (calls t) (modify-range-at t) modify-range.Post modify-range-Inv-loop modify-range-μ-loop
-modify-range-add-is-own t c = let f = facts t c in omega (arith, f .slot, f .table, f .shape .sized)
+modify-range-add-is-own t c = let f = facts t (c .before) in omega (arith, f .slot, f .table, f .shape .sized)
 
 -- src/lib.rt:121:33
 modify-range-mul-is-own-2 : (t : ℕ) → modify-range-lts.Need-mul-is-own-2 (calls t) (modify-range-at t) modify-range.Post modify-range-Inv-loop modify-range-μ-loop
-modify-range-mul-is-own-2 t c = let f = facts t c in omega (arith, f .slot, f .table, f .shape .sized)
+modify-range-mul-is-own-2 t c = let f = facts t (c .before) in omega (arith, f .slot, f .table, f .shape .sized)
 
 -- src/lib.rt:121:33
 modify-range-slice-read-is-own : (t : ℕ) → modify-range-lts.Need-slice-read-is-own (calls t) (modify-range-at t) modify-range.Post modify-range-Inv-loop modify-range-μ-loop
-modify-range-slice-read-is-own t c = let f = facts t (c .before) in omega (arith, f .slot, f .table, f .shape .sized)
+modify-range-slice-read-is-own t c = let f = facts t (c .before .before) in omega (arith, f .slot, f .table, f .shape .sized)
 
 -- src/lib.rt:121:12
 modify-range-is-own-requires : (t : ℕ) → modify-range-lts.Need-is-own-requires (calls t) (modify-range-at t) modify-range.Post modify-range-Inv-loop modify-range-μ-loop
@@ -156,19 +169,19 @@ modify-range-is-own-requires t c κs = tt
 
 -- src/lib.rt:113:5
 modify-range-loop-less : (t : ℕ) → modify-range-lts.Need-loop-less (calls t) (modify-range-at t) modify-range.Post modify-range-Inv-loop modify-range-μ-loop
-modify-range-loop-less t c = let f = facts t (c .before .before .before) in omega (arith, f .above, f .under)
+modify-range-loop-less t c = let f = facts t (c .before .before .before .before) in omega (arith, f .above, f .under)
 
 -- src/lib.rt:113:5
 modify-range-loop-again : (t : ℕ) → modify-range-lts.Need-loop-again (calls t) (modify-range-at t) modify-range.Post modify-range-Inv-loop modify-range-μ-loop
 modify-range-loop-again t c =
-    let at = c .before .before .before .before .before .before in
-    let a = c .before .before .before .before .before .before .before .before .before .before .before .args in
-    let f = facts t (c .before .before .before) in
-    (at .loop .inv .0, at .loop .inv .1, at .loop .inv .2, onwards t (c .before .before .before) (workOf t (c .before .before .before)) (step-own (a .handle) (a .level) (a .k) (a .edit) _ (workOf t (c .before .before .before)) (f .index) (sym (c .before .is-own .ensures) ∙ c .if2 .taken)))
+    let at = c .before .before .before .before .before .before .before in
+    let a = c .before .before .before .before .before .before .before .before .before .before .before .before .args in
+    let f = facts t (c .before .before .before .before) in
+    (at .loop .inv .0, at .loop .inv .1, at .loop .inv .2, onwards t (c .before .before .before .before) (workOf t (c .before .before .before .before)) (step-own (a .handle) (a .level) (a .k) (a .edit) _ (workOf t (c .before .before .before .before)) (f .index) (is-own t (c .before) ∙ c .if2 .taken)))
 
 -- src/lib.rt:124:13
 modify-range-descend-requires : (t : ℕ) → modify-range-lts.Need-descend-requires (calls t) (modify-range-at t) modify-range.Post modify-range-Inv-loop modify-range-μ-loop
-modify-range-descend-requires t c κs = let f = facts t (c .before .before .before .before .before) in (f .shape, f .high, f .table, f .slot)
+modify-range-descend-requires t c κs = let f = facts t (c .before .before .before .before .before .before) in (f .shape, f .high, f .table, f .slot)
 
 -- src/lib.rt:125:23
 modify-range-enum-known-under : (t : ℕ) → modify-range-lts.Need-enum-known-under (calls t) (modify-range-at t) modify-range.Post modify-range-Inv-loop modify-range-μ-loop
@@ -180,49 +193,52 @@ modify-range-enum-told t c = c .match .keys2
 
 -- src/lib.rt:113:5
 modify-range-loop-less-2 : (t : ℕ) → modify-range-lts.Need-loop-less-2 (calls t) (modify-range-at t) modify-range.Post modify-range-Inv-loop modify-range-μ-loop
-modify-range-loop-less-2 t c = let f = facts t (c .before .before .before .before .before .before .before .before .before .before .before .before) in omega (arith, f .above, f .under)
+modify-range-loop-less-2 t c = let f = facts t (c .before .before .before .before .before .before .before .before .before .before .before .before .before) in omega (arith, f .above, f .under)
 
 -- src/lib.rt:113:5
 modify-range-loop-again-2 : (t : ℕ) → modify-range-lts.Need-loop-again-2 (calls t) (modify-range-at t) modify-range.Post modify-range-Inv-loop modify-range-μ-loop
 modify-range-loop-again-2 t c =
-    let at = c .before .before .before .before .before .before .before .before .before .before .before .before .before .before .before in
-    let a = c .before .before .before .before .before .before .before .before .before .before .before .before .before .before .before .before .before .before .before .before .args in
-    let f = facts t (c .before .before .before .before .before .before .before .before .before .before .before .before) in
-    let step = step-none (a .handle) (a .level) (a .k) (a .edit) _ (workOf t (c .before .before .before .before .before .before .before .before .before .before .before .before)) (f .index) (sym (c .before .before .before .before .before .before .before .before .before .before .is-own .ensures) ∙ c .before .before .before .before .before .before .before .before .before .if2 .left) (c .before .before .before .before .before .before .descend .ensures) (c .enum-told .given .1) in
-    (c .before .before .before .before .before .before .descend .kept .0 ∙ at .loop .inv .0, c .before .before .before .before .before .before .descend .kept .1 .0 ∙ at .loop .inv .1, at .loop .inv .2, onwards t (c .before .before .before .before .before .before .before .before .before .before .before .before) _ step)
+    let at = c .before .before .before .before .before .before .before .before .before .before .before .before .before .before .before .before in
+    let a = c .before .before .before .before .before .before .before .before .before .before .before .before .before .before .before .before .before .before .before .before .before .args in
+    let f = facts t (c .before .before .before .before .before .before .before .before .before .before .before .before .before) in
+    let step = step-none (a .handle) (a .level) (a .k) (a .edit) _ (workOf t (c .before .before .before .before .before .before .before .before .before .before .before .before .before)) (f .index) (is-own t (c .before .before .before .before .before .before .before .before .before .before) ∙ c .before .before .before .before .before .before .before .before .before .if2 .left) (c .before .before .before .before .before .before .descend .ensures) (c .enum-told .given .1) in
+    (c .before .before .before .before .before .before .descend .kept .0 ∙ at .loop .inv .0, c .before .before .before .before .before .before .descend .kept .1 .0 ∙ at .loop .inv .1, at .loop .inv .2, onwards t (c .before .before .before .before .before .before .before .before .before .before .before .before .before) _ step)
 
 -- src/lib.rt:134:56
 modify-range-add-modify-range : (t : ℕ) → modify-range-lts.Need-add-modify-range (calls t) (modify-range-at t) modify-range.Post modify-range-Inv-loop modify-range-μ-loop
-modify-range-add-modify-range t c = omega (arith, facts t (c .before .before .before .before .before .before .before .before .before .before .before .before .before .before .before) .high)
+modify-range-add-modify-range t c = omega (arith, facts t (c .before .before .before .before .before .before .before .before .before .before .before .before .before .before .before .before) .high)
 
 -- src/lib.rt:134:9
 modify-range-modify-range-requires : (t : ℕ) → modify-range-lts.Need-modify-range-requires (calls t) (modify-range-at t) modify-range.Post modify-range-Inv-loop modify-range-μ-loop
 modify-range-modify-range-requires t c κs =
-    let place = c .before .before .before .before .before .before .before .before .before .before .before .before .before .before .before .before in
+    let place = c .before .before .before .before .before .before .before .before .before .before .before .before .before .before .before .before .before in
     let f = facts t place in
-    let a = c .before .before .before .before .before .before .before .before .before .before .before .before .before .before .before .before .before .before .before .before .before .before .before .before .args in
-    let at = c .before .before .before .before .before .before .before .before .before .before .before .before .before .before .before .before .before .before .before in
+    let a = c .before .before .before .before .before .before .before .before .before .before .before .before .before .before .before .before .before .before .before .before .before .before .before .before .before .args in
+    let at = c .before .before .before .before .before .before .before .before .before .before .before .before .before .before .before .before .before .before .before .before in
     let under = c .before .before .before .before .before .before .before .before .before .before in
     let s = st (at .loop .words) (at .loop .ledger) in
     let found = below-inside (a .handle) (a .level) (a .k) (place .entry-index .result) s _ (under .descend .ensures) (c .before .before .before .before .under .given .1) in (
-      omega (arith, f .high, c .before .before .before .before .before .before .before .before .before .before .before .before .before .before .before .before .before .before .before .before .before .before .before .before .pre .0),
+      omega (arith, f .high, c .before .before .before .before .before .before .before .before .before .before .before .before .before .before .before .before .before .before .before .before .before .before .before .before .before .pre .0),
       (shaped-keep (a .handle) s (st (under .descend .last .0) (under .descend .last .1 .0)) (f .shape) (under .descend .kept .0) (under .descend .kept .1 .0), omega (arith, found, under .descend .kept .1 .0), omega (arith, f .high)),
     )
 
 -- src/lib.rt:113:5
 modify-range-loop-less-3 : (t : ℕ) → modify-range-lts.Need-loop-less-3 (calls t) (modify-range-at t) modify-range.Post modify-range-Inv-loop modify-range-μ-loop
-modify-range-loop-less-3 t c = let f = facts t (c .before .before .before .before .before .before .before .before .before .before .before .before .before .before .before .before .before .before .before .before .before .before .before) in omega (arith, f .above, f .under)
+modify-range-loop-less-3 t c = let f = facts t (c .before .before .before .before .before .before .before .before .before .before .before .before .before .before .before .before .before .before .before .before .before .before .before .before) in omega (arith, f .above, f .under)
 
 -- src/lib.rt:113:5
 modify-range-loop-again-3 : (t : ℕ) → modify-range-lts.Need-loop-again-3 (calls t) (modify-range-at t) modify-range.Post modify-range-Inv-loop modify-range-μ-loop
 modify-range-loop-again-3 t c =
-    let at = c .before .before .before .before .before .before .before .before .before .before .before .before .before .before .before .before .before .before .before .before .before .before .before .before .before .before in
-    let a = c .before .before .before .before .before .before .before .before .before .before .before .before .before .before .before .before .before .before .before .before .before .before .before .before .before .before .before .before .before .before .before .args in
-    let f = facts t (c .before .before .before .before .before .before .before .before .before .before .before .before .before .before .before .before .before .before .before .before .before .before .before) in
+    let at = c .before .before .before .before .before .before .before .before .before .before .before .before .before .before .before .before .before .before .before .before .before .before .before .before .before .before .before in
+    let a = c .before .before .before .before .before .before .before .before .before .before .before .before .before .before .before .before .before .before .before .before .before .before .before .before .before .before .before .before .before .before .before .before .args in
+    let f = facts t (c .before .before .before .before .before .before .before .before .before .before .before .before .before .before .before .before .before .before .before .before .before .before .before .before) in
     let under = c .before .before .before .before .before .before .before .before .before .before .before .before .before .before .before .before .before in
     let rec = c .before .before .before .before .before .before .modify-range in
-    let step = rec .ensures ∙ step-into (a .handle) (a .level) (a .k) (a .edit) _ (workOf t (c .before .before .before .before .before .before .before .before .before .before .before .before .before .before .before .before .before .before .before .before .before .before .before)) (f .index) (sym (c .before .before .before .before .before .before .before .before .before .before .before .before .before .before .before .before .before .before .before .before .before .is-own .ensures) ∙ c .before .before .before .before .before .before .before .before .before .before .before .before .before .before .before .before .before .before .before .before .if2 .left) (under .descend .ensures) _ (c .before .before .before .before .before .before .before .before .before .before .before .under .given .1) in
-    (rec .kept .0 ∙ under .descend .kept .0 ∙ at .loop .inv .0, rec .kept .1 .0 ∙ under .descend .kept .1 .0 ∙ at .loop .inv .1, rec .kept .1 .1 .1 .1 .1 .1 .0 ∙ at .loop .inv .2, onwards t (c .before .before .before .before .before .before .before .before .before .before .before .before .before .before .before .before .before .before .before .before .before .before .before) _ step)
+    let j = c .before .before .before .before .before .before .before .before .before .before .before .under .given .0 .0 in
+    let lent = work (st (under .descend .last .0) (under .descend .last .1 .0)) (at .loop .list) (at .loop .count) in
+    let part = ap (λ (e : Edit). modifyRange (3 - (a .level + 1)) (a .handle) j e lent) (c .before .before .before .before .before .before .before .before .before .before .before .before .before .before .before .before .before .before .before .before .before .before .before .chunk-edit .ensures) in
+    let step = rec .ensures ∙ part ∙ step-into (a .handle) (a .level) (a .k) (a .edit) _ (workOf t (c .before .before .before .before .before .before .before .before .before .before .before .before .before .before .before .before .before .before .before .before .before .before .before .before)) (f .index) (is-own t (c .before .before .before .before .before .before .before .before .before .before .before .before .before .before .before .before .before .before .before .before .before) ∙ c .before .before .before .before .before .before .before .before .before .before .before .before .before .before .before .before .before .before .before .before .if2 .left) (under .descend .ensures) j (c .before .before .before .before .before .before .before .before .before .before .before .under .given .1) in
+    (rec .kept .0 ∙ under .descend .kept .0 ∙ at .loop .inv .0, rec .kept .1 .0 ∙ under .descend .kept .1 .0 ∙ at .loop .inv .1, rec .kept .1 .1 .1 .1 .1 .1 .0 ∙ at .loop .inv .2, onwards t (c .before .before .before .before .before .before .before .before .before .before .before .before .before .before .before .before .before .before .before .before .before .before .before .before) _ step)
 
 -- src/lib.rt:136:5
 modify-range-edit-own-requires-2 : (t : ℕ) → modify-range-lts.Need-edit-own-requires-2 (calls t) (modify-range-at t) modify-range.Post modify-range-Inv-loop modify-range-μ-loop
@@ -263,6 +279,7 @@ pub +modify-range-spec : {M : Type 1} → statement M
     (modify-range-loop-holds t)
     (modify-range-chunk-end-requires t)
     (modify-range-entry-index-requires t)
+    (modify-range-chunk-edit-requires t)
     (modify-range-mul-is-own t)
     (modify-range-add-is-own t)
     (modify-range-mul-is-own-2 t)

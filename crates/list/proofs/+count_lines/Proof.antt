@@ -1,13 +1,16 @@
-use mathlib.Core.Path.{_≡_, sym, ap, _∙_}
-use Prim.Native.Nat.{_+_, _-_}
+use mathlib.Core.List.{List}
+use mathlib.Core.Logic.{_⊎_}
+use mathlib.Core.Path.{_≡_, sym, ap, subst, _∙_}
+use Prim.Native.Nat.{_+_, _-_, _^_}
 use native.Mathlib.Nat.{zero-add}
 use native.Mathlib.Omega.{arith}
 use lib.ListN.{length}
 use Rattle.entry.specs.Sub.{sub-found}
 use Rattle.entry.proofs.Tags.{no-table}
+use Rattle.entry.specs.declared.Sub.the-variants.{Table, Outside, Leaf}
 use Rattle.region.specs.Chunks.{chunksOf}
 use Rattle.region.specs.declared.ChunkedIterator.{ChunkedIterator}
-use Rattle.list.specs.Lines.{each, linesFrom, linesAt, lines-table, lines-other, lines-each, lines-pages, next-chunk, next-none, each-none, count-step}
+use Rattle.list.specs.Lines.{Line, each, linesFrom, linesAt, lines-table, lines-other, lines-each, lines-pages, next-chunk, next-none, each-none, count-step}
 use Prim.Native.Nat.{ℕ, _<_}
 use borrow.Fn.Kinds.{In}
 use borrow.Fn.PlainCycle.{Measures, is, falls, and}
@@ -50,6 +53,40 @@ all c =
     let a = c .before .before .before .args in
     ap length (lines-each (a .handle .base .0) (a .tables) (a .words .now) (a .level) (a .k) (a .region) (omega arith))
     ∙ ap (λ (it : ChunkedIterator). length (each (linesAt (a .handle .base .0) (a .tables) (a .words .now) (a .level) (a .k)) (chunksOf it))) (sym (c .split .ensures))
+
+-- no more lines than a count can say
+few : {t : ℕ} (c : count-lines-lts.After-split (calls t) (count-lines-at t) count-lines.Post count-lines-Inv-loop count-lines-μ-loop) → let a = c .before .before .before .args in
+    length (each (linesAt (a .handle .base .0) (a .tables) (a .words .now) (a .level) (a .k)) (chunksOf (c .split .result))) < 2 ^ 64
+few c = subst (λ (n : ℕ). n < 2 ^ 64) (all c) (c .before .before .before .pre .1 .3)
+
+-- a chunk, once its entry is known
+abbrev Asked : ℕ → Type 0
+Asked t = count-lines-lts.After-subtable (calls t) (count-lines-at t) count-lines.Post count-lines-Inv-loop count-lines-μ-loop
+
+-- the lines counted, n of the chunk, and those of the chunks after it are all
+abbrev Sum : {t : ℕ} → Asked t → ℕ → Type 0
+Sum c n = let a = c .before .before .before .before .before .before .before .before .before .before .args in let f = linesAt (a .handle .base .0) (a .tables) (a .words .now) (a .level) (a .k) in
+    c .before .before .before .before .before .before .loop .count + n + length (each f (chunksOf (c .before .before .before .next2 .given .0 .1 .0))) ≡ length (each f (chunksOf (c .before .before .before .before .before .before .before .split .result)))
+
+regroup : (a n x : ℕ) {r s : ℕ} → r ≡ n + x → a + r ≡ s → a + n + x ≡ s
+regroup a n x e q = omega arith
+
+sum : {t : ℕ} (c : Asked t) (ls : List Line) → let a = c .before .before .before .before .before .before .before .before .before .before .args in linesAt (a .handle .base .0) (a .tables) (a .words .now) (a .level) (a .k) (c .before .before .before .next2 .given .0 .0) ≡ ls → Sum c (length ls)
+sum c ls lines =
+    let a = c .before .before .before .before .before .before .before .before .before .before .args in
+    let cut = next-chunk (c .before .before .before .before .before .before .loop .rest) _ _ (c .before .before .before .before .before .next .ensures) (c .before .before .before .next2 .given .1) in
+    regroup _ _ _ (count-step (linesAt (a .handle .base .0) (a .tables) (a .words .now) (a .level) (a .k)) ls cut lines) (c .before .before .before .before .before .before .loop .inv)
+
+one : {t : ℕ} (c : Asked t) → (c .subtable .result ≡ Outside) ⊎ (c .subtable .result ≡ Leaf) → Sum c 1
+one c e = let a = c .before .before .before .before .before .before .before .before .before .before .args in sum c _ (lines-other (a .handle .base .0) (a .tables) (a .words .now) (a .level) (a .k) _ (c .before .get-entry .ensures) (c .subtable .ensures) e)
+
+below : {t : ℕ} (c : Asked t) (j : ℕ) → c .subtable .result ≡ Table j
+    → let a = c .before .before .before .before .before .before .before .before .before .before .args in Sum c (length (linesFrom (a .handle .base .0) (a .tables) (a .words .now) (3 - (a .level + 1)) j (c .before .before .before .next2 .given .0 .0)))
+below c j e = let a = c .before .before .before .before .before .before .before .before .before .before .args in sum c _ (lines-table (a .handle .base .0) (a .tables) (a .words .now) (a .level) (a .k) _ (c .before .get-entry .ensures) (c .subtable .ensures) j e)
+
+-- one chunk fewer is left
+fewer : {t : ℕ} (c : Asked t) → length (chunksOf (c .before .before .before .next2 .given .0 .1 .0)) < length (chunksOf (c .before .before .before .before .before .before .loop .rest))
+fewer c = let cut = ap length (next-chunk (c .before .before .before .before .before .before .loop .rest) _ _ (c .before .before .before .before .before .next .ensures) (c .before .before .before .next2 .given .1)) in omega (arith, cut)
 
 -- src/lib.rt:93:9
 count-lines-count-pages-requires : (t : ℕ) → count-lines-lts.Need-count-pages-requires (calls t) (count-lines-at t) count-lines.Post count-lines-Inv-loop count-lines-μ-loop
@@ -105,31 +142,15 @@ count-lines-enum-known-kind t c = c .match2 .keys1
 
 -- src/lib.rt:106:13
 count-lines-add-count : (t : ℕ) → count-lines-lts.Need-add-count (calls t) (count-lines-at t) count-lines.Post count-lines-Inv-loop count-lines-μ-loop
-count-lines-add-count t c =
-    let at = c .before .before .before .before .before .before .before in
-    let a = at .before .before .before .before .args in
-    let f = linesAt (a .handle .base .0) (a .tables) (a .words .now) (a .level) (a .k) in
-    let cut = next-chunk (at .loop .rest) _ _ (c .before .before .before .before .before .before .next .ensures) (c .before .before .before .before .next2 .given .1) in
-    let lines = lines-other (a .handle .base .0) (a .tables) (a .words .now) (a .level) (a .k) _ (c .before .before .get-entry .ensures) (c .before .subtable .ensures) (no-table _ (c .match2 .keys2)) in
-    let step = count-step f _ cut lines in
-    let total = all (at .before) in
-    omega (arith, at .loop .inv)
+count-lines-add-count t c = omega (arith, one (c .before) (no-table _ (c .match2 .keys2)), few (c .before .before .before .before .before .before .before .before))
 
 -- src/lib.rt:97:5
 count-lines-loop-less : (t : ℕ) → count-lines-lts.Need-loop-less (calls t) (count-lines-at t) count-lines.Post count-lines-Inv-loop count-lines-μ-loop
-count-lines-loop-less t c = let cut = ap length (next-chunk (c .before .before .before .before .before .before .before .loop .rest) _ _ (c .before .before .before .before .before .before .next .ensures) (c .before .before .before .before .next2 .given .1)) in omega arith
+count-lines-loop-less t c = fewer (c .before)
 
 -- src/lib.rt:97:5
 count-lines-loop-again : (t : ℕ) → count-lines-lts.Need-loop-again (calls t) (count-lines-at t) count-lines.Post count-lines-Inv-loop count-lines-μ-loop
-count-lines-loop-again t c =
-    let at = c .before .before .before .before .before .before .before in
-    let a = at .before .before .before .before .args in
-    let f = linesAt (a .handle .base .0) (a .tables) (a .words .now) (a .level) (a .k) in
-    let cut = next-chunk (at .loop .rest) _ _ (c .before .before .before .before .before .before .next .ensures) (c .before .before .before .before .next2 .given .1) in
-    let lines = lines-other (a .handle .base .0) (a .tables) (a .words .now) (a .level) (a .k) _ (c .before .before .get-entry .ensures) (c .before .subtable .ensures) (no-table _ (c .match2 .keys2)) in
-    let step = count-step f _ cut lines in
-    let total = all (at .before) in
-    omega (arith, at .loop .inv)
+count-lines-loop-again t c = one (c .before) (no-table _ (c .match2 .keys2))
 
 -- src/lib.rt:109:56
 count-lines-add-count-lines : (t : ℕ) → count-lines-lts.Need-add-count-lines (calls t) (count-lines-at t) count-lines.Post count-lines-Inv-loop count-lines-μ-loop
@@ -140,44 +161,23 @@ count-lines-add-count-lines t c =
 -- src/lib.rt:109:18
 count-lines-count-lines-requires : (t : ℕ) → count-lines-lts.Need-count-lines-requires (calls t) (count-lines-at t) count-lines.Post count-lines-Inv-loop count-lines-μ-loop
 count-lines-count-lines-requires t c κs =
-    let at = c .before .before .before .before .before .before .before .before .before in
-    let a = at .before .before .before .before .args in
-    let f = linesAt (a .handle .base .0) (a .tables) (a .words .now) (a .level) (a .k) in
+    let s = c .before .before .before in
+    let p = c .before .before .before .before .before .before .before .before .before .before .before .before .before .pre in
     let table = c .before .kind .given .1 in
-    let found = sub-found (a .handle .base .0) (a .tables) (a .level) _ _ (sym (c .before .before .before .subtable .ensures) ∙ table) in
-    let cut = next-chunk (at .loop .rest) _ _ (c .before .before .before .before .before .before .before .before .next .ensures) (c .before .before .before .before .before .before .next2 .given .1) in
-    let lines = lines-table (a .handle .base .0) (a .tables) (a .words .now) (a .level) (a .k) _ (c .before .before .before .before .get-entry .ensures) (c .before .before .before .subtable .ensures) _ table in
-    let step = count-step f _ cut lines in
-    let total = all (at .before) in
-    (omega (arith, found .high), (omega arith, found .below, omega (arith, found .high), omega (arith, at .loop .inv)))
+    let found = sub-found _ _ _ _ _ (sym (s .subtable .ensures) ∙ table) in
+    (omega (arith, found .high, p .0), (p .1 .0, found .below, omega (arith, found .high), omega (arith, below s _ table, few (c .before .before .before .before .before .before .before .before .before .before))))
 
 -- src/lib.rt:109:9
 count-lines-add-count-2 : (t : ℕ) → count-lines-lts.Need-add-count-2 (calls t) (count-lines-at t) count-lines.Post count-lines-Inv-loop count-lines-μ-loop
-count-lines-add-count-2 t c =
-    let at = c .before .before .before .before .before .before .before .before .before .before in
-    let a = at .before .before .before .before .args in
-    let f = linesAt (a .handle .base .0) (a .tables) (a .words .now) (a .level) (a .k) in
-    let cut = next-chunk (at .loop .rest) _ _ (c .before .before .before .before .before .before .before .before .before .next .ensures) (c .before .before .before .before .before .before .before .next2 .given .1) in
-    let lines = lines-table (a .handle .base .0) (a .tables) (a .words .now) (a .level) (a .k) _ (c .before .before .before .before .before .get-entry .ensures) (c .before .before .before .before .subtable .ensures) _ (c .before .before .kind .given .1) in
-    let step = count-step f _ cut lines in
-    let total = all (at .before) in
-    omega (arith, at .loop .inv, c .count-lines .ensures)
+count-lines-add-count-2 t c = omega (arith, below (c .before .before .before .before) _ (c .before .before .kind .given .1), few (c .before .before .before .before .before .before .before .before .before .before .before), c .count-lines .ensures)
 
 -- src/lib.rt:97:5
 count-lines-loop-less-2 : (t : ℕ) → count-lines-lts.Need-loop-less-2 (calls t) (count-lines-at t) count-lines.Post count-lines-Inv-loop count-lines-μ-loop
-count-lines-loop-less-2 t c = let cut = ap length (next-chunk (c .before .before .before .before .before .before .before .before .before .before .loop .rest) _ _ (c .before .before .before .before .before .before .before .before .before .next .ensures) (c .before .before .before .before .before .before .before .next2 .given .1)) in omega arith
+count-lines-loop-less-2 t c = fewer (c .before .before .before .before)
 
 -- src/lib.rt:97:5
 count-lines-loop-again-2 : (t : ℕ) → count-lines-lts.Need-loop-again-2 (calls t) (count-lines-at t) count-lines.Post count-lines-Inv-loop count-lines-μ-loop
-count-lines-loop-again-2 t c =
-    let at = c .before .before .before .before .before .before .before .before .before .before in
-    let a = at .before .before .before .before .args in
-    let f = linesAt (a .handle .base .0) (a .tables) (a .words .now) (a .level) (a .k) in
-    let cut = next-chunk (at .loop .rest) _ _ (c .before .before .before .before .before .before .before .before .before .next .ensures) (c .before .before .before .before .before .before .before .next2 .given .1) in
-    let lines = lines-table (a .handle .base .0) (a .tables) (a .words .now) (a .level) (a .k) _ (c .before .before .before .before .before .get-entry .ensures) (c .before .before .before .before .subtable .ensures) _ (c .before .before .kind .given .1) in
-    let step = count-step f _ cut lines in
-    let total = all (at .before) in
-    omega (arith, at .loop .inv, c .count-lines .ensures)
+count-lines-loop-again-2 t c = omega (arith, below (c .before .before .before .before) _ (c .before .before .kind .given .1), c .count-lines .ensures)
 
 pub +count-lines-spec : {M : Type 1} → statement M
 +count-lines-spec = close μ-count-lines λ t. count-lines-lts.spec (calls t)

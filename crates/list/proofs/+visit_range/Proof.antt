@@ -1,14 +1,16 @@
 use mathlib.Core.Path.{_≡_, refl, sym, ap, ap₂, _∙_}
-use mathlib.Core.List.{List}
-use Prim.Native.Nat.{_+_, _*_, _-_}
+use mathlib.Core.List.{List, [], _∷_}
+use mathlib.Core.Logic.{_⊎_}
+use Prim.Native.Nat.{_+_, _*_, _-_, _≤_}
 use native.Mathlib.Omega.{arith}
 use lib.ListN.{length}
 use Rattle.laws.specs.Part.{putPart}
 use Rattle.entry.specs.Sub.{sub-found}
 use Rattle.entry.proofs.Tags.{no-table}
+use Rattle.entry.specs.declared.Sub.the-variants.{Table, Outside, Leaf}
 use Rattle.region.specs.Chunks.{chunksOf}
 use Rattle.region.specs.declared.ChunkedIterator.{ChunkedIterator}
-use Rattle.list.specs.Lines.{Line, each, numbers, linesFrom, linesAt, lines-table, lines-other, lines-each, next-chunk, next-none, each-none, count-step, write-step, write-done, written, writeLines, Written}
+use Rattle.list.specs.Lines.{Line, line, each, numbers, linesFrom, linesAt, lines-table, lines-other, lines-each, next-chunk, next-none, each-none, count-step, write-step, write-done, written, writeLines, Written}
 use Prim.Native.Nat.{ℕ, _<_}
 use borrow.Fn.Kinds.{In}
 use borrow.Fn.PlainCycle.{Measures, is, falls, and}
@@ -54,6 +56,33 @@ all c =
     let a = c .before .before .before .args in
     lines-each (a .handle .base .0) (a .tables) (a .words .now) (a .level) (a .k) (a .region) (omega arith)
     ∙ ap (λ (it : ChunkedIterator). each (linesAt (a .handle .base .0) (a .tables) (a .words .now) (a .level) (a .k)) (chunksOf it)) (sym (c .split .ensures))
+
+-- a chunk, once its entry is known
+abbrev Asked : ℕ → Type 0
+Asked t = visit-range-lts.After-subtable (calls t) (visit-range-at t) visit-range.Post visit-range-Inv-loop visit-range-μ-loop
+
+-- the chunk, and those after it
+cut : {t : ℕ} (c : Asked t) → chunksOf (c .before .before .before .before .before .before .loop .rest) ≡ c .before .before .before .next2 .given .0 .0 ∷ chunksOf (c .before .before .before .next2 .given .0 .1 .0)
+cut c = next-chunk (c .before .before .before .before .before .before .loop .rest) _ _ (c .before .before .before .before .before .next .ensures) (c .before .before .before .next2 .given .1)
+
+one : {t : ℕ} (c : Asked t) → (c .subtable .result ≡ Outside) ⊎ (c .subtable .result ≡ Leaf)
+    → let a = c .before .before .before .before .before .before .before .before .before .before .args in linesAt (a .handle .base .0) (a .tables) (a .words .now) (a .level) (a .k) (c .before .before .before .next2 .given .0 .0) ≡ line (c .before .before .before .next2 .given .0 .0) (c .before .get-entry .result) (a .level) ∷ []
+one c e = let a = c .before .before .before .before .before .before .before .before .before .before .args in lines-other (a .handle .base .0) (a .tables) (a .words .now) (a .level) (a .k) _ (c .before .get-entry .ensures) (c .subtable .ensures) e
+
+below : {t : ℕ} (c : Asked t) (j : ℕ) → c .subtable .result ≡ Table j
+    → let a = c .before .before .before .before .before .before .before .before .before .before .args in linesAt (a .handle .base .0) (a .tables) (a .words .now) (a .level) (a .k) (c .before .before .before .next2 .given .0 .0) ≡ linesFrom (a .handle .base .0) (a .tables) (a .words .now) (3 - (a .level + 1)) j (c .before .before .before .next2 .given .0 .0)
+below c j e = let a = c .before .before .before .before .before .before .before .before .before .before .args in lines-table (a .handle .base .0) (a .tables) (a .words .now) (a .level) (a .k) _ (c .before .get-entry .ensures) (c .subtable .ensures) j e
+
+step : {t : ℕ} (c : Asked t) {ls : List Line} → let a = c .before .before .before .before .before .before .before .before .before .before .args in let f = linesAt (a .handle .base .0) (a .tables) (a .words .now) (a .level) (a .k) in f (c .before .before .before .next2 .given .0 .0) ≡ ls
+    → length (each f (chunksOf (c .before .before .before .before .before .before .loop .rest))) ≡ length ls + length (each f (chunksOf (c .before .before .before .next2 .given .0 .1 .0)))
+step c {ls} lines = let a = c .before .before .before .before .before .before .before .before .before .before .args in count-step (linesAt (a .handle .base .0) (a .tables) (a .words .now) (a .level) (a .k)) ls (cut c) lines
+
+-- room for the lines that remain
+room : {t : ℕ} (c : Asked t) → let a = c .before .before .before .before .before .before .before .before .before .before .args in
+    c .before .before .before .before .before .before .loop .to + 4 * length (each (linesAt (a .handle .base .0) (a .tables) (a .words .now) (a .level) (a .k)) (chunksOf (c .before .before .before .before .before .before .loop .rest))) ≤ length (c .before .before .before .before .before .before .loop .list)
+room c =
+    let inv = c .before .before .before .before .before .before .loop .inv in
+    omega (arith, inv .0, inv .1, ap length (all (c .before .before .before .before .before .before .before)), c .before .before .before .before .before .before .before .before .before .before .pre .1 .3)
 
 -- src/lib.rt:140:9
 visit-range-split-requires : (t : ℕ) → visit-range-lts.Need-split-requires (calls t) (visit-range-at t) visit-range.Post visit-range-Inv-loop visit-range-μ-loop
@@ -107,42 +136,27 @@ visit-range-enum-known-kind t c = c .match2 .keys1
 -- src/lib.rt:150:13
 visit-range-put-line-requires : (t : ℕ) → visit-range-lts.Need-put-line-requires (calls t) (visit-range-at t) visit-range.Post visit-range-Inv-loop visit-range-μ-loop
 visit-range-put-line-requires t c κs =
-    let at = c .before .before .before .before .before .before .before .before in
-    let a = at .before .before .before .before .args in
-    let f = linesAt (a .handle .base .0) (a .tables) (a .words .now) (a .level) (a .k) in
-    let cut = next-chunk (at .loop .rest) _ _ (c .before .before .before .before .before .before .before .next .ensures) (c .before .before .before .before .before .next2 .given .1) in
-    let lines = lines-other (a .handle .base .0) (a .tables) (a .words .now) (a .level) (a .k) _ (c .before .before .before .get-entry .ensures) (c .before .before .subtable .ensures) (no-table _ (c .before .match2 .keys2)) in
-    let step = count-step f _ cut lines in
-    let total = ap length (all (at .before)) in
-    omega (arith, at .loop .inv .0)
+    let s = c .before .before in
+    omega (arith, step s (one s (no-table _ (c .before .match2 .keys2))), room s)
 
 -- src/lib.rt:151:13
 visit-range-add-to : (t : ℕ) → visit-range-lts.Need-add-to (calls t) (visit-range-at t) visit-range.Post visit-range-Inv-loop visit-range-μ-loop
 visit-range-add-to t c =
-    let at = c .before .before .before .before .before .before .before .before .before .before .before in
-    let a = at .before .before .before .before .args in
-    let f = linesAt (a .handle .base .0) (a .tables) (a .words .now) (a .level) (a .k) in
-    let cut = next-chunk (at .loop .rest) _ _ (c .before .before .before .before .before .before .before .before .before .before .next .ensures) (c .before .before .before .before .before .before .before .before .next2 .given .1) in
-    let lines = lines-other (a .handle .base .0) (a .tables) (a .words .now) (a .level) (a .k) _ (c .before .before .before .before .before .before .get-entry .ensures) (c .before .before .before .before .before .subtable .ensures) (no-table _ (c .before .before .before .before .match2 .keys2)) in
-    let step = count-step f _ cut lines in
-    let total = ap length (all (at .before)) in
-    omega (arith, at .loop .inv .0, at .loop .inv .1, c .before .before .before .before .before .before .before .before .before .before .before .before .before .before .before .good .1 .1 .1 .1 .1 .1 .0 .0)
+    let s = c .before .before .before .before .before in
+    omega (arith, step s (one s (no-table _ (c .before .before .before .before .match2 .keys2))), room s, c .before .before .before .before .before .before .before .before .before .before .before .loop .inv .1, c .before .before .before .before .before .before .before .before .before .before .before .before .before .before .before .good .1 .1 .1 .1 .1 .1 .0 .0)
 
 -- src/lib.rt:141:5
 visit-range-loop-less : (t : ℕ) → visit-range-lts.Need-loop-less (calls t) (visit-range-at t) visit-range.Post visit-range-Inv-loop visit-range-μ-loop
-visit-range-loop-less t c = let cut = ap length (next-chunk (c .before .before .before .before .before .before .before .before .before .before .before .loop .rest) _ _ (c .before .before .before .before .before .before .before .before .before .before .next .ensures) (c .before .before .before .before .before .before .before .before .next2 .given .1)) in omega arith
+visit-range-loop-less t c = let e = ap length (cut (c .before .before .before .before .before)) in omega (arith, e)
 
 -- src/lib.rt:141:5
 visit-range-loop-again : (t : ℕ) → visit-range-lts.Need-loop-again (calls t) (visit-range-at t) visit-range.Post visit-range-Inv-loop visit-range-μ-loop
 visit-range-loop-again t c =
-    let at = c .before .before .before .before .before .before .before .before .before .before .before in
-    let a = at .before .before .before .before .args in
-    let f = linesAt (a .handle .base .0) (a .tables) (a .words .now) (a .level) (a .k) in
-    let cut = next-chunk (at .loop .rest) _ _ (c .before .before .before .before .before .before .before .before .before .before .next .ensures) (c .before .before .before .before .before .before .before .before .next2 .given .1) in
-    let lines = lines-other (a .handle .base .0) (a .tables) (a .words .now) (a .level) (a .k) _ (c .before .before .before .before .before .before .get-entry .ensures) (c .before .before .before .before .before .subtable .ensures) (no-table _ (c .before .before .before .before .match2 .keys2)) in
-    let step = count-step f _ cut lines in
-    let total = ap length (all (at .before)) in
-    (omega (arith, at .loop .inv .0), omega arith, write-step f _ cut lines (at .loop .to) (at .loop .list) (omega (arith, at .loop .inv .0)) refl (c .before .before .put-line .ensures) ∙ at .loop .inv .2)
+    let s = c .before .before .before .before .before in
+    let at = c .before .before .before .before .before .before .before .before .before .before .before .loop in
+    let a = c .before .before .before .before .before .before .before .before .before .before .before .before .before .before .before .args in
+    let lines = one s (no-table _ (c .before .before .before .before .match2 .keys2)) in
+    (omega (arith, at .inv .0, step s lines), omega arith, write-step (linesAt (a .handle .base .0) (a .tables) (a .words .now) (a .level) (a .k)) _ (cut s) lines (at .to) (at .list) (room s) refl (c .before .before .put-line .ensures) ∙ at .inv .2)
 
 -- src/lib.rt:154:52
 visit-range-add-visit-range : (t : ℕ) → visit-range-lts.Need-add-visit-range (calls t) (visit-range-at t) visit-range.Post visit-range-Inv-loop visit-range-μ-loop
@@ -153,35 +167,27 @@ visit-range-add-visit-range t c =
 -- src/lib.rt:154:9
 visit-range-visit-range-requires : (t : ℕ) → visit-range-lts.Need-visit-range-requires (calls t) (visit-range-at t) visit-range.Post visit-range-Inv-loop visit-range-μ-loop
 visit-range-visit-range-requires t c κs =
-    let at = c .before .before .before .before .before .before .before .before .before .before in
-    let a = at .before .before .before .before .args in
-    let f = linesAt (a .handle .base .0) (a .tables) (a .words .now) (a .level) (a .k) in
+    let s = c .before .before .before .before in
+    let p = c .before .before .before .before .before .before .before .before .before .before .before .before .before .before .pre in
     let table = c .before .before .kind .given .1 in
-    let found = sub-found (a .handle .base .0) (a .tables) (a .level) _ _ (sym (c .before .before .before .before .subtable .ensures) ∙ table) in
-    let cut = next-chunk (at .loop .rest) _ _ (c .before .before .before .before .before .before .before .before .before .next .ensures) (c .before .before .before .before .before .before .before .next2 .given .1) in
-    let lines = lines-table (a .handle .base .0) (a .tables) (a .words .now) (a .level) (a .k) _ (c .before .before .before .before .before .get-entry .ensures) (c .before .before .before .before .subtable .ensures) _ table in
-    let step = count-step f _ cut lines in
-    let total = ap length (all (at .before)) in
-    (omega (arith, found .high), (omega arith, found .below, omega (arith, found .high), omega (arith, at .loop .inv .0)))
+    let found = sub-found _ _ _ _ _ (sym (s .subtable .ensures) ∙ table) in
+    (omega (arith, found .high, p .0), (p .1 .0, found .below, omega (arith, found .high), omega (arith, step s (below s _ table), room s)))
 
 -- src/lib.rt:141:5
 visit-range-loop-less-2 : (t : ℕ) → visit-range-lts.Need-loop-less-2 (calls t) (visit-range-at t) visit-range.Post visit-range-Inv-loop visit-range-μ-loop
-visit-range-loop-less-2 t c = let cut = ap length (next-chunk (c .before .before .before .before .before .before .before .before .before .before .before .before .before .loop .rest) _ _ (c .before .before .before .before .before .before .before .before .before .before .before .before .next .ensures) (c .before .before .before .before .before .before .before .before .before .before .next2 .given .1)) in omega arith
+visit-range-loop-less-2 t c = let e = ap length (cut (c .before .before .before .before .before .before .before)) in omega (arith, e)
 
 -- src/lib.rt:141:5
 visit-range-loop-again-2 : (t : ℕ) → visit-range-lts.Need-loop-again-2 (calls t) (visit-range-at t) visit-range.Post visit-range-Inv-loop visit-range-μ-loop
 unfolding writeLines
 visit-range-loop-again-2 t c =
-    let at = c .before .before .before .before .before .before .before .before .before .before .before .before .before in
-    let a = at .before .before .before .before .args in
-    let f = linesAt (a .handle .base .0) (a .tables) (a .words .now) (a .level) (a .k) in
-    let cut = next-chunk (at .loop .rest) _ _ (c .before .before .before .before .before .before .before .before .before .before .before .before .next .ensures) (c .before .before .before .before .before .before .before .before .before .before .next2 .given .1) in
-    let lines = lines-table (a .handle .base .0) (a .tables) (a .words .now) (a .level) (a .k) _ (c .before .before .before .before .before .before .before .before .get-entry .ensures) (c .before .before .before .before .before .before .before .subtable .ensures) _ (c .before .before .before .before .before .kind .given .1) in
-    let step = count-step f _ cut lines in
-    let total = ap length (all (at .before)) in
+    let s = c .before .before .before .before .before .before .before in
+    let at = c .before .before .before .before .before .before .before .before .before .before .before .before .before .loop in
+    let a = c .before .before .before .before .before .before .before .before .before .before .before .before .before .before .before .before .before .args in
+    let lines = below s _ (c .before .before .before .before .before .kind .given .1) in
     let to = ap (λ (x : Written). x .to) (c .before .before .visit-range .ensures) in
     let list = ap (λ (x : Written). x .list) (c .before .before .visit-range .ensures) in
-    (omega (arith, at .loop .inv .0), omega arith, write-step f _ cut lines (at .loop .to) (at .loop .list) (omega (arith, at .loop .inv .0)) to list ∙ at .loop .inv .2)
+    (omega (arith, at .inv .0, step s lines, to), omega arith, write-step (linesAt (a .handle .base .0) (a .tables) (a .words .now) (a .level) (a .k)) _ (cut s) lines (at .to) (at .list) (room s) to list ∙ at .inv .2)
 
 pub +visit-range-spec : {M : Type 1} → statement M
 +visit-range-spec = close μ-visit-range λ t. visit-range-lts.spec (calls t)

@@ -1,9 +1,9 @@
 use Rattle.entry.proofs.Tags.{is-outside}
 use mathlib.Core.Path.{sym, _∙_}
+use native.Mathlib.Omega.{arith}
 use Rattle.pool.specs.State.{st}
 use Rattle.entry.specs.Sub.{sub-some}
 use Rattle.split.specs.Split.{below-table, below-outside, below-split}
-use borrow.Author.Needs.{needs}
 use Rattle.split.proofs.descend.Statement.{statement}
 use Rattle.split.proofs.descend.Tie as tie
 use Rattle.split.proofs.descend.Reads as reads
@@ -13,30 +13,30 @@ use Rattle.split.proofs.split_entry.Reads as split-entry-reads
 
 -- src/lib.rt:42:22
 mul-word : tie.Need-mul-word
-mul-word c = search needs
+mul-word c = omega arith
 
 -- src/lib.rt:42:22
 add-word : tie.Need-add-word
-add-word c = search needs
+add-word c = omega arith
 
 -- src/lib.rt:42:16
 mul-word-2 : tie.Need-mul-word-2
-mul-word-2 c = search needs
+mul-word-2 c = omega arith
 
 -- src/lib.rt:42:16
 slice-read-word : tie.Need-slice-read-word
-slice-read-word c = search needs
+slice-read-word c = omega arith
 
 -- src/lib.rt:43:9
 subtable-requires : tie.Need-subtable-requires
-subtable-requires c κs = search needs
+subtable-requires c κs = tt
 
 -- src/lib.rt:44:20
 enum-known-kind : tie.Need-enum-known-kind
 enum-known-kind c = c .match .keys1
 
 enum-told : tie.Need-enum-told
-enum-told c = search needs
+enum-told c = c .match2 .keys1
 
 -- src/lib.rt:46:13
 returns : tie.Need-returns
@@ -52,11 +52,11 @@ split-entry-requires c κs =
 
 -- src/lib.rt:48:9
 same-length : tie.Need-same-length
-same-length c = search needs
+same-length c = c .before .before .before .before .split-entry .kept .0
 
 -- src/lib.rt:48:9
 same-length-2 : tie.Need-same-length-2
-same-length-2 c = search needs
+same-length-2 c = c .before .before .before .before .split-entry .kept .1 .0
 
 -- src/lib.rt:48:9
 returns-2 : tie.Need-returns-2

@@ -6,11 +6,12 @@ use Rattle.region.specs.Region.{region, entryIndex}
 use Rattle.region.specs.Chunks.{chunk-fits}
 use Rattle.entry.specs.Sub.{sub-found}
 use Rattle.entry.proofs.Tags.{is-outside}
-use Rattle.pool.specs.State.{st}
+use Rattle.pool.specs.State.{st, wordAt}
 use Rattle.edit.specs.Each.{eachChunk, each-done, each-step}
 use Rattle.edit.specs.Range.{chunkEdit}
+use Rattle.edit.specs.declared.Edit.{Edit}
 use Rattle.survey.specs.declared.Survey.{Survey}
-use Rattle.survey.specs.Find.{stepAt, survey-open, step-table, step-entry, step-outside}
+use Rattle.survey.specs.Find.{surveyEntry, surveyRange, stepAt, survey-open, step-table, step-entry, step-outside}
 use Rattle.survey.specs.Room.{Room, Adds, same-adds, entry-adds, range-adds, room-chunk, room-after}
 use Prim.Native.Nat.{ℕ, _<_}
 use borrow.Fn.Kinds.{In}
@@ -18,6 +19,7 @@ use borrow.Fn.PlainCycle.{Measures, is, falls, and}
 use Rattle.survey.proofs.survey_range.Reads as survey-range
 use Rattle.survey.proofs.survey_range.Kinds as survey-range-kinds
 use Rattle.survey.proofs.+survey_range.Lts-survey_range as survey-range-lts
+use Rattle.edit.proofs.chunk_edit.Reads as chunk-edit-reads
 use Rattle.entry.proofs.subtable.Reads as subtable-reads
 use Rattle.region.proofs.chunk_end.Reads as chunk-end-reads
 use Rattle.region.proofs.entry_index.Reads as entry-index-reads
@@ -41,7 +43,7 @@ survey-range-below t =
     survey-range.Pre
 
 abbrev calls : ℕ → survey-range-lts.Claims
-calls t = (chunk-end-reads.Asked, chunk-end-reads.Learnt, entry-index-reads.Asked, entry-index-reads.Learnt, subtable-reads.Asked, subtable-reads.Learnt, survey-entry-reads.Asked, survey-entry-reads.Learnt, survey-range-below t, survey-range.Post)
+calls t = (chunk-end-reads.Asked, chunk-end-reads.Learnt, entry-index-reads.Asked, entry-index-reads.Learnt, chunk-edit-reads.Asked, chunk-edit-reads.Learnt, subtable-reads.Asked, subtable-reads.Learnt, survey-entry-reads.Asked, survey-entry-reads.Learnt, survey-range-below t, survey-range.Post)
 
 abbrev survey-range-Inv-loop : survey-range-lts.InvT-loop
 survey-range-Inv-loop words ledger handle k level edit end at₀ seen₀ at seen =
@@ -112,21 +114,24 @@ survey-range-chunk-end-requires t c κs = tt
 survey-range-entry-index-requires : (t : ℕ) → survey-range-lts.Need-entry-index-requires (calls t) (survey-range-at t) survey-range.Post survey-range-Inv-loop survey-range-μ-loop
 survey-range-entry-index-requires t c κs = tt
 
+survey-range-chunk-edit-requires : (t : ℕ) → survey-range-lts.Need-chunk-edit-requires (calls t) (survey-range-at t) survey-range.Post survey-range-Inv-loop survey-range-μ-loop
+survey-range-chunk-edit-requires t c κs = tt
+
 -- src/lib.rt:162:26
 survey-range-mul-word : (t : ℕ) → survey-range-lts.Need-mul-word (calls t) (survey-range-at t) survey-range.Post survey-range-Inv-loop survey-range-μ-loop
-survey-range-mul-word t c = let p = c .before .before .before .before .before .before .pre .1 in omega (arith, facts t c .slot, p .0, p .1)
+survey-range-mul-word t c = let p = c .before .before .before .before .before .before .before .pre .1 in omega (arith, facts t (c .before) .slot, p .0, p .1)
 
 -- src/lib.rt:162:26
 survey-range-add-word : (t : ℕ) → survey-range-lts.Need-add-word (calls t) (survey-range-at t) survey-range.Post survey-range-Inv-loop survey-range-μ-loop
-survey-range-add-word t c = let p = c .before .before .before .before .before .before .pre .1 in omega (arith, facts t c .slot, p .0, p .1)
+survey-range-add-word t c = let p = c .before .before .before .before .before .before .before .pre .1 in omega (arith, facts t (c .before) .slot, p .0, p .1)
 
 -- src/lib.rt:162:20
 survey-range-mul-word-2 : (t : ℕ) → survey-range-lts.Need-mul-word-2 (calls t) (survey-range-at t) survey-range.Post survey-range-Inv-loop survey-range-μ-loop
-survey-range-mul-word-2 t c = let p = c .before .before .before .before .before .before .pre .1 in omega (arith, facts t c .slot, p .0, p .1)
+survey-range-mul-word-2 t c = let p = c .before .before .before .before .before .before .before .pre .1 in omega (arith, facts t (c .before) .slot, p .0, p .1)
 
 -- src/lib.rt:162:20
 survey-range-shared-slice-read-word : (t : ℕ) → survey-range-lts.Need-shared-slice-read-word (calls t) (survey-range-at t) survey-range.Post survey-range-Inv-loop survey-range-μ-loop
-survey-range-shared-slice-read-word t c = let p = c .before .before .before .before .before .before .before .pre .1 in omega (arith, facts t (c .before) .slot, p .0, p .1)
+survey-range-shared-slice-read-word t c = let p = c .before .before .before .before .before .before .before .before .pre .1 in omega (arith, facts t (c .before .before) .slot, p .0, p .1)
 
 -- src/lib.rt:163:13
 survey-range-subtable-requires : (t : ℕ) → survey-range-lts.Need-subtable-requires (calls t) (survey-range-at t) survey-range.Post survey-range-Inv-loop survey-range-μ-loop
@@ -141,34 +146,39 @@ survey-range-enum-told t c = c .match2 .keys1
 
 -- src/lib.rt:149:5
 survey-range-loop-less : (t : ℕ) → survey-range-lts.Need-loop-less (calls t) (survey-range-at t) survey-range.Post survey-range-Inv-loop survey-range-μ-loop
-survey-range-loop-less t c = let f = facts t (c .before .before .before .before) in omega (arith, f .above, f .under)
+survey-range-loop-less t c = let f = facts t (c .before .before .before .before .before) in omega (arith, f .above, f .under)
 
 -- src/lib.rt:149:5
 survey-range-loop-again : (t : ℕ) → survey-range-lts.Need-loop-again (calls t) (survey-range-at t) survey-range.Post survey-range-Inv-loop survey-range-μ-loop
 survey-range-loop-again t c =
-    let a = c .before .before .before .before .before .before .before .before .before .before .args in
-    let f = facts t (c .before .before .before .before) in
+    let a = c .before .before .before .before .before .before .before .before .before .before .before .args in
+    let f = facts t (c .before .before .before .before .before) in
     let s = st (a .words .now) (a .ledger .now) in
-    let r = region (c .before .before .before .before .before .before .before .loop .at) (c .before .before .before .before .before .chunk-end .result) in
-    again t (c .before .before .before .before) (c .before .before .before .before .before .before .before .loop .seen) (same-adds r (c .before .before .before .before .before .before .before .loop .seen)) (step-outside (a .handle) s (a .level) (a .k) (a .edit) r (c .before .before .before .before .before .before .before .loop .seen) (f .index) (c .before .before .subtable .ensures) (is-outside _ (c .before .match .keys2) (c .match2 .keys2)))
+    let r = region (c .before .before .before .before .before .before .before .before .loop .at) (c .before .before .before .before .before .before .chunk-end .result) in
+    again t (c .before .before .before .before .before) (c .before .before .before .before .before .before .before .before .loop .seen) (same-adds r (c .before .before .before .before .before .before .before .before .loop .seen)) (step-outside (a .handle) s (a .level) (a .k) (a .edit) r (c .before .before .before .before .before .before .before .before .loop .seen) (f .index) (c .before .before .subtable .ensures) (is-outside _ (c .before .match .keys2) (c .match2 .keys2)))
 
 -- src/lib.rt:168:13
 survey-range-survey-entry-requires : (t : ℕ) → survey-range-lts.Need-survey-entry-requires (calls t) (survey-range-at t) survey-range.Post survey-range-Inv-loop survey-range-μ-loop
-survey-range-survey-entry-requires t c κs = let f = facts t (c .before .before .before .before .before) in (f .above, f .room)
+survey-range-survey-entry-requires t c κs =
+    let f = facts t (c .before .before .before .before .before .before) in
+    subst⁻¹ (λ (e : Edit). (e .region .start .0 < e .region .end .0) × Room (e .region) (c .before .before .before .before .before .before .before .before .before .loop .seen)) (c .before .before .before .before .before .chunk-edit .ensures) (f .above, f .room)
 
 -- src/lib.rt:149:5
 survey-range-loop-less-2 : (t : ℕ) → survey-range-lts.Need-loop-less-2 (calls t) (survey-range-at t) survey-range.Post survey-range-Inv-loop survey-range-μ-loop
-survey-range-loop-less-2 t c = let f = facts t (c .before .before .before .before .before .before) in omega (arith, f .above, f .under)
+survey-range-loop-less-2 t c = let f = facts t (c .before .before .before .before .before .before .before) in omega (arith, f .above, f .under)
 
 -- src/lib.rt:149:5
 survey-range-loop-again-2 : (t : ℕ) → survey-range-lts.Need-loop-again-2 (calls t) (survey-range-at t) survey-range.Post survey-range-Inv-loop survey-range-μ-loop
 survey-range-loop-again-2 t c =
-    let a = c .before .before .before .before .before .before .before .before .before .before .before .before .args in
-    let f = facts t (c .before .before .before .before .before .before) in
+    let a = c .before .before .before .before .before .before .before .before .before .before .before .before .before .args in
+    let place = c .before .before .before .before .before .before .before in
+    let f = facts t place in
     let s = st (a .words .now) (a .ledger .now) in
-    let r = region (c .before .before .before .before .before .before .before .before .before .loop .at) (c .before .before .before .before .before .before .before .chunk-end .result) in
-    let adds = subst⁻¹ (λ (x : Survey). Adds r (c .before .before .before .before .before .before .before .before .before .loop .seen) x) (c .survey-entry .ensures) (entry-adds (a .handle) (a .level) (chunkEdit (a .edit) r) _ (c .before .before .before .before .before .before .before .before .before .loop .seen) (f .above)) in
-    again t (c .before .before .before .before .before .before) _ adds (c .survey-entry .ensures ∙ step-entry (a .handle) s (a .level) (a .k) (a .edit) r (c .before .before .before .before .before .before .before .before .before .loop .seen) (f .index) (c .before .before .before .before .subtable .ensures) (c .before .enum-told .given .1))
+    let seen = place .before .before .before .loop .seen in
+    let r = region (place .before .before .before .loop .at) (place .before .chunk-end .result) in
+    let done = c .survey-entry .ensures ∙ ap (λ (e : Edit). surveyEntry (a .handle) (a .level) e (wordAt s (a .k) (place .entry-index .result)) seen) (c .before .before .before .before .before .before .chunk-edit .ensures) in
+    let adds = subst⁻¹ (Adds r seen) done (entry-adds (a .handle) (a .level) (chunkEdit (a .edit) r) _ seen (f .above)) in
+    again t place _ adds (done ∙ step-entry (a .handle) s (a .level) (a .k) (a .edit) r seen (f .index) (c .before .before .before .before .subtable .ensures) (c .before .enum-told .given .1))
 
 -- src/lib.rt:171:55
 survey-range-add-survey-range : (t : ℕ) → survey-range-lts.Need-add-survey-range (calls t) (survey-range-at t) survey-range.Post survey-range-Inv-loop survey-range-μ-loop
@@ -179,24 +189,29 @@ survey-range-add-survey-range t c =
 -- src/lib.rt:171:9
 survey-range-survey-range-requires : (t : ℕ) → survey-range-lts.Need-survey-range-requires (calls t) (survey-range-at t) survey-range.Post survey-range-Inv-loop survey-range-μ-loop
 survey-range-survey-range-requires t c κs =
-    let p = c .before .before .before .before .before .before .before .before .before .before .before .pre in
+    let p = c .before .before .before .before .before .before .before .before .before .before .before .before .pre in
     let found = sub-found _ _ _ _ _ (sym (c .before .before .before .subtable .ensures) ∙ c .before .kind .given .1) in
-    (omega (arith, found .high, p .0), (p .1 .0, found .below, omega (arith, found .high), facts t (c .before .before .before .before .before) .room))
+    let room = subst⁻¹ (λ (e : Edit). Room (e .region) (c .before .before .before .before .before .before .before .before .before .loop .seen)) (c .before .before .before .before .before .chunk-edit .ensures) (facts t (c .before .before .before .before .before .before) .room) in
+    (omega (arith, found .high, p .0), (p .1 .0, found .below, omega (arith, found .high), room))
 
 -- src/lib.rt:149:5
 survey-range-loop-less-3 : (t : ℕ) → survey-range-lts.Need-loop-less-3 (calls t) (survey-range-at t) survey-range.Post survey-range-Inv-loop survey-range-μ-loop
-survey-range-loop-less-3 t c = let f = facts t (c .before .before .before .before .before .before) in omega (arith, f .above, f .under)
+survey-range-loop-less-3 t c = let f = facts t (c .before .before .before .before .before .before .before) in omega (arith, f .above, f .under)
 
 -- src/lib.rt:149:5
 survey-range-loop-again-3 : (t : ℕ) → survey-range-lts.Need-loop-again-3 (calls t) (survey-range-at t) survey-range.Post survey-range-Inv-loop survey-range-μ-loop
 survey-range-loop-again-3 t c =
-    let a = c .before .before .before .before .before .before .before .before .before .before .before .before .args in
-    let f = facts t (c .before .before .before .before .before .before) in
+    let a = c .before .before .before .before .before .before .before .before .before .before .before .before .before .args in
+    let place = c .before .before .before .before .before .before .before in
+    let f = facts t place in
     let s = st (a .words .now) (a .ledger .now) in
-    let r = region (c .before .before .before .before .before .before .before .before .before .loop .at) (c .before .before .before .before .before .before .before .chunk-end .result) in
+    let seen = place .before .before .before .loop .seen in
+    let r = region (place .before .before .before .loop .at) (place .before .chunk-end .result) in
+    let j = c .before .before .kind .given .0 .0 in
     let found = sub-found _ _ _ _ _ (sym (c .before .before .before .before .subtable .ensures) ∙ c .before .before .kind .given .1) in
-    let adds = subst⁻¹ (λ (x : Survey). Adds r (c .before .before .before .before .before .before .before .before .before .loop .seen) x) (c .survey-range .ensures) (range-adds (3 - (a .level + 1)) (a .handle) s _ (chunkEdit (a .edit) r) (c .before .before .before .before .before .before .before .before .before .loop .seen)) in
-    again t (c .before .before .before .before .before .before) _ adds (c .survey-range .ensures ∙ step-table (a .handle) s (a .level) (a .k) (a .edit) r (c .before .before .before .before .before .before .before .before .before .loop .seen) (f .index) (c .before .before .before .before .subtable .ensures) _ (c .before .before .kind .given .1) (found .high))
+    let done = c .survey-range .ensures ∙ ap (λ (e : Edit). surveyRange (3 - (a .level + 1)) (a .handle) s j e seen) (c .before .before .before .before .before .before .chunk-edit .ensures) in
+    let adds = subst⁻¹ (Adds r seen) done (range-adds (3 - (a .level + 1)) (a .handle) s j (chunkEdit (a .edit) r) seen) in
+    again t place _ adds (done ∙ step-table (a .handle) s (a .level) (a .k) (a .edit) r seen (f .index) (c .before .before .before .before .subtable .ensures) j (c .before .before .kind .given .1) (found .high))
 
 -- src/lib.rt:134:1
 survey-range-returns : (t : ℕ) → survey-range-lts.Need-returns (calls t) (survey-range-at t) survey-range.Post survey-range-Inv-loop survey-range-μ-loop
@@ -217,6 +232,7 @@ pub +survey-range-spec : {M : Type 1} → statement M
     (survey-range-loop-holds t)
     (survey-range-chunk-end-requires t)
     (survey-range-entry-index-requires t)
+    (survey-range-chunk-edit-requires t)
     (survey-range-mul-word t)
     (survey-range-add-word t)
     (survey-range-mul-word-2 t)

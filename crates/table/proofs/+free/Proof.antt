@@ -1,11 +1,11 @@
 use mathlib.Core.Logic.{⊎-elim}
 use Rattle.entry.proofs.Tags.{no-table}
-use mathlib.Core.Path.{_≡_, refl, sym, ap, _∙_}
-use Prim.Native.Nat.{_+_, _-_, _≤_}
+use mathlib.Core.Path.{_≡_, refl, sym, ap, _∙_, subst⁻¹}
+use Prim.Native.Nat.{_+_, _*_, _-_, _≤_}
 use native.Mathlib.Omega.{arith}
 use lib.ListN.{length}
 use Rattle.laws.specs.Slot.{iter, iter-none, iter-step}
-use Rattle.entry.specs.Sub.{sub-below}
+use Rattle.entry.specs.Sub.{sub-found}
 use Rattle.pool.specs.State.{St, st}
 use Rattle.pool.specs.declared.Handle.{Handle}
 use Rattle.table.specs.Table.{clear, freeSlot, freeTree, slot-table, slot-outside, slot-leaf, free-down, free-last}
@@ -44,17 +44,21 @@ free-Inv-loop words₀ ledger₀ handle k level i₀ words ledger i =
 abbrev free-μ-loop : free-lts.MeasureT-loop
 free-μ-loop words₀ ledger₀ handle k level i₀ words ledger i = 512 - i
 
+-- a table's level is one of the upper three
+lower : {level t : ℕ} → 3 - level ≡ t → level < 3 → (3 - (level + 1) < t) × (level + 1 ≤ 3)
+lower e h = (omega arith, omega arith)
+
 -- src/table.rt:93:9
 free-clear-table-requires : (t : ℕ) → free-lts.Need-clear-table-requires (calls t) (free-at t) free.Post free-Inv-loop free-μ-loop
-free-clear-table-requires t c κs = omega arith
+free-clear-table-requires t c κs = let p = c .before .before .before .before .before .pre .1 in (p .0, p .1)
 
 -- src/table.rt:94:9
 free-same-length : (t : ℕ) → free-lts.Need-same-length (calls t) (free-at t) free.Post free-Inv-loop free-μ-loop
-free-same-length t c = omega arith
+free-same-length t c = c .before .before .before .before .clear-table .kept .0
 
 -- src/table.rt:94:9
 free-same-length-2 : (t : ℕ) → free-lts.Need-same-length-2 (calls t) (free-at t) free.Post free-Inv-loop free-μ-loop
-free-same-length-2 t c = omega arith
+free-same-length-2 t c = c .before .before .before .before .clear-table .kept .1 .0
 
 -- src/table.rt:94:9
 free-returns : (t : ℕ) → free-lts.Need-returns (calls t) (free-at t) free.Post free-Inv-loop free-μ-loop
@@ -88,7 +92,7 @@ free-add-i t c = omega arith
 
 -- src/table.rt:100:13
 free-subtable-requires : (t : ℕ) → free-lts.Need-subtable-requires (calls t) (free-at t) free.Post free-Inv-loop free-μ-loop
-free-subtable-requires t c κs = omega arith
+free-subtable-requires t c κs = tt
 
 -- src/table.rt:101:24
 free-enum-known-kind : (t : ℕ) → free-lts.Need-enum-known-kind (calls t) (free-at t) free.Post free-Inv-loop free-μ-loop
@@ -121,8 +125,12 @@ free-add-free t c = omega arith
 -- src/table.rt:104:9
 free-free-requires : (t : ℕ) → free-lts.Need-free-requires (calls t) (free-at t) free.Post free-Inv-loop free-μ-loop
 free-free-requires t c κs =
-    let sub = c .before .before .before .before .before .subtable in
-    (omega arith, (omega arith, sub-below _ _ _ _ _ (sym (sub .ensures) ∙ c .before .before .before .kind .given .1), omega arith))
+    let told = c .before .before .before in
+    let found = sub-found _ _ _ _ _ (sym (told .before .before .subtable .ensures) ∙ told .kind .given .1) in
+    let inv = c .before .before .before .before .before .before .before .before .loop .inv in
+    let p = c .before .before .before .before .before .before .before .before .before .before .before .before .pre in
+    let low = lower (p .0) (found .high) in
+    (low .0, (inv .1 ∙ p .1 .0 ∙ ap (λ (n : ℕ). 512 * n) (sym (inv .2)), found .below, low .1))
 
 -- src/table.rt:97:5
 free-loop-less-2 : (t : ℕ) → free-lts.Need-loop-less-2 (calls t) (free-at t) free.Post free-Inv-loop free-μ-loop
@@ -135,24 +143,27 @@ free-loop-again-2 t c =
     let a = c .before .before .before .before .before .before .before .before .before .before .before .before .before .before .before .before .before .args in
     let s = st (at .loop .words) (at .loop .ledger) in
     let called = c .before .before .before .before in (
-      omega arith,
-      omega arith,
-      omega arith,
+      omega (arith, c .before .before .before .before .before .before .before .before .before .before .before .before .loop-test .taken),
+      called .free .kept .0 ∙ at .loop .inv .1,
+      called .free .kept .1 .0 ∙ at .loop .inv .2,
       iter-step (freeSlot (below (a .level) (a .handle)) (a .handle) (a .level) (a .k)) (at .loop .i) (st (a .words .now) (a .ledger .now)) (at .loop .inv .3)
           (called .free .ensures ∙ slot-table (below (a .level) (a .handle)) (a .handle) (a .level) (a .k) (at .loop .i) s (c .before .before .before .before .before .before .before .before .before .before .subtable .ensures) _ (c .before .before .before .before .before .before .before .before .kind .given .1)),
     )
 
 -- src/table.rt:106:5
 free-clear-table-requires-2 : (t : ℕ) → free-lts.Need-clear-table-requires-2 (calls t) (free-at t) free.Post free-Inv-loop free-μ-loop
-free-clear-table-requires-2 t c κs = omega arith
+free-clear-table-requires-2 t c κs =
+    let inv = c .before .before .before .loop .inv in
+    let p = c .before .before .before .before .before .before .before .pre .1 in
+    (inv .1 ∙ p .0 ∙ ap (λ (n : ℕ). 512 * n) (sym (inv .2)), subst⁻¹ (λ (n : ℕ). c .before .before .before .before .before .before .before .args .k < n) (inv .2) (p .1))
 
 -- src/table.rt:88:1
 free-same-length-3 : (t : ℕ) → free-lts.Need-same-length-3 (calls t) (free-at t) free.Post free-Inv-loop free-μ-loop
-free-same-length-3 t c = omega arith
+free-same-length-3 t c = c .before .before .before .before .clear-table2 .kept .0 ∙ c .before .before .before .before .before .before .before .before .loop .inv .1
 
 -- src/table.rt:88:1
 free-same-length-4 : (t : ℕ) → free-lts.Need-same-length-4 (calls t) (free-at t) free.Post free-Inv-loop free-μ-loop
-free-same-length-4 t c = omega arith
+free-same-length-4 t c = c .before .before .before .before .clear-table2 .kept .1 .0 ∙ c .before .before .before .before .before .before .before .before .loop .inv .2
 
 -- src/table.rt:88:1
 free-returns-2 : (t : ℕ) → free-lts.Need-returns-2 (calls t) (free-at t) free.Post free-Inv-loop free-μ-loop

@@ -1,6 +1,6 @@
 use mathlib.Core.List.{List}
 use mathlib.Core.Path.{_≡_, sym, ap, ap₂, _∙_}
-use Prim.Native.Nat.{ℕ, _+_, _*_, _-_}
+use Prim.Native.Nat.{ℕ, _+_, _*_, _-_, _^_, _≤_, _<_}
 use native.Mathlib.Omega.{arith}
 use lib.ListN.{set}
 use borrow.Rule.Slice.PartMut.{putMid}
@@ -24,17 +24,30 @@ use Rattle.table.proofs.fill.Reads as fill-reads
 lowest : (c : tie.After-known-told) → Lowest (c .before .before .before .before .before .before .before .args .ledger .now) (c .before .free .given .0 .0)
 lowest c = lowest-found (c .before .before .before .before .before .before .before .args .ledger .now) _ (sym (c .before .before .before .lowest-free .ensures) ∙ c .before .free .given .1)
 
+-- the parts of the new table's number fit
+record Fits (level p i : ℕ) : Type 0 where
+  front : 4 + level < 2 ^ 64
+  row : 512 * p < 2 ^ 64
+  slot : 512 * p + i < 2 ^ 64
+
+fits : (n level p i : ℕ) → n ≤ maxTables → level ≤ 3 → p < n → i < 512 → Fits level p i
+unfolding maxTables
+fits n level p i most low inside slot = record { front = omega arith; row = omega arith; slot = omega arith }
+
+parts : (c : tie.Start) → let a = c .args in Fits (a .level) (a .p) (a .i)
+parts c = let p = c .pre in fits _ _ _ _ (p .0 .limit) (p .1) (p .2) (p .3)
+
 -- src/table.rt:75:9
 lowest-free-requires : tie.Need-lowest-free-requires
 lowest-free-requires c κs = omega arith
 
 -- src/table.rt:76:19
 enum-known-free : tie.Need-enum-known-free
-enum-known-free c = omega arith
+enum-known-free c = c .match .keys1
 
 -- src/table.rt:77:9
 enum-told : tie.Need-enum-told
-enum-told c = omega arith
+enum-told c = c .match .keys2
 
 -- src/table.rt:77:9
 same-length : tie.Need-same-length
@@ -76,15 +89,15 @@ fill-requires c κs = omega arith
 
 -- src/table.rt:82:18
 add-ledger : tie.Need-add-ledger
-add-ledger c = omega arith
+add-ledger c = record { fits = parts (c .before .before .before .before .before .before .before .before .before .before .before) .front }
 
 -- src/table.rt:82:35
 mul-ledger : tie.Need-mul-ledger
-mul-ledger c = omega arith
+mul-ledger c = record { fits = parts (c .before .before .before .before .before .before .before .before .before .before .before) .row }
 
 -- src/table.rt:82:35
 add-ledger-2 : tie.Need-add-ledger-2
-add-ledger-2 c = omega arith
+add-ledger-2 c = record { fits = parts (c .before .before .before .before .before .before .before .before .before .before .before) .slot }
 
 -- src/table.rt:82:35
 add-ledger-3 : tie.Need-add-ledger-3
@@ -113,11 +126,11 @@ slice-write-ledger c = let h = lowest (c .before .before .before .before) .insid
 
 -- src/table.rt:83:26
 link-requires : tie.Need-link-requires
-link-requires c κs = omega arith
+link-requires c κs = tt
 
 -- src/table.rt:83:11
 mul-words : tie.Need-mul-words
-mul-words c = omega arith
+mul-words c = record { fits = parts (c .before .before .before .before .before .before .before .before .before .before .before .before) .row }
 
 -- src/table.rt:83:11
 add-words : tie.Need-add-words

@@ -1,55 +1,41 @@
-use borrow.Author.Fill.{fill-more}
-use mathlib.Core.List.{_++_}
-use mathlib.Core.Path.{_≡_, refl, _∙_}
-use Prim.Native.Nat.{_≤_, _-_}
+use Prim.Native.Nat.{_-_}
 use native.Mathlib.Omega.{arith}
-use lib.ListN.{length, drop, replicate, length-set}
-use Rattle.laws.specs.Part.{zeroed}
+use lib.ListN.{length}
+use Rattle.pool.proofs.zero.Front.{Front, front-none, front-more, front-all}
 use Rattle.pool.proofs.zero.zero_words.Statement.{statement}
 use Rattle.pool.proofs.zero.zero_words.Tie as tie
 use Rattle.pool.proofs.zero.zero_words.Reads as reads
 use Rattle.pool.proofs.zero.zero_words.Lts as lts
 
 abbrev Inv-loop : tie.InvT-loop
-Inv-loop words₀ i₀ words i = (i ≤ length words₀) × (length words ≡ length words₀) × (words ≡ replicate i 0 ++ drop i words₀)
+Inv-loop words₀ i₀ words i = Front words₀ words i
 
 abbrev μ-loop : tie.MeasureT-loop
 μ-loop words₀ i₀ words i = length words₀ - i
 
--- src/table.rt:18:5
 loop-holds : tie.Need-loop-holds Inv-loop μ-loop
-loop-holds c = (omega arith, refl, refl)
+loop-holds c = front-none _
 
--- src/table.rt:19:9
 mul-words : tie.Need-mul-words Inv-loop μ-loop
 mul-words c = omega arith
 
--- src/table.rt:19:9
 slice-write-words : tie.Need-slice-write-words Inv-loop μ-loop
-slice-write-words c = omega arith
+slice-write-words c = c .loop-test .taken
 
--- src/table.rt:20:9
 add-i : tie.Need-add-i Inv-loop μ-loop
 add-i c = omega arith
 
--- src/table.rt:18:5
 loop-less : tie.Need-loop-less Inv-loop μ-loop
 loop-less c = omega arith
 
--- src/table.rt:18:5
 loop-again : tie.Need-loop-again Inv-loop μ-loop
-loop-again c =
-    let at = c .before in
-    let l = at .before .args .words .now in
-    (omega arith, length-set (at .loop .words) (at .loop .i) 0 ∙ at .loop .inv .1, rw (at .loop .inv .2) (fill-more (at .loop .i) 0 l (omega arith)))
+loop-again c = front-more (c .loop-test .taken) (c .before .loop .inv)
 
--- src/table.rt:14:1
 same-length : tie.Need-same-length Inv-loop μ-loop
-same-length c = omega arith
+same-length c = c .before .loop .inv .long
 
--- src/table.rt:14:1
 returns : tie.Need-returns Inv-loop μ-loop
-returns c = let at = c .before in at .loop .inv .2 ∙ zeroed (at .before .args .words .now) (at .loop .i) (omega arith)
+returns c = front-all (omega arith) (c .before .loop .inv)
 
 pub zero-words-spec : {M : Type 1} → statement M
 zero-words-spec =

@@ -1,0 +1,11 @@
+use mathlib.Core.Path.{refl}
+use Rattle.edit.proofs.chunk_edit.Statement.{statement}
+use Rattle.edit.proofs.chunk_edit.Tie as tie
+use Rattle.edit.proofs.chunk_edit.Reads as reads
+use Rattle.edit.proofs.chunk_edit.Lts as lts
+
+returns : tie.Need-returns
+returns c = refl
+
+pub chunk-edit-spec : {M : Type 1} → statement M
+chunk-edit-spec = tie.close (tie.spec returns)

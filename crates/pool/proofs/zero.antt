@@ -1,0 +1,2 @@
+-- What the two loops share.
+mod Front

@@ -1,5 +1,5 @@
 -- Document 01, "Bench cases": base 0x8000_0000, root level 1, lower, n = 8, flags 0x401. The starred cases of map, by computing the definitions. Assumes nothing.
-use mathlib.Core.List.{List, [], _∷_}
+use mathlib.Core.List.{List}
 use mathlib.Core.Path.{_≡_, refl}
 use Prim.Native.Nat.{ℕ, _+_, _*_}
 use lib.ListN.{set, replicate}
@@ -8,16 +8,16 @@ use Rattle.laws.specs.Slot.{iter}
 use Rattle.laws.specs.Part.{putPart}
 use Rattle.laws.specs.Test.{allBelow, allFrom}
 use Rattle.address.specs.Address.{alignUp}
-use Rattle.entry.specs.Word.{addressOf, flagsOf, kindOf, linkOf, only, el1Flags}
+use Rattle.entry.specs.Word.{addressOf, flagsOf, kindOf, linkOf, only, el1Flags, plainFlags, valid, leafWord}
 use Rattle.entry.specs.Sub.{inPool, leads, subOf}
-use Rattle.region.specs.Region.{rounded, entryLast, entryIndex, chunkEnd}
+use Rattle.region.specs.Region.{rounded, entryLast, entryIndex, chunkEnd, whole}
 use Rattle.region.specs.Chunks.{met, chunksIn, chunks}
 use Rattle.pool.specs.Number.{rootNumber, numberOf, firstFrom, lowestFree, used, free}
 use Rattle.pool.specs.State.{St, st}
 use Rattle.table.specs.Table.{putTable, zeros, clear, rising, takeAt, takeFound, takeTable, freeSub, freeSlot, freeTree}
 use Rattle.pool.specs.Refuse.{maxTables, shaped, out}
 use Rattle.pool.specs.Make.{makeCall, fresh as freshly}
-use Rattle.pool.specs.Sound.{flagSet, plainFlags, fits, leafb, namesb, hangsb, tableb, linkb, refersb, slotb, soundb}
+use Rattle.pool.specs.Sound.{flagSet, fits, leafb, namesb, hangsb, tableb, linkb, refersb, slotb, soundb}
 use Rattle.pool.specs.declared.Handle.{Handle}
 use Rattle.pool.specs.declared.Refusal.the-variants.{WantOfRoom}
 use Rattle.pool.specs.declared.Counted.{Counted}
@@ -25,7 +25,7 @@ use Rattle.pool.specs.declared.Counted.the-variants.{Tables, Refused}
 use Rattle.pool.specs.declared.Outcome.the-variants.{Accepted}
 use Rattle.pool.specs.declared.VaRange.the-variants.{Lower}
 use Rattle.verify.specs.Verify.{endFits, span, inRange, verify}
-use Rattle.rules.specs.Rules.{valid, tableWord, leafWord, whole, rule2, blockable, rule3, rule4, ruleOf, fillOf}
+use Rattle.rules.specs.Rules.{tableWord, rule2, blockable, rule3, rule4, ruleOf, fillOf}
 use Rattle.split.specs.Split.{splitEntry, belowOf, below, inFound, into}
 use Rattle.put.specs.Put.{dropEntry, byRule, mapChunk, eachOf, eachChunk, mapRange}
 use Rattle.need.specs.Needed.{ifDown, sumOf, sumChunks, childWord, neededLeaf, needBelow, needChunk, needTable, needed}
@@ -145,9 +145,17 @@ Maps =
     × Holds H
 
 pub starred-maps : Maps
-unfolding sizeAt down up iter putPart allBelow allFrom alignUp addressOf flagsOf kindOf linkOf only el1Flags inPool leads subOf rounded entryLast entryIndex chunkEnd met chunksIn chunks rootNumber numberOf firstFrom lowestFree used free putTable zeros clear rising takeAt takeFound takeTable freeSub freeSlot freeTree maxTables shaped flagSet plainFlags fits leafb namesb hangsb tableb linkb refersb slotb soundb endFits span inRange verify valid tableWord leafWord whole rule2 blockable rule3 rule4 ruleOf fillOf splitEntry belowOf below inFound into dropEntry byRule mapChunk eachOf eachChunk mapRange ifDown sumOf sumChunks childWord neededLeaf needBelow needChunk needTable needed asked frameAsked first verifyMap putDown mapSound orElse mapCall handle fresh word table Holds poolA poolB poolD poolF poolG poolH A B CD EF G H
+unfolding sizeAt down up iter putPart allBelow allFrom alignUp addressOf flagsOf kindOf linkOf only el1Flags inPool leads subOf rounded entryLast entryIndex chunkEnd met
+    chunksIn chunks rootNumber numberOf firstFrom lowestFree used free putTable zeros clear rising takeAt takeFound takeTable freeSub freeSlot freeTree maxTables shaped flagSet
+    plainFlags fits leafb namesb hangsb tableb linkb refersb slotb soundb endFits span inRange verify valid tableWord leafWord whole rule2 blockable rule3 rule4 ruleOf fillOf
+    splitEntry belowOf below inFound into dropEntry byRule mapChunk eachOf eachChunk mapRange ifDown sumOf sumChunks childWord neededLeaf needBelow needChunk needTable needed
+    asked frameAsked first verifyMap putDown mapSound orElse mapCall handle fresh word table Holds poolA poolB poolD poolF poolG poolH A B CD EF G H
 starred-maps = (refl, refl, refl, refl, refl, refl, refl, refl, refl, refl, refl)
 
 pub two-blocks : Holds AA
-unfolding sizeAt down up iter putPart allBelow allFrom alignUp addressOf flagsOf kindOf linkOf only el1Flags inPool leads subOf rounded entryLast entryIndex chunkEnd met chunksIn chunks rootNumber numberOf firstFrom lowestFree used free putTable zeros clear rising takeAt takeFound takeTable freeSub freeSlot freeTree maxTables shaped flagSet plainFlags fits leafb namesb hangsb tableb linkb refersb slotb soundb endFits span inRange verify valid tableWord leafWord whole rule2 blockable rule3 rule4 ruleOf fillOf splitEntry belowOf below inFound into dropEntry byRule mapChunk eachOf eachChunk mapRange ifDown sumOf sumChunks childWord neededLeaf needBelow needChunk needTable needed asked frameAsked first verifyMap putDown mapSound orElse mapCall handle fresh word table Holds poolA poolAA AA
+unfolding sizeAt down up iter putPart allBelow allFrom alignUp addressOf flagsOf kindOf linkOf only el1Flags inPool leads subOf rounded entryLast entryIndex chunkEnd met
+    chunksIn chunks rootNumber numberOf firstFrom lowestFree used free putTable zeros clear rising takeAt takeFound takeTable freeSub freeSlot freeTree maxTables shaped flagSet
+    plainFlags fits leafb namesb hangsb tableb linkb refersb slotb soundb endFits span inRange verify valid tableWord leafWord whole rule2 blockable rule3 rule4 ruleOf fillOf
+    splitEntry belowOf below inFound into dropEntry byRule mapChunk eachOf eachChunk mapRange ifDown sumOf sumChunks childWord neededLeaf needBelow needChunk needTable needed
+    asked frameAsked first verifyMap putDown mapSound orElse mapCall handle fresh word table Holds poolA poolAA AA
 two-blocks = refl

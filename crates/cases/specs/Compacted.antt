@@ -4,11 +4,11 @@ use Rattle.laws.specs.Size.{sizeAt}
 use Rattle.laws.specs.Slot.{iter}
 use Rattle.laws.specs.Part.{putPart}
 use Rattle.laws.specs.Test.{allBelow, allFrom}
-use Rattle.entry.specs.Word.{addressOf, kindOf, linkOf, only, el1Flags}
+use Rattle.entry.specs.Word.{addressOf, kindOf, linkOf, only, el1Flags, plainFlags}
 use Rattle.entry.specs.Sub.{inPool, leads, subOf}
 use Rattle.pool.specs.Number.{rootNumber, used}
 use Rattle.pool.specs.Refuse.{maxTables, shaped, out}
-use Rattle.pool.specs.Sound.{flagSet, plainFlags, fits, leafb, namesb, hangsb, tableb, linkb, refersb, slotb, soundb}
+use Rattle.pool.specs.Sound.{flagSet, fits, leafb, namesb, hangsb, tableb, linkb, refersb, slotb, soundb}
 use Rattle.pool.specs.declared.Counted.the-variants.{Tables}
 use Rattle.table.specs.Table.{putTable, zeros, clear}
 use Rattle.compact.specs.Compact.{allZero, releaseEmpty, compactSub, compactEntry, compactTable}
@@ -20,5 +20,7 @@ abbrev pub G : Type 0
 G = compactCall (handle 1) poolG ≡ out (Tables 1) (fresh 1 8)
 
 pub case-G : G
-unfolding sizeAt iter putPart allBelow allFrom addressOf kindOf linkOf only el1Flags inPool leads subOf rootNumber used maxTables shaped flagSet plainFlags fits leafb namesb hangsb tableb linkb refersb slotb soundb putTable zeros clear allZero releaseEmpty compactSub compactEntry compactTable compacted compactSound compactCall handle fresh word table poolG
+unfolding sizeAt iter putPart allBelow allFrom addressOf kindOf linkOf only el1Flags inPool leads subOf rootNumber used maxTables shaped flagSet plainFlags fits leafb namesb
+    hangsb tableb linkb refersb slotb soundb putTable zeros clear allZero releaseEmpty compactSub compactEntry compactTable compacted compactSound compactCall handle fresh word
+    table poolG
 case-G = refl

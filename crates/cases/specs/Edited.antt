@@ -7,27 +7,27 @@ use Rattle.laws.specs.Size.{sizeAt, down, up}
 use Rattle.laws.specs.Part.{putPart}
 use Rattle.laws.specs.Test.{allBelow, allFrom}
 use Rattle.address.specs.Address.{alignUp}
-use Rattle.entry.specs.Word.{addressOf, flagsOf, kindOf, linkOf, only, el1Flags}
+use Rattle.entry.specs.Word.{addressOf, flagsOf, kindOf, linkOf, only, el1Flags, edited, plainFlags, valid, leafWord}
 use Rattle.entry.specs.Sub.{inPool, leads, subOf}
-use Rattle.region.specs.Region.{rounded, entryLast, entryIndex, chunkEnd}
+use Rattle.region.specs.Region.{rounded, entryLast, entryIndex, chunkEnd, whole}
 use Rattle.region.specs.Chunks.{met, chunksIn, chunks}
 use Rattle.pool.specs.Number.{rootNumber, numberOf, firstFrom, lowestFree, used, free}
 use Rattle.pool.specs.State.{St}
 use Rattle.table.specs.Table.{putTable, zeros, rising, takeAt, takeFound, takeTable}
 use Rattle.pool.specs.Refuse.{maxTables, shaped}
-use Rattle.pool.specs.Sound.{flagSet, plainFlags, fits, leafb, namesb, hangsb, tableb, linkb, refersb, slotb, soundb}
+use Rattle.pool.specs.Sound.{flagSet, fits, leafb, namesb, hangsb, tableb, linkb, refersb, slotb, soundb}
 use Rattle.pool.specs.declared.Refusal.the-variants.{HouseRule}
 use Rattle.verify.specs.Verify.{endFits, span, inRange, verify}
-use Rattle.rules.specs.Rules.{valid, tableWord, leafWord, whole, fillOf}
+use Rattle.rules.specs.Rules.{tableWord, fillOf}
 use Rattle.split.specs.Split.{splitEntry, belowOf, below}
-use Rattle.edit.specs.Word.{edited, ofKind, editWord}
+use Rattle.edit.specs.Word.{ofKind, editWord}
 use Rattle.edit.specs.Each.{eachOf, eachChunk}
 use Rattle.edit.specs.Own.{putNumber, ownChunk, ownRange}
 use Rattle.edit.specs.Range.{own, onward, downChunk, ownWork, modifyRange}
 use Rattle.survey.specs.House.{houseRule, mayChange}
 use Rattle.survey.specs.Find.{adding, splitsIn, breach, ifBlock, surveyPart, surveyWhole, surveyEntry, surveySub, surveyChunk, surveyRange}
 use Rattle.modify.specs.Ask.{asked, verifyBits, thenRegion, verifyEdit, verifySurvey}
-use Rattle.modify.specs.Call.{modifying, answerOf, editTables, nothing, surveyOf, orElse, modifySound, modifyCall}
+use Rattle.modify.specs.Call.{modifying, answerOf, editTables, orElse, modifySound, modifyCall}
 use Rattle.modify.specs.declared.Modified.{Modified}
 use Rattle.modify.specs.declared.Modified.the-variants.{Tables, Live, Refused}
 use Rattle.cases.specs.Bench.{handle, fresh, word, table, poolA, poolF}
@@ -49,5 +49,9 @@ abbrev pub Still : Type 0
 Still = Sets 0x1000 0x2000 false (Tables 3) (word 2 1 0x4000_1483 poolF) (7 ∷ 7 ∷ [])
 
 pub case-I : Whole × Part × Still
-unfolding sizeAt down up putPart allBelow allFrom alignUp addressOf flagsOf kindOf linkOf only el1Flags inPool leads subOf rounded entryLast entryIndex chunkEnd met chunksIn chunks rootNumber numberOf firstFrom lowestFree used free putTable zeros rising takeAt takeFound takeTable maxTables shaped flagSet plainFlags fits leafb namesb hangsb tableb linkb refersb slotb soundb endFits span inRange verify valid tableWord leafWord whole fillOf splitEntry belowOf below edited ofKind editWord eachOf eachChunk putNumber ownChunk ownRange own onward downChunk ownWork modifyRange houseRule mayChange adding splitsIn breach ifBlock surveyPart surveyWhole surveyEntry surveySub surveyChunk surveyRange asked verifyBits thenRegion verifyEdit verifySurvey answerOf editTables nothing surveyOf orElse modifySound modifyCall handle fresh word table poolA poolF Sets
+unfolding sizeAt down up putPart allBelow allFrom alignUp addressOf flagsOf kindOf linkOf only el1Flags inPool leads subOf rounded entryLast entryIndex chunkEnd met chunksIn
+    chunks rootNumber numberOf firstFrom lowestFree used free putTable zeros rising takeAt takeFound takeTable maxTables shaped flagSet plainFlags fits leafb namesb hangsb
+    tableb linkb refersb slotb soundb endFits span inRange verify valid tableWord leafWord whole fillOf splitEntry belowOf below edited ofKind editWord eachOf eachChunk
+    putNumber ownChunk ownRange own onward downChunk ownWork modifyRange houseRule mayChange adding splitsIn breach ifBlock surveyPart surveyWhole surveyEntry surveySub
+    surveyChunk surveyRange asked verifyBits thenRegion verifyEdit verifySurvey answerOf editTables orElse modifySound modifyCall handle fresh word table poolA poolF Sets
 case-I = (refl, refl, refl)

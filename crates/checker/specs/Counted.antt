@@ -12,14 +12,14 @@ use lib.ListN.{length}
 use Rattle.laws.specs.Sum.{sum, sum-ext, sum-none, sum-one, sum-add, sum-swap, sum-some, sum-at, sum-tight, tally, tally-yes, tally-no}
 use Rattle.laws.specs.Test.{byBool, eq-or, and-l, and-r, and-i, or-e, eq→eqb, same-test, allBelow, all-to, all-of, from-to, from-of}
 use Rattle.entry.specs.Word.{addressOf, linkOf, link-once, link-address, link-low}
-use Rattle.pool.specs.State.{St, tables, numberAt}
+use Rattle.pool.specs.State.{St, tables, numberAt, used-in}
 use Rattle.pool.specs.Number.{rootNumber, parentOf, used}
 use Rattle.pool.specs.Refuse.{Shaped}
-use Rattle.pool.specs.Sound.{namesb, hangsb, tableb, linkb, slotb, soundb}
+use Rattle.pool.specs.Sound.{namesb, hangsb, tableb, linkb, slotb, soundb, names-says}
 use Rattle.scan.specs.Answer.{count-most}
 use Rattle.checker.specs.Stream.{runPasses, tablePasses, tableLinks, streamb}
 use Rattle.checker.specs.Row.{wordIn, linkIn, passIn, used-sum, all-links, runs-to, runs-of}
-use Rattle.checker.specs.Named.{slot-passes, slot-links, slot-of, count-one, used-in, Named, place, names-to, named-in, Hangs, hangs-to, links-to, links-of, namedAt, named-yes, named-says, named-no}
+use Rattle.checker.specs.Named.{slot-passes, slot-links, slot-of, count-one, Named, place, named-in, Hangs, hangs-to, links-to, links-of, namedAt, named-yes, named-says, named-no}
 use Rattle.pool.specs.declared.Handle.{Handle}
 
 -- ---- the table words counted
@@ -37,7 +37,7 @@ module _ (h : Handle) (s : St) (some : 1 ≤ tables s) (words : length (s .words
     root = eqb→eq (numberAt s 0) (4 + h .level) (pass 0 some)
 
     root-nameless : ¬ (Named s 0)
-    root-nameless t = let n = names-to (numberAt s 0) t in let r = root in omega arith
+    root-nameless t = let n = names-says (numberAt s 0) t in let r = root in omega arith
 
     free-or-hangs : (k : ℕ) → suc k < tables s → (numberAt s (suc k) ≡ 0) ⊎ Hangs (h .base .0) s (suc k)
     unfolding tableb
@@ -52,7 +52,7 @@ module _ (h : Handle) (s : St) (some : 1 ≤ tables s) (words : length (s .words
     hangs (suc k) t = go (free-or-hangs k (named-in s (suc k) t))
       where
         go : (numberAt s (suc k) ≡ 0) ⊎ Hangs (h .base .0) s (suc k) → Hangs (h .base .0) s (suc k)
-        go (inl e) = let n = names-to (numberAt s (suc k)) t in absurd (omega arith)
+        go (inl e) = let n = names-says (numberAt s (suc k)) t in absurd (omega arith)
         go (inr g) = g
 
     -- ---- a slot that is named is in the row, holds a table word, and is named once
@@ -119,11 +119,11 @@ module _ (h : Handle) (s : St) (some : 1 ≤ tables s) (words : length (s .words
         go : (z ≡ 0) ⊎ Hangs (h .base .0) s (suc k) → tally (ltb 0 z) ≡ tally (namesb z) + tally (eqb (suc k) 0)
         go (inl e) =
             let a = tally-no (ltb 0 z) (λ t. let p = ltb→lt 0 z t in omega arith) in
-            let b = tally-no (namesb z) (λ t. let n = names-to z t in omega arith) in
+            let b = tally-no (namesb z) (λ t. let n = names-says z t in omega arith) in
             let c = tally-no (eqb (suc k) 0) (λ t. let q = eqb→eq (suc k) 0 t in omega arith) in
             omega arith
         go (inr g) =
-            let a = tally-yes (ltb 0 z) (lt→ltb 0 z (omega (arith, names-to z (g .named)))) in
+            let a = tally-yes (ltb 0 z) (lt→ltb 0 z (omega (arith, names-says z (g .named)))) in
             let b = tally-yes (namesb z) (g .named) in
             let c = tally-no (eqb (suc k) 0) (λ t. let q = eqb→eq (suc k) 0 t in omega arith) in
             omega arith

@@ -5,15 +5,14 @@ use mathlib.Core.Bool.{Bool, true, false, cond, _&&_}
 use mathlib.Core.Logic.{_⊎_, inl, inr, _≢_}
 use Prim.Native.Nat.{ℕ, suc, _+_, _*_, _-_, _/_, _%_, _≤_, _<_}
 use native.Mathlib.Omega.{arith}
-use lib.Dec.{T, eqb, eqb→eq, eqb-refl, leb, leb→le, le→leb, ltb, ltb→lt, lt→ltb}
-use lib.ListN.{List·getD-eq-default}
+use lib.Dec.{T, eqb, eqb→eq, eqb-refl, ltb, ltb→lt, lt→ltb}
 use borrow.Author.Tests.{eq-eqb, ne-eqb, lt-ltb}
 use Rattle.laws.specs.Sum.{tally, tally-yes, tally-says}
-use Rattle.laws.specs.Test.{eq-or, le-or, and-l, and-r, and-i, eq→eqb}
+use Rattle.laws.specs.Test.{eq-or, and-l, and-r, and-i, eq→eqb}
 use Rattle.entry.specs.Word.{addressOf, linkOf}
-use Rattle.pool.specs.State.{St, tables, wordAt, numberAt}
-use Rattle.pool.specs.Number.{Names, levelOf, parentOf, slotOf}
-use Rattle.pool.specs.Sound.{flagSet, leafb, namesb, hangsb, linkb, refersb, slotb}
+use Rattle.pool.specs.State.{St, tables, wordAt, numberAt, used-in}
+use Rattle.pool.specs.Number.{levelOf, parentOf, slotOf}
+use Rattle.pool.specs.Sound.{flagSet, leafb, namesb, hangsb, linkb, refersb, slotb, names-says}
 use Rattle.scan.specs.Words.{passesb, linkCount}
 use Rattle.pool.specs.declared.Handle.{Handle}
 
@@ -58,13 +57,6 @@ count-one y w u l e = rw (ne-eqb y 0 (λ z. omega arith), lt-ltb (levelOf y) 3 l
 
 -- ---- used tables, and tables whose numbers name a slot
 
-pub used-in : (s : St) (k : ℕ) → 0 < numberAt s k → k < tables s
-used-in s k u = go (le-or (tables s) k)
-  where
-    go : (tables s ≤ k) ⊎ (k < tables s) → k < tables s
-    go (inl l) = absurd (omega (arith, u, List·getD-eq-default (s .ledger) 0 l))
-    go (inr l) = l
-
 abbrev pub Named : St → ℕ → Type 0
 Named s k = T (namesb (numberAt s k))
 
@@ -72,12 +64,8 @@ Named s k = T (namesb (numberAt s k))
 abbrev pub place : St → ℕ → ℕ
 place s k = 512 * parentOf (numberAt s k) + slotOf (numberAt s k)
 
-pub names-to : (x : ℕ) → T (namesb x) → Names x
-unfolding namesb
-names-to x t = record { kind = leb→le 4 (x % 8) (and-l (leb 4 (x % 8)) (leb 1 (x / 8)) t); some = leb→le 1 (x / 8) (and-r (leb 4 (x % 8)) (leb 1 (x / 8)) t) }
-
 pub named-in : (s : St) (k : ℕ) → Named s k → k < tables s
-named-in s k t = used-in s k (omega (arith, names-to (numberAt s k) t))
+named-in s k t = used-in s k (omega (arith, names-says (numberAt s k) t))
 
 -- ---- a table that hangs
 
@@ -111,10 +99,6 @@ hangs-of base s k p =
     and-i (namesb x) _ (p .named)
     (and-i (eqb (levelOf x) (suc (levelOf y))) _ (eq→eqb (levelOf x) (suc (levelOf y)) (p .deeper))
     (and-i (ltb 0 y) _ (lt→ltb 0 y (p .parent)) (eq→eqb (wordAt s (parentOf x) (slotOf x)) (linkOf base k) (p .says))))
-
-pub names-of : (x : ℕ) → Names x → T (namesb x)
-unfolding namesb
-names-of x p = and-i (leb 4 (x % 8)) (leb 1 (x / 8)) (le→leb 4 (x % 8) (p .kind)) (le→leb 1 (x / 8) (p .some))
 
 -- ---- a link: slot i of table p refers to a table k whose number names it
 

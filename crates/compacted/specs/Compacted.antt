@@ -4,7 +4,7 @@ use mathlib.Core.Logic.{_≢_}
 use Prim.Native.Nat.{ℕ, suc, _+_, _-_, _≤_, _<_}
 use native.Mathlib.Omega.{arith}
 use Rattle.laws.specs.Test.{is-true}
-use Rattle.pool.specs.State.{St, tables, wordAt}
+use Rattle.pool.specs.State.{St, wordAt}
 use Rattle.pool.specs.Number.{rootNumber, used}
 use Rattle.pool.specs.Refuse.{shaped, Shaped, says-shaped, Out, out}
 use Rattle.pool.specs.Sound.{soundb}
@@ -24,7 +24,7 @@ use Rattle.sound.specs.Hanging.{root-left, used-tree}
 use Rattle.sound.specs.Step.{used-inside}
 use Rattle.walk.specs.Arm.{bits, flagsIn, says}
 use Rattle.walk.specs.Walk.{slot-below}
-use Rattle.walked.specs.AsBefore.{walkOf, Shown, hole, shown}
+use Rattle.walked.specs.AsBefore.{walkOf, hole, shown}
 use Rattle.walked.specs.Any.{slotsOf, met}
 use Rattle.walked.specs.Walked.{walk-of-tree}
 use Rattle.compact.specs.Call.{compacted, compactCall, call-compacted}

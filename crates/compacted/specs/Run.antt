@@ -7,7 +7,7 @@ use lib.ListN.{length-set}
 use Rattle.laws.specs.Slot.{iter}
 use Rattle.laws.specs.Test.{byBool, eq-or}
 use Rattle.entry.specs.Sub.{sub-leaf, sub-link}
-use Rattle.pool.specs.State.{St, tables, wordAt, storeAt}
+use Rattle.pool.specs.State.{St, tables, wordAt, storeAt, used-in}
 use Rattle.pool.specs.Refuse.{Shaped, shaped-keep}
 use Rattle.pool.specs.declared.Handle.{Handle}
 use Rattle.table.specs.Table.{clear}
@@ -18,7 +18,7 @@ use Rattle.forest.specs.Frame.{slotTree}
 use Rattle.forest.specs.Place.{below-self, over-refers}
 use Rattle.forest.specs.Move.{Move, Work, Runs, work-skip, runs-zero, runs-suc, runs-work}
 use Rattle.forest.specs.Compact.{squash, compactTree, compact-leaf, compact-keep, compact-drop}
-use Rattle.sound.specs.Codec.{Placed, codecOf, slotWord, view, word-in, used-in, treeFrom}
+use Rattle.sound.specs.Codec.{Placed, codecOf, slotWord, view, word-in, treeFrom}
 use Rattle.sound.specs.Clauses.{InUse, levelAt, SoundPool}
 use Rattle.sound.specs.Generic.{pool-sound, sound-pool}
 use Rattle.sound.specs.Lists.{Inside, clear-tables, clear-words}

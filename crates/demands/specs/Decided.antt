@@ -21,7 +21,6 @@ use Rattle.pool.specs.declared.VaRange.{VaRange}
 use Rattle.pool.specs.declared.VaRange.the-variants.{Lower, Upper}
 use Rattle.pool.specs.declared.Refusal.{Refusal}
 use Rattle.pool.specs.declared.Refusal.the-variants.{RegionBackwards, AddressRange, Frame}
-use Rattle.pool.specs.declared.Outcome.{Outcome}
 use Rattle.pool.specs.declared.Outcome.the-variants.{Accepted, Refused}
 use Rattle.sound.specs.Clauses.{SoundPool}
 use Rattle.sound.specs.Decide.{sound-exactly}

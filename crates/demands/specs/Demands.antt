@@ -13,7 +13,7 @@ use Rattle.pool.specs.declared.Handle.{Handle}
 use Rattle.pool.specs.declared.Refusal.{Refusal}
 use Rattle.pool.specs.declared.Outcome.the-variants as outcome
 use Rattle.pool.specs.declared.Counted.the-variants as counted
-use Rattle.sound.specs.Clauses.{InUse, SoundPool}
+use Rattle.sound.specs.Clauses.{InUse}
 use Rattle.sound.specs.Hanging.{Follows, OneSlot, Leads, reach, one-path, refer-once, root-unreferred, free-unreferred}
 use Rattle.checker.specs.Check.{checkCall}
 use Rattle.compact.specs.Call.{compactCall}

@@ -2,13 +2,12 @@
 use mathlib.Core.Path.{refl}
 use mathlib.Core.Bool.{true}
 use mathlib.Core.List.{[], _∷_}
-use Prim.Native.Nat.{ℕ, _≤_, _<_}
 use native.Mathlib.Omega.{arith}
 use Rattle.laws.specs.Size.{down, up}
 use Rattle.address.specs.Address.{alignUp}
 use Rattle.region.specs.Region.{rounded}
 use Rattle.pool.specs.State.{St}
-use Rattle.mapped.specs.Terms.{Call, Maps, InRegion, Apart, InTurn, none, next}
+use Rattle.mapped.specs.Terms.{Call, Maps, Apart, InTurn, none, next}
 use Rattle.mapped.specs.Mapped.{EitherOrder, maps-commute}
 use Rattle.modified.specs.Terms.{Modifies, accepted}
 use Rattle.cases.specs.Bench.{handle, fresh, word, poolA, poolAA, Holds, A, AA, starred-maps, two-blocks}

@@ -1,6 +1,6 @@
 -- What document 01 says of make, look up, list, compact and modify, gathered: each call's theorems as one. Map has `Demands`. Assumes nothing.
-use mathlib.Core.Path.{_≡_, sym, ap, _∙_, subst}
-use mathlib.Core.Bool.{Bool, true, false}
+use mathlib.Core.Path.{_≡_, sym, ap, subst}
+use mathlib.Core.Bool.{true, false}
 use mathlib.Core.List.{List, _++_}
 use mathlib.Core.Logic.{_≢_}
 use Prim.Native.Nat.{ℕ, _+_, _%_, _≤_, _<_}
@@ -17,10 +17,12 @@ use Rattle.sound.specs.Made.{made-sound}
 use Rattle.walk.specs.LookUp.{answer, spanned, lookUpCall, look-walks}
 use Rattle.walked.specs.AsBefore.{walkOf, mapped, hole, shown}
 use Rattle.compact.specs.Call.{compacted, compactCall}
-use Rattle.compacted.specs.Compacted.{compact-answers, compact-keeps-sound, compact-walks-as-before, compact-leaves-no-empty-table, compact-again-answers, compact-never-more-tables}
+use Rattle.compacted.specs.Compacted.{compact-answers, compact-keeps-sound, compact-walks-as-before, compact-leaves-no-empty-table, compact-again-answers}
+use Rattle.compacted.specs.Compacted.{compact-never-more-tables}
 use Rattle.mapped.specs.Terms.{Lawful, InSpan}
 use Rattle.modified.specs.Terms.{Call, Modifies, InRegion, flagsAfter, madeBy, numbersOf}
-use Rattle.modified.specs.Modified.{modify-keeps-sound, modify-valid-pages, modify-cleared-pages, modify-holes-stay, modify-elsewhere-as-before, modify-tables-in-use, modify-list-untouched, modify-list-exactly}
+use Rattle.modified.specs.Modified.{modify-keeps-sound, modify-valid-pages, modify-cleared-pages, modify-holes-stay, modify-elsewhere-as-before, modify-tables-in-use}
+use Rattle.modified.specs.Modified.{modify-list-untouched, modify-list-exactly}
 use Rattle.demands.specs.Decided.{well-shaped}
 
 -- ---- make: "zeroes all words and the ledger, then enters the root"; the pool is sound

@@ -4,7 +4,7 @@ use mathlib.Core.Path.{_≡_, refl, sym, ap, _∙_}
 use mathlib.Core.Bool.{Bool, true, false}
 use mathlib.Core.List.{List}
 use mathlib.Core.Logic.{_⊎_, inl, inr, ⊎-elim, _≢_, _↔_}
-use Prim.Native.Nat.{ℕ, _-_, _/_, _%_, _≤_, _<_}
+use Prim.Native.Nat.{ℕ, _/_, _%_, _≤_, _<_}
 use native.Mathlib.Omega.{arith}
 use lib.Bits.{bitAnd}
 use lib.ListN.{length}
@@ -26,15 +26,16 @@ use Rattle.sound.specs.Clauses.{SoundPool}
 use Rattle.verify.specs.Verify.{endFits, verify}
 use Rattle.edit.specs.declared.Edit.{Edit}
 use Rattle.survey.specs.declared.Survey.{Survey}
-use Rattle.modify.specs.declared.Modified.{Modified}
 use Rattle.modify.specs.declared.Modified.the-variants as modified
-use Rattle.modify.specs.Ask.{asked, verifyBits, verifyEdit, verifySurvey, bits-set-invalid, bits-clear-invalid, bits-set-outside, bits-set-valid, bits-clash, bits-clear-outside, bits-accepted, edit-end, edit-bits, edit-region, survey-full, survey-off, survey-broken, survey-short, survey-accepted}
-use Rattle.modify.specs.Call.{Modifying, modifying, answerOf, editTables, nothing, surveyOf, modifySound, modifyCall, sound-not, sound-refused, sound-edited, call-misshaped, call-refused, call-asked}
+use Rattle.modify.specs.Ask.{asked, verifyBits, verifyEdit, verifySurvey, bits-set-invalid, bits-clear-invalid, bits-set-outside, bits-set-valid, bits-clash, bits-clear-outside}
+use Rattle.modify.specs.Ask.{bits-accepted, edit-end, edit-bits, edit-region, survey-full, survey-off, survey-broken, survey-short, survey-accepted}
+use Rattle.modify.specs.Call.{Modifying, modifying, answerOf, editTables, surveyOf, modifySound, modifyCall, sound-not, sound-refused, sound-edited, call-misshaped, call-refused}
+use Rattle.modify.specs.Call.{call-asked}
 use Rattle.modified.specs.Terms.{Call, Passed}
 use Rattle.modified.specs.House.{Lowest as LowestBreach}
 use Rattle.modified.specs.Modified.{house-rule-lowest}
 use Rattle.demands.specs.Slip.{Misshaped, BadEnd, HasBit1, OutsideSet, Backwards, BeyondRange, BadBit, BadToSet, BadFlags, ModifySlip}
-use Rattle.demands.specs.Told.{Lowest, Told, none-below, number-range, shape-lowest}
+use Rattle.demands.specs.Told.{Lowest, none-below, number-range, shape-lowest}
 use Rattle.demands.specs.Decided.{misshaped, well-shaped, not-misshaped, unsound, sound, Standing, region-told, end-told, set-told}
 
 -- ---- 3 and 4, decided
@@ -132,7 +133,9 @@ module _ (h : Handle) (s : St) (start end set clear : ℕ) (live : Bool) (list :
     unfolding ModifySlip
     bad-end x = refused-by (End end) (edit-end h end e (x .0)) (record {
       given = (refl, x .1);
-      lower = below 2 (λ l. not-misshaped h s fits) (λ l. absurd (omega arith)) (λ l. absurd (omega arith)) (λ l. absurd (omega arith)) (λ l. absurd (omega arith)) (λ l. absurd (omega arith))
+      lower =
+          below 2 (λ l. not-misshaped h s fits) (λ l. absurd (omega arith)) (λ l. absurd (omega arith)) (λ l. absurd (omega arith)) (λ l. absurd (omega arith))
+          (λ l. absurd (omega arith))
           (λ l. absurd (omega arith)) (λ l. absurd (omega arith)) (λ l. absurd (omega arith)) (λ l. absurd (omega arith));
     })
 
@@ -199,7 +202,6 @@ module _ (h : Handle) (s : St) (start end set clear : ℕ) (live : Bool) (list :
 
             -- what the survey finds is the lowest breach by the walk
             breach-is : (w : ℕ) → ((v .broken ≡ true) × (v .word ≡ w)) ↔ LowestBreach h c s w
-            unfolding surveyOf nothing
             breach-is w = house-rule-lowest h c s list passed w
 
             no-breach : v .broken ≡ false → (w : ℕ) → ¬ ((live ≡ true) × LowestBreach h c s w)
@@ -209,11 +211,12 @@ module _ (h : Handle) (s : St) (start end set clear : ℕ) (live : Bool) (list :
                 omega arith
 
             surveyed : {x : Outcome} → x ≡ verifySurvey (free (s .ledger)) (length list) live v → (y : Refusal) → x ≡ Refused y → Lowest Here y → Goal
-            unfolding asked surveyOf nothing
+            unfolding asked
             surveyed told y q lowest = inl (y, sym (sound-refused h e s list is refl refl told y q ∙ whole-is), lowest)
 
-            done : Accepted ≡ verifySurvey (free (s .ledger)) (length list) live v → v .splits ≤ free (s .ledger) → (live ≡ true → (v .broken ≡ false) × (v .numbers ≤ length list)) → Goal
-            unfolding asked surveyOf nothing
+            done : Accepted ≡ verifySurvey (free (s .ledger)) (length list) live v → v .splits ≤ free (s .ledger)
+                → (live ≡ true → (v .broken ≡ false) × (v .numbers ≤ length list)) → Goal
+            unfolding asked
             done told room rest = inr (
               (λ q. lower 12 (λ l g. g (sound h s fits is)) (λ l. room) (λ l w g. no-breach (rest (g .0) .0) w g)
                   (λ l on. rest on .1) q (number-range q .1)),
@@ -229,7 +232,9 @@ module _ (h : Handle) (s : St) (start end set clear : ℕ) (live : Bool) (list :
 
             module _ (room : v .splits ≤ free (s .ledger)) where
               off : live ≡ false → Goal
-              off q = done (survey-off (free (s .ledger)) (length list) live v room q) room (λ on. let z : true ≡ false = sym on ∙ q in let o : _≡_ {A = ℕ} 0 1 = cc in absurd (omega arith))
+              off q =
+                  done (survey-off (free (s .ledger)) (length list) live v room q) room
+                  (λ on. let z : true ≡ false = sym on ∙ q in let o : _≡_ {A = ℕ} 0 1 = cc in absurd (omega arith))
 
               module _ (on : live ≡ true) where
                 broken : v .broken ≡ true → Goal

@@ -29,16 +29,17 @@ use Rattle.compact.specs.Call.{compactCall, call-misshaped as compact-misshaped
 use Rattle.verify.specs.Verify.{endFits, verify}
 use Rattle.walk.specs.Arm.{Walked, hole, block, page as one-page, outside, walk}
 use Rattle.walk.specs.LookUp.{answer, lookUpCall, look-misshaped, look-beyond, look-walks}
-use Rattle.walk.specs.declared.Looked.{Looked}
 use Rattle.walk.specs.declared.Looked.the-variants as looked
-use Rattle.list.specs.Listing.{Listing, verifyEnds, linesOf, listLines, listCall, list-misshaped, list-region, list-unsound, list-sound, ends-past, ends-fit, list-short, list-written}
+use Rattle.list.specs.Listing.{Listing, verifyEnds, linesOf, listLines, listCall, list-misshaped, list-region, list-unsound, list-sound, ends-past, ends-fit, list-short}
+use Rattle.list.specs.Listing.{list-written}
 use Rattle.list.specs.declared.Listed.{Listed}
 use Rattle.list.specs.declared.Listed.the-variants as listed
 use Rattle.need.specs.Needed.{needed}
 use Rattle.rules.specs.declared.Map.{Map}
 use Rattle.map.specs.Ask.{asked, frameAsked, verifyMap, ask-end, ask-invalid, ask-set, ask-region, ask-frame}
 use Rattle.map.specs.Call.{putDown, mapSound, mapCall, sound-not, sound-full, sound-mapped, call-misshaped, call-refused, call-asked}
-use Rattle.demands.specs.Slip.{Misshaped, BadEnd, HasBit1, OutsideSet, Backwards, BeyondRange, BeyondSpan, BadFrame, MakeSlip, CheckSlip, LookUpSlip, ImageSlip, ListSlip, MapSlip}
+use Rattle.demands.specs.Slip.{Misshaped, BadEnd, HasBit1, OutsideSet, Backwards, BeyondRange, BeyondSpan, BadFrame, MakeSlip, CheckSlip, LookUpSlip, ImageSlip, ListSlip}
+use Rattle.demands.specs.Slip.{MapSlip}
 use Rattle.demands.specs.Told.{Lowest, Told, none-below, number-range, shape-lowest}
 use Rattle.demands.specs.Decided.{misshaped, not-misshaped, unsound, sound, Standing, region-told, accepted-not, end-told, set-told, span-told, frame-told}
 
@@ -71,26 +72,26 @@ check-told h s = byBool (shaped h s)
 
 -- ---- compact: 1, 8
 
+answer-same : {x y : Out Counted} → x ≡ y → x .answer ≡ y .answer
+answer-same e = ap (λ (x : Out Counted). x .answer) e
+
 pub compact-told : (h : Handle) (s : St) → Told (CheckSlip h s) counted.Refused (compactCall h s .answer)
 unfolding CheckSlip
 compact-told h s = byBool (shaped h s)
     (λ fits. byBool (soundb h s)
     (λ is. inr (
       (λ q. check-below h s 12 (not-misshaped h s fits) (λ l g. g (sound h s fits is)) q (number-range q .1)),
-      λ r e. let z = told (call-compacted h s fits is refl refl) ∙ e in let o : _≡_ {A = ℕ} 0 1 = cc in omega arith,
+      λ r e. let z = answer-same (call-compacted h s fits is refl refl) ∙ e in let o : _≡_ {A = ℕ} 0 1 = cc in omega arith,
     ))
     (λ un. inl (
       Unsound,
-      sym (told (compact-unsound h s fits un)),
+      sym (answer-same (compact-unsound h s fits un)),
       record {
         given = unsound h s fits un;
         lower = check-below h s 8 (not-misshaped h s fits) (λ l. absurd (omega arith));
       },
     )))
-    (λ fails. inl (Shape, sym (told (compact-misshaped h s fails)), shape-lowest (CheckSlip h s) (misshaped h s fails)))
-  where
-    told : {x y : Out Counted} → x ≡ y → x .answer ≡ y .answer
-    told e = ap (λ (x : Out Counted). x .answer) e
+    (λ fails. inl (Shape, sym (answer-same (compact-misshaped h s fails)), shape-lowest (CheckSlip h s) (misshaped h s fails)))
 
 -- ---- page image: 1, 11
 
@@ -157,7 +158,8 @@ look-up-told h s va = byBool (shaped h s)
     below n one six eight = none-below (LookUpSlip h s va) n (λ l. one) (λ l e g. g) (λ l f g. g) (λ l f g. g) (λ l r g. g) six (λ l f g. g) eight (λ l k f g. g) (λ l w g. g)
         (λ l k g. g)
 
-    none : shaped h s ≡ true → ¬ (BeyondSpan (h .range) (h .level) va) → ¬ (walk (h .base .0) (tables s) (s .words) va (h .level) ≡ outside) → (q : Refusal) → ¬ (LookUpSlip h s va q)
+    none : shaped h s ≡ true → ¬ (BeyondSpan (h .range) (h .level) va) → ¬ (walk (h .base .0) (tables s) (s .words) va (h .level) ≡ outside) → (q : Refusal)
+        → ¬ (LookUpSlip h s va q)
     none fits within stays q = below 12 (not-misshaped h s fits) (λ l a g. within (g .1)) (λ l. stays) q (number-range q .1)
 
 -- ---- list: 1, 2, 5, 6, 8, 11
@@ -187,7 +189,9 @@ module _ (h : Handle) (s : St) (start end : ℕ) (list : List ℕ) where
       sym (list-answer (list-region h s start end list fits (ends-past h start end (x .0)) (End end) refl)),
       record {
         given = (refl, x .1);
-        lower = list-below 2 (λ l. not-misshaped h s fits) (λ l. absurd (omega arith)) (λ l. absurd (omega arith)) (λ l. absurd (omega arith)) (λ l. absurd (omega arith)) (λ l. absurd (omega arith));
+        lower =
+            list-below 2 (λ l. not-misshaped h s fits) (λ l. absurd (omega arith)) (λ l. absurd (omega arith)) (λ l. absurd (omega arith)) (λ l. absurd (omega arith))
+            (λ l. absurd (omega arith));
       },
     )
 
@@ -199,7 +203,9 @@ module _ (h : Handle) (s : St) (start end : ℕ) (list : List ℕ) where
         sym (list-answer (list-region h s start end list fits (ends-fit h start end ends refl) (RegionBackwards (rounded start end)) (x .0))),
         record {
           given = (refl, x .1);
-          lower = list-below 5 (λ l. not-misshaped h s fits) (λ l. good) (λ l. absurd (omega arith)) (λ l. absurd (omega arith)) (λ l. absurd (omega arith)) (λ l. absurd (omega arith));
+          lower =
+              list-below 5 (λ l. not-misshaped h s fits) (λ l. good) (λ l. absurd (omega arith)) (λ l. absurd (omega arith)) (λ l. absurd (omega arith))
+              (λ l. absurd (omega arith));
         },
       )
 
@@ -226,7 +232,8 @@ module _ (h : Handle) (s : St) (start end : ℕ) (list : List ℕ) where
           sym (list-answer (list-unsound h s start end list fits region-ok refl un)),
           record {
             given = unsound h s fits un;
-            lower = list-below 8 (λ l. not-misshaped h s fits) (λ l. good) (λ l. stands .1 .forwards) (λ l. stands .1 .within) (λ l. absurd (omega arith)) (λ l. absurd (omega arith));
+            lower =
+                list-below 8 (λ l. not-misshaped h s fits) (λ l. good) (λ l. stands .1 .forwards) (λ l. stands .1 .within) (λ l. absurd (omega arith)) (λ l. absurd (omega arith));
           },
         )
 
@@ -242,13 +249,16 @@ module _ (h : Handle) (s : St) (start end : ℕ) (list : List ℕ) where
             sym (list-answer (list-short (linesOf h s (rounded start end)) list short ∙ list-is)),
             record {
               given = (refl, short);
-              lower = list-below 11 (λ l. not-misshaped h s fits) (λ l. good) (λ l. stands .1 .forwards) (λ l. stands .1 .within) (λ l g. g (sound h s fits is)) (λ l. absurd (omega arith));
+              lower =
+                  list-below 11 (λ l. not-misshaped h s fits) (λ l. good) (λ l. stands .1 .forwards) (λ l. stands .1 .within) (λ l g. g (sound h s fits is))
+                  (λ l. absurd (omega arith));
             },
           )
 
           list-done : lines ≤ length list → ListGoal
           list-done room = inr (
-            (λ q. list-below 12 (λ l. not-misshaped h s fits) (λ l. good) (λ l. stands .1 .forwards) (λ l. stands .1 .within) (λ l g. g (sound h s fits is)) (λ l. room) q (number-range q .1)),
+            (λ q. list-below 12 (λ l. not-misshaped h s fits) (λ l. good) (λ l. stands .1 .forwards) (λ l. stands .1 .within) (λ l g. g (sound h s fits is))
+                (λ l. room) q (number-range q .1)),
             λ r e. let z : _≡_ {A = Listed} (listed.Lines (length (linesOf h s (rounded start end)))) (listed.Refused r) =
                 list-answer (list-written (linesOf h s (rounded start end)) list room ∙ list-is) ∙ e in let o : _≡_ {A = ℕ} 0 1 = cc in omega arith,
           )
@@ -283,22 +293,21 @@ module _ (h : Handle) (s : St) (start end frame flags constraints : ℕ) where
   map-below n one two three four five six seven eight nine = none-below MapHere n one (λ l e g. two l (g .1)) (λ l f g. three l (g .1)) (λ l f g. four l (g .1))
       (λ l r g. five l (rw (← g .0) (g .1))) six (λ l f g. seven l (g .1)) eight (λ l k f g. let z = nine l in omega (arith, g .0, g .1, g .2)) (λ l w g. g) (λ l k g. g)
 
-  map-answer : {x y : Out Counted} → x ≡ y → x .answer ≡ y .answer
-  map-answer e = ap (λ (x : Out Counted). x .answer) e
-
   abbrev MapGoal : Type 0
   MapGoal = Told MapHere counted.Refused (mapCall h start end frame flags constraints s .answer)
 
   -- refused for its arguments, whatever the refusal
   module _ (fits : shaped h s ≡ true) where
     map-refused : (r : Refusal) → Refused r ≡ verifyMap h end m → Lowest MapHere r → MapGoal
-    map-refused r e lowest = inl (r, sym (map-answer (call-refused h start end frame flags constraints s fits e r refl)), lowest)
+    map-refused r e lowest = inl (r, sym (answer-same (call-refused h start end frame flags constraints s fits e r refl)), lowest)
 
     map-end : (endFits end ≡ false) × BadEnd end → MapGoal
     unfolding MapSlip
     map-end x = map-refused (End end) (ask-end h end m (x .0)) (record {
       given = (refl, x .1);
-      lower = map-below 2 (λ l. not-misshaped h s fits) (λ l. absurd (omega arith)) (λ l. absurd (omega arith)) (λ l. absurd (omega arith)) (λ l. absurd (omega arith)) (λ l. absurd (omega arith))
+      lower =
+          map-below 2 (λ l. not-misshaped h s fits) (λ l. absurd (omega arith)) (λ l. absurd (omega arith)) (λ l. absurd (omega arith)) (λ l. absurd (omega arith))
+          (λ l. absurd (omega arith))
           (λ l. absurd (omega arith)) (λ l. absurd (omega arith)) (λ l. absurd (omega arith));
     })
 
@@ -307,7 +316,8 @@ module _ (h : Handle) (s : St) (start end frame flags constraints : ℕ) where
       unfolding MapSlip asked
       map-bit x = map-refused (InvalidFlags flags) (ask-invalid h end m ends x) (record {
         given = (refl, x);
-        lower = map-below 3 (λ l. not-misshaped h s fits) (λ l. good) (λ l. absurd (omega arith)) (λ l. absurd (omega arith)) (λ l. absurd (omega arith)) (λ l. absurd (omega arith))
+        lower =
+            map-below 3 (λ l. not-misshaped h s fits) (λ l. good) (λ l. absurd (omega arith)) (λ l. absurd (omega arith)) (λ l. absurd (omega arith)) (λ l. absurd (omega arith))
             (λ l. absurd (omega arith)) (λ l. absurd (omega arith)) (λ l. absurd (omega arith));
       })
 
@@ -323,11 +333,12 @@ module _ (h : Handle) (s : St) (start end frame flags constraints : ℕ) where
         module _ (from : (only (flagSet h) flags ≡ true) × (¬ (OutsideSet h flags))) where
           map-backwards : (verify h (rounded start end) ≡ Refused (RegionBackwards (rounded start end))) × Backwards (rounded start end) → MapGoal
           unfolding MapSlip asked
-          map-backwards x = map-refused (RegionBackwards (rounded start end)) (ask-region h end m ends plain (from .0) (sym (x .0)) (RegionBackwards (rounded start end)) refl) (record {
-            given = (refl, x .1);
-            lower = map-below 5 (λ l. not-misshaped h s fits) (λ l. good) (λ l. plain) (λ l. from .1) (λ l. absurd (omega arith)) (λ l. absurd (omega arith))
-                (λ l. absurd (omega arith)) (λ l. absurd (omega arith)) (λ l. absurd (omega arith));
-          })
+          map-backwards x =
+              map-refused (RegionBackwards (rounded start end)) (ask-region h end m ends plain (from .0) (sym (x .0)) (RegionBackwards (rounded start end)) refl) (record {
+                given = (refl, x .1);
+                lower = map-below 5 (λ l. not-misshaped h s fits) (λ l. good) (λ l. plain) (λ l. from .1) (λ l. absurd (omega arith)) (λ l. absurd (omega arith))
+                    (λ l. absurd (omega arith)) (λ l. absurd (omega arith)) (λ l. absurd (omega arith));
+              })
 
           map-beyond : ((a : VirtualAddress) × (verify h (rounded start end) ≡ Refused (AddressRange a)) × (¬ (Backwards (rounded start end)))
               × BeyondRange (h .range) (h .level) (rounded start end) a) → MapGoal
@@ -343,7 +354,8 @@ module _ (h : Handle) (s : St) (start end frame flags constraints : ℕ) where
             unfolding asked
             framed = ask-frame h end m ends plain (from .0) (sym (stands .0)) refl
 
-            map-frame : (frameAsked frame (rounded start end .end .0 - rounded start end .start .0) ≡ Refused (Frame (record { 0 = frame }))) × BadFrame frame (rounded start end) → MapGoal
+            map-frame : (frameAsked frame (rounded start end .end .0 - rounded start end .start .0) ≡ Refused (Frame (record { 0 = frame }))) × BadFrame frame (rounded start end)
+                → MapGoal
             unfolding MapSlip
             map-frame x = map-refused (Frame (record { 0 = frame })) (sym (x .0) ∙ framed) (record {
               given = (refl, x .1);
@@ -362,7 +374,7 @@ module _ (h : Handle) (s : St) (start end frame flags constraints : ℕ) where
               unfolding MapSlip
               map-unsound un = inl (
                 Unsound,
-                sym (map-answer (sound-not h m s un ∙ map-asked)),
+                sym (answer-same (sound-not h m s un ∙ map-asked)),
                 record {
                   given = unsound h s fits un;
                   lower = map-lower 8 (λ l. absurd (omega arith)) (λ l. absurd (omega arith));
@@ -374,7 +386,7 @@ module _ (h : Handle) (s : St) (start end frame flags constraints : ℕ) where
                 unfolding MapSlip
                 map-full short = inl (
                   WantOfRoom need (free (s .ledger)),
-                  sym (map-answer (sound-full h m s is refl refl short ∙ map-asked)),
+                  sym (answer-same (sound-full h m s is refl refl short ∙ map-asked)),
                   record {
                     given = (refl, refl, short);
                     lower = map-lower 9 (λ l g. g (sound h s fits is)) (λ l. absurd (omega arith));
@@ -385,7 +397,7 @@ module _ (h : Handle) (s : St) (start end frame flags constraints : ℕ) where
                 unfolding putDown
                 map-done room = inr (
                   (λ q. map-lower 12 (λ l g. g (sound h s fits is)) (λ l. room) q (number-range q .1)),
-                  λ r e. let z = map-answer (sound-mapped h m s is refl refl room ∙ map-asked) ∙ e in let o : _≡_ {A = ℕ} 0 1 = cc in omega arith,
+                  λ r e. let z = answer-same (sound-mapped h m s is refl refl room ∙ map-asked) ∙ e in let o : _≡_ {A = ℕ} 0 1 = cc in omega arith,
                 )
 
   pub map-told : MapGoal
@@ -400,4 +412,4 @@ module _ (h : Handle) (s : St) (start end frame flags constraints : ℕ) where
       (λ is. ⊎-elim (map-done fits (x .0) (x .1) plain from z w is) (map-full fits (x .0) (x .1) plain from z w is) (le-or need (free (s .ledger))))
       (map-unsound fits (x .0) (x .1) plain from z w)) (frame-told frame (rounded start end))) y)
       (region-told h (rounded start end))) (set-told h flags)) (eq-or (flags / 2 % 2) 1)) (end-told end))
-      (λ fails. inl (Shape, sym (map-answer (call-misshaped h start end frame flags constraints s fails)), shape-lowest MapHere (misshaped h s fails)))
+      (λ fails. inl (Shape, sym (answer-same (call-misshaped h start end frame flags constraints s fails)), shape-lowest MapHere (misshaped h s fails)))

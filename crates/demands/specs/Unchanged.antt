@@ -1,9 +1,9 @@
 -- Demand 1: "a refused call changes no lent word", and no second answer meets a contract. Leans on the laws of the calls. Assumes nothing.
 use mathlib.Core.Path.{_≡_, refl, sym, ap, _∙_}
-use mathlib.Core.Bool.{true, false}
+use mathlib.Core.Bool.{true}
 use mathlib.Core.List.{List}
 use mathlib.Core.Logic.{⊎-elim}
-use Prim.Native.Nat.{ℕ, _*_, _-_, _≤_}
+use Prim.Native.Nat.{ℕ, _*_, _-_}
 use native.Mathlib.Omega.{arith}
 use lib.ListN.{length}
 use Rattle.laws.specs.Test.{byBool, eq-or, le-or}
@@ -16,7 +16,6 @@ use Rattle.pool.specs.Make.{makeCall, make-refused, make-accepted}
 use Rattle.image.specs.Call.{Imaged, imaged, imageCall, image-misshaped, image-no-table, image-short, image-written}
 use Rattle.pool.specs.declared.Handle.{Handle}
 use Rattle.pool.specs.declared.Refusal.{Refusal}
-use Rattle.pool.specs.declared.Refusal.the-variants.{Shape, Unsound, WantOfRoom, Short}
 use Rattle.pool.specs.declared.Outcome.{Outcome}
 use Rattle.pool.specs.declared.Outcome.the-variants.{Accepted, Refused}
 use Rattle.pool.specs.declared.Counted.{Counted}

@@ -7,14 +7,14 @@ use native.Mathlib.Omega.{arith}
 use lib.Dec.{eqb}
 use borrow.Author.Tests.{eq-eqb, ne-eqb}
 use Rattle.laws.specs.Size.{sizeAt}
-use Rattle.region.specs.Region.{entryIndex}
+use Rattle.region.specs.Region.{entryIndex, whole}
 use Rattle.region.specs.declared.MemoryRegion.{MemoryRegion}
 use Rattle.pool.specs.State.{St, st, wordAt}
 use Rattle.pool.specs.declared.Handle.{Handle}
 use Rattle.pool.specs.declared.Found.{Found}
 use Rattle.pool.specs.declared.Found.the-variants.{At, Nothing}
 use Rattle.table.specs.Table.{Taken, taken}
-use Rattle.rules.specs.Rules.{tableWord, whole}
+use Rattle.rules.specs.Rules.{tableWord}
 use Rattle.split.specs.Split.{below}
 use Rattle.edit.specs.declared.Edit.{Edit}
 use Rattle.edit.specs.Each.{eachChunk}

@@ -1,15 +1,11 @@
 -- One word of an edit (document 01, "Putting down a map", Modify), and a law for each way through the code. Assumes nothing.
-use mathlib.Core.Path.{_≡_, sym, ap}
+use mathlib.Core.Path.{_≡_, ap}
 use Prim.Native.Nat.{ℕ, _-_, _^_}
 use lib.Bits.{bitAnd, bitOr}
-use Rattle.entry.specs.Word.{kindOf}
+use Rattle.entry.specs.Word.{kindOf, edited}
 use Rattle.entry.specs.declared.Kind.{Kind}
 use Rattle.entry.specs.declared.Kind.the-variants.{Table, Block, Page, Hole}
 use Rattle.edit.specs.declared.Edit.{Edit}
-
--- "bits to set and to clear"
-unfoldable pub edited : ℕ → ℕ → ℕ → ℕ
-edited set clear w = bitAnd (bitOr w set) (2 ^ 64 - 1 - clear)
 
 -- "touches valid blocks and pages only, never a table's word"
 unfoldable pub ofKind : Kind → ℕ → ℕ → ℕ

@@ -1,14 +1,16 @@
--- What a word says (document 01, "What a word says"): its fields, its kind at its level, the word that refers to a table.
+-- What a word says (document 01, "What a word says"): its fields, its kind at its level, the word that refers to a table; the word that a map writes and
+-- the one that an edit leaves.
 -- Assumes nothing.
-use mathlib.Core.Path.{_≡_, refl, sym, ap, _∙_}
+use mathlib.Core.Path.{_≡_, refl, ap, _∙_}
 use mathlib.Core.Bool.{Bool, true, false, cond, _||_}
 use mathlib.Core.Logic.{_⊎_, inl, inr, _≢_}
 use Prim.Native.Nat.{ℕ, _+_, _*_, _-_, _/_, _%_, _^_, _≤_, _<_}
 use native.Mathlib.Omega.{arith}
-use lib.Bits.{bitAnd, and-high}
+use lib.Bits.{bitAnd, bitOr, and-high, and-mask}
 use lib.Dec.{eqb, leb, lit<}
-use borrow.Author.Tests.{eq-eqb, ne-eqb, le-leb, lt-leb}
-use Rattle.laws.specs.Bit.{and-not}
+use lib.Pow.{shr-mod}
+use borrow.Author.Tests.{eqb-true, eqb-false, eq-eqb, ne-eqb, le-leb, lt-leb}
+use Rattle.laws.specs.Bit.{and-not, and-add}
 use Rattle.laws.specs.Test.{eqb-cases, eq-or, le-or}
 use Rattle.entry.specs.declared.Kind.{Kind}
 use Rattle.entry.specs.declared.Kind.the-variants.{Table, Block, Page, Hole}
@@ -29,9 +31,25 @@ kindOf level w =
     (cond (eqb (w % 4) 1) (cond (eqb level 1 || eqb level 2) Block Hole)
     Hole)
 
+-- bit 0: VALID
+unfoldable pub valid : ℕ → Bool
+valid w = eqb (w % 2) 1
+
+-- flags without bit 1: bits 0, 2 to 11 and 48 to 63
+unfoldable pub plainFlags : ℕ → ℕ
+plainFlags w = w % 2 + w / 4 % 1024 * 4 + w / 2 ^ 48 * 2 ^ 48
+
 -- document 01, "Pool and ledger": table k has physical address base + 4096·k; the word that refers to it is that address + 3
 unfoldable pub linkOf : ℕ → ℕ → ℕ
 linkOf base k = base + 4096 * k + 3
+
+-- document 01, "Putting down a map": "a VALID map writes frame + flags + 2" at level 3, above it the block without bit 1; "otherwise the flags alone"
+unfoldable pub leafWord : ℕ → ℕ → ℕ → ℕ
+leafWord level frame flags = cond (valid flags) (cond (leb 3 level) (frame + flags + 2) (frame + flags)) flags
+
+-- Modify: "bits to set and to clear"
+unfoldable pub edited : ℕ → ℕ → ℕ → ℕ
+edited set clear w = bitAnd (bitOr w set) (2 ^ 64 - 1 - clear)
 
 -- flags from the set m alone
 unfoldable pub only : ℕ → ℕ → Bool
@@ -45,6 +63,34 @@ el1Flags = 0xFFFC_0000_0000_0FFD
 pub el1-bits : el1Flags ≡ 1 + (2 ^ 12 - 2 ^ 2) + (2 ^ 64 - 2 ^ 50)
 unfolding el1Flags
 el1-bits = refl
+
+-- flags that a call may give (refusals 3 and 4): no bit of the address, bit 1 clear
+pub record Plain (f : ℕ) : Type 0 where
+  pub wide : f < 2 ^ 64
+  pub bits : flagsOf f ≡ f
+  pub clear : f / 2 % 2 ≡ 0
+
+-- ---- VALID
+
+pub valid-yes : (w : ℕ) → valid w ≡ true → w % 2 ≡ 1
+unfolding valid
+valid-yes w e = eqb-true (w % 2) 1 e
+
+pub valid-no : (w : ℕ) → valid w ≡ false → w % 2 ≡ 0
+unfolding valid
+valid-no w e = let n = eqb-false (w % 2) 1 e in omega arith
+
+pub valid-of : (w : ℕ) → w % 2 ≡ 1 → valid w ≡ true
+unfolding valid
+valid-of w e = eq-eqb (w % 2) 1 e
+
+pub valid-none : (w : ℕ) → w % 2 ≡ 0 → valid w ≡ false
+unfolding valid
+valid-none w e = rw e
+
+pub valid-same : (w x : ℕ) → w % 2 ≡ x % 2 → valid w ≡ valid x
+unfolding valid
+valid-same w x e = ap (λ (y : ℕ). eqb y 1) e
 
 -- ---- fields: taken apart and put together
 
@@ -83,6 +129,30 @@ mask-flags w h =
     let whole = address-and-flags w in
     omega arith
 
+-- flags without bit 1, by a mask
+pub mask-plain : (w : ℕ) → w < 2 ^ 64 → bitAnd w 0xFFFF_0000_0000_0FFD ≡ plainFlags w
+unfolding plainFlags
+mask-plain w h =
+    let all = and-add w (2 ^ 64 - 2 ^ 48 + (2 ^ 12 - 2 ^ 2)) 1 refl in
+    let two = and-add w (2 ^ 64 - 2 ^ 48) (2 ^ 12 - 2 ^ 2) refl in
+    let high = and-high w 16 48 ∙ ap (λ (x : ℕ). x * 2 ^ 48) (shr-mod {n = w} 16 48 h) in
+    let middle = and-high w 10 2 in
+    let low = and-mask w 1 in
+    omega arith
+
+-- the low bits are flags
+pub flags-low : (w : ℕ) → flagsOf w % 4 ≡ w % 4
+unfolding flagsOf
+flags-low w = omega arith
+
+pub flags-valid : (w : ℕ) → valid (flagsOf w) ≡ valid w
+flags-valid w = valid-same (flagsOf w) w (omega (arith, flags-low w))
+
+-- the flags of a word without bit 1 are flags that a call may give
+pub flags-plain : (w : ℕ) → w < 2 ^ 64 → w / 2 % 2 ≡ 0 → Plain (flagsOf w)
+unfolding flagsOf
+flags-plain w wide clear = record { wide = omega arith; bits = omega arith; clear = omega arith }
+
 -- ---- links
 
 pub link-once : (base j k : ℕ) → linkOf base j ≡ linkOf base k → j ≡ k
@@ -94,10 +164,6 @@ module _ (base k : ℕ) (pages : base % 4096 ≡ 0) (below : base + 4096 * k + 4
   pub link-address : addressOf (linkOf base k) ≡ base + 4096 * k
   unfolding addressOf linkOf
   link-address = omega arith
-
-  pub link-flags : flagsOf (linkOf base k) ≡ 3
-  unfolding flagsOf linkOf
-  link-flags = omega arith
 
   pub link-low : linkOf base k % 4 ≡ 3
   unfolding linkOf

@@ -1,16 +1,14 @@
--- The third step: a whole subtree is unlinked and freed. Sound again, the effect on every tree, what stays. The fourth step, to free a table whose
+-- The third step: a whole subtree is unlinked and freed. Sound again. The fourth step, to free a table whose
 -- words are all 0, is the case with nothing below it. Assumes nothing.
 use mathlib.Core.Path.{_≡_, sym, ap, _∙_, subst}
-use mathlib.Core.List.{[], _∷_}
 use mathlib.Core.Logic.{_⊎_, inl, inr, _≢_}
 use Prim.Native.Nat.{ℕ, zero, suc, _≤_, _<_}
 use native.Mathlib.Omega.{arith}
-use Rattle.forest.specs.Tree.{leaf, put}
 use Rattle.forest.specs.Sound.{State, Codec, Used, levelIn, parent, slotIn, IsTable, Hangs, Refers, Sound}
-use Rattle.forest.specs.Under.{Under, NotUnder, LevelsLeft, under-self, under-zero, under-step, under-back, under-via, under-or, under-apart, hangs-refers, refers-table, refers-child, refers-over, refers-apart}
-use Rattle.forest.specs.Hang.{path, root-not-hung}
-use Rattle.forest.specs.Frame.{treeOf, Change, frame}
-use Rattle.forest.specs.Keep.{SameSlot, same-slot-or, Fits, leaf-over, hangs-keep, refers-keep}
+use Rattle.forest.specs.Under.{Under, NotUnder, under-self, under-zero, under-step, under-back, under-via, under-or, hangs-refers, refers-table, refers-child, refers-over}
+use Rattle.forest.specs.Hang.{root-not-hung}
+use Rattle.forest.specs.Frame.{Change}
+use Rattle.forest.specs.Keep.{SameSlot, same-slot-or, Fits, hangs-keep, refers-keep}
 
 module _ (C : Codec) where
   -- s′ is s with every table under e zeroed, in words and ledger, and the word v in slot i of table p, which referred to e
@@ -96,16 +94,6 @@ module _ {C : Codec} {s s′ : State} {p i e v : ℕ} (S : Sound C s) (frees : F
       wide : (k j : ℕ) → 512 ≤ j → ((d : ℕ) × Under C s e d k) ⊎ NotUnder C s e k → s′ .word k j ≡ 0
       wide k j l (inl under) = frees .empty k (under .0) (under .1) j
       wide k j l (inr off) = frees .words k j off (λ at. omega (arith, inside, l, at .1)) ∙ S .wide k j l
-
-  -- every tree over the slot gets the leaf v there
-  pub free-effect : (all : ℕ) {c d : ℕ} → Under C s c d p → LevelsLeft C s c all
-      → treeOf C s′ all c ≡ put (path C s d p (i ∷ [])) (leaf v) (treeOf C s all c)
-  free-effect all under low = leaf-over S s′ all free-change (frees .here) (fits .plain) under low
-
-  -- every tree that is neither over the slot nor under e stays
-  pub free-stays : (all : ℕ) {c : ℕ} → Used s c → LevelsLeft C s c all → NotUnder C s c p → NotUnder C s e c → treeOf C s′ all c ≡ treeOf C s all c
-  free-stays all {c} u low out off = frame S s′ all c u low (λ d j under k.
-      frees .words j k (under-apart u (r .used) (refers-apart S r out off) off under) (λ at. out d (rw (← at .0) under)))
 
 -- ---- a table whose words are all 0 has nothing below it
 

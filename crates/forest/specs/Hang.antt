@@ -2,11 +2,10 @@
 -- it, and none refers to a root or to a free table. Assumes nothing.
 use mathlib.Core.Path.{_≡_, refl, sym, ap, _∙_, subst}
 use mathlib.Core.List.{List, [], _∷_}
-use mathlib.Core.Logic.{_⊎_, inl, inr, _≢_}
+use mathlib.Core.Logic.{_⊎_, inl, inr}
 use Prim.Native.Nat.{ℕ, zero, suc, _+_}
 use native.Mathlib.Omega.{arith}
 use lib.ListN.{length}
-use Rattle.laws.specs.Test.{eq-or}
 use Rattle.forest.specs.Sound.{State, Codec, Used, levelIn, parent, slotIn, IsTable, Hangs, Refers, Sound}
 use Rattle.forest.specs.Under.{Under, under-self, under-zero, under-step, under-back, under-either, hangs-refers, refers-table, refers-child, refers-level}
 
@@ -116,9 +115,6 @@ module _ {C : Codec} {s : State} where
 
   -- ---- exactly one slot of a used table refers to it
 
-  pub once-only : {k k′ i i′ c : ℕ} → Sound C s → Points C s k i c → Points C s k′ i′ c → (k ≡ k′) × (i ≡ i′)
-  once-only S at at′ = let r = once S at in let r′ = once S at′ in (sym (r .from) ∙ r′ .from, sym (r .at) ∙ r′ .at)
-
   -- no root hangs, and nothing points to one
   pub root-not-hung : {k : ℕ} → C .Root k (s .ledger k) → ¬ (Hangs C s k)
   root-not-hung {k} root h = omega (arith, h .below, ap (levelIn C s) (C .root-over k (s .ledger k) root))
@@ -145,12 +141,3 @@ module _ {C : Codec} {s : State} where
       go : ((x : ℕ) × Under C s c x c′) ⊎ ((x : ℕ) × Under C s c′ x c) → c ≡ c′
       go (inl at) = sym (top c c′ (at .0) root′ (at .1))
       go (inr at) = top c′ c (at .0) root (at .1)
-
--- the used tables say all: two sound pools that agree on the ledger and on the words of used tables agree on every word
-pub used-words : {C : Codec} {s s′ : State} → Sound C s → Sound C s′ → ((k : ℕ) → s′ .ledger k ≡ s .ledger k)
-    → ((k i : ℕ) → Used s k → s′ .word k i ≡ s .word k i) → (k i : ℕ) → s′ .word k i ≡ s .word k i
-used-words {C} {s} {s′} S S′ ledger words k i = go (eq-or (s .ledger k) 0)
-  where
-    go : (s .ledger k ≡ 0) ⊎ (s .ledger k ≢ 0) → s′ .word k i ≡ s .word k i
-    go (inl free) = S′ .free k i (ledger k ∙ free) ∙ sym (S .free k i free)
-    go (inr used) = words k i (omega (arith, used))

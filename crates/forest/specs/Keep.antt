@@ -1,15 +1,13 @@
 -- What the steps share: a word that may stand as a leaf, and what of a table must stay so that it still hangs. Assumes nothing.
 use mathlib.Core.Path.{_≡_, ap, _∙_, subst₂}
-use mathlib.Core.List.{[], _∷_}
 use mathlib.Core.Logic.{_⊎_, inl, inr, _≢_}
-use Prim.Native.Nat.{ℕ, zero, suc, _+_, _-_}
+use Prim.Native.Nat.{ℕ, zero, suc, _+_}
 use native.Mathlib.Omega.{arith}
 use Rattle.laws.specs.Test.{eq-or}
-use Rattle.forest.specs.Tree.{Tree, leaf, put, entry, entry-low, entry-leaf}
-use Rattle.forest.specs.Sound.{State, Codec, Used, TableWord, levelIn, parent, slotIn, IsTable, Hangs, Refers, Sound}
-use Rattle.forest.specs.Under.{Under, LevelsLeft, hangs-refers, refers-table}
-use Rattle.forest.specs.Hang.{path}
-use Rattle.forest.specs.Frame.{treeOf, slotTree, Change, change-over}
+use Rattle.forest.specs.Tree.{leaf, entry, entry-low, entry-leaf}
+use Rattle.forest.specs.Sound.{State, Codec, Used, TableWord, levelIn, parent, slotIn, IsTable, Hangs, Refers}
+use Rattle.forest.specs.Under.{hangs-refers, refers-table}
+use Rattle.forest.specs.Frame.{slotTree}
 
 -- slot j of table k is slot i of table p
 abbrev pub SameSlot : ℕ → ℕ → ℕ → ℕ → Type 0
@@ -32,9 +30,6 @@ module _ (C : Codec) where
   pub zero-fits : (x : ℕ) → Fits x 0
   zero-fits x = record { plain = λ t. omega (arith, t .1); good = C .zero-leaf x }
 
-  levels-left : (s : State) (k : ℕ) → LevelsLeft C s k (3 - levelIn C s k)
-  levels-left s k = omega (arith, C .level-le (s .ledger k))
-
   -- in a table at level l a word that is no table word is a leaf
   pub slot-leaf : (s : State) (left k i : ℕ) {l v : ℕ} → l + left ≡ 3 → s .word k i ≡ v → ¬ (TableWord l v) → slotTree C s left k i ≡ leaf v
   slot-leaf s left k i {l} {v} low word plain = ap (entry (C .child) left (s .word)) word ∙ go left low
@@ -42,15 +37,6 @@ module _ (C : Codec) where
       go : (left : ℕ) → l + left ≡ 3 → entry (C .child) left (s .word) v ≡ leaf v
       go zero low = entry-low (C .child) (s .word) v
       go (suc left) low = entry-leaf (C .child) (suc left) (s .word) v (λ both. plain (omega arith, both))
-
-module _ {C : Codec} {s : State} (S : Sound C s) (s′ : State) where
-  -- a change that leaves a leaf in its slot puts that leaf into every tree over the slot
-  pub leaf-over : (all : ℕ) {p i v c d : ℕ} → Change C s s′ p i → s′ .word p i ≡ v → ¬ (TableWord (levelIn C s p) v)
-      → Under C s c d p → LevelsLeft C s c all → treeOf C s′ all c ≡ put (path C s d p (i ∷ [])) (leaf v) (treeOf C s all c)
-  leaf-over all {p} {i} {v} {c} {d} change word plain under low =
-      let left = 3 - levelIn C s p in
-      change-over S s′ left all change under (levels-left C s p) low
-      ∙ ap (λ (t : Tree). put (path C s d p (i ∷ [])) t (treeOf C s all c)) (slot-leaf C s′ left p i (levels-left C s p) word plain)
 
 module _ {C : Codec} {s : State} where
   -- no table hangs in a slot that holds no table word

@@ -7,7 +7,6 @@ pub mod Hang
 pub mod Frame
 pub mod Keep
 -- the steps, as relations between states
-pub mod Make
 pub mod Store
 pub mod Split
 pub mod Free

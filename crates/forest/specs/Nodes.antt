@@ -9,7 +9,8 @@ use Rattle.laws.specs.Test.{eq-or, eqb-cases}
 use Rattle.laws.specs.Sum.{sum, sum-ext, sum-none, sum-one, sum-add, sum-swap}
 use Rattle.forest.specs.Tree.{Tree, leaf, node, treeAt-node, entry-low, entry-leaf}
 use Rattle.forest.specs.Sound.{State, Codec, Used, levelIn, Refers, Sound}
-use Rattle.forest.specs.Under.{Under, NotUnder, LevelsLeft, under-self, under-zero, under-via, under-or, refers-level, refers-table, refers-child, refers-under, refers-over, refers-one}
+use Rattle.forest.specs.Under.{Under, NotUnder, LevelsLeft, under-self, under-zero, under-via, under-or, refers-level, refers-table, refers-child, refers-under, refers-over}
+use Rattle.forest.specs.Under.{refers-one}
 use Rattle.forest.specs.Hang.{grounded}
 use Rattle.forest.specs.Frame.{treeOf, slotTree, slot-refers}
 

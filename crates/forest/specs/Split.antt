@@ -1,16 +1,13 @@
--- The second step, a split: a free table is filled with leaves, entered in the ledger and linked in the place of a leaf. Sound again, the effect on
--- every tree, what stays. Assumes nothing.
+-- The second step, a split: a free table is filled with leaves, entered in the ledger and linked in the place of a leaf. Sound again.
+-- Assumes nothing.
 use mathlib.Core.Path.{_≡_, sym, ap, _∙_}
-use mathlib.Core.List.{[], _∷_}
 use mathlib.Core.Logic.{_⊎_, inl, inr, _≢_}
-use Prim.Native.Nat.{ℕ, suc, _+_, _-_, _≤_, _<_}
+use Prim.Native.Nat.{ℕ, suc, _+_, _≤_, _<_}
 use native.Mathlib.Omega.{arith}
 use Rattle.laws.specs.Test.{eq-or, le-or}
-use Rattle.forest.specs.Tree.{Tree, leaf, node, node-ext, put, treeAt-node}
+use Rattle.forest.specs.Tree.{leaf, node, node-ext, treeAt-node}
 use Rattle.forest.specs.Sound.{State, Codec, Used, TableWord, levelIn, parent, slotIn, IsTable, Hangs, Refers, Sound}
-use Rattle.forest.specs.Under.{Under, NotUnder, LevelsLeft}
-use Rattle.forest.specs.Hang.{path}
-use Rattle.forest.specs.Frame.{treeOf, slotTree, slot-refers, Change, change-over, frame}
+use Rattle.forest.specs.Frame.{treeOf, Change}
 use Rattle.forest.specs.Keep.{SameSlot, same-slot-or, Fits, slot-leaf, hangs-elsewhere, hangs-keep, refers-keep}
 
 module _ (C : Codec) where
@@ -31,20 +28,6 @@ module _ (C : Codec) where
     pub slot : C .slot x ≡ i
     pub fits : (j : ℕ) → j < 512 → Fits C x (g j)
     pub wide : (j : ℕ) → 512 ≤ j → g j ≡ 0
-
-  -- the codec's own number fits
-  pub number-fit : (s : State) (p i f : ℕ) (g : ℕ → ℕ) → levelIn C s p < 3 → p < C .limit → i < 512
-      → ((j : ℕ) → j < 512 → Fits C (C .number (s .ledger p) p i) (g j)) → ((j : ℕ) → 512 ≤ j → g j ≡ 0)
-      → Fit s p i f (C .number (s .ledger p) p i) g
-  number-fit s p i f g high small inside fits wide = record {
-    well = C .number-well (s .ledger p) p i high small inside;
-    used = C .number-used (s .ledger p) p i;
-    level = C .number-level (s .ledger p) p i high;
-    over = C .number-over f (s .ledger p) p i high small inside;
-    slot = C .number-slot (s .ledger p) p i high small inside;
-    fits = fits;
-    wide = wide;
-  }
 
 module _ {C : Codec} {s s′ : State} {p i f x : ℕ} {g : ℕ → ℕ} (S : Sound C s) (splits : Splits C s s′ p i f x g) (fit : Fit C s p i f x g)
     (used : Used s p) (inside : i < 512) (old : ¬ (IsTable C s p i)) (fresh : s .ledger f ≡ 0) where
@@ -140,20 +123,3 @@ module _ {C : Codec} {s s′ : State} {p i f x : ℕ} {g : ℕ → ℕ} (S : Sou
   -- the new table's own tree: the words as leaves
   pub new-tree : (left : ℕ) → C .level x + left ≡ 3 → treeOf C s′ left f ≡ node (λ j. leaf (g j))
   new-tree left low = treeAt-node (C .child) left (s′ .word) f ∙ node-ext (λ j. slot-leaf C s′ left f j low (splits .filled j) (plain j))
-
-  -- every tree over the slot gets the new table's tree there
-  pub split-effect : (all : ℕ) {c d : ℕ} → Under C s c d p → LevelsLeft C s c all
-      → treeOf C s′ all c ≡ put (path C s d p (i ∷ [])) (node (λ j. leaf (g j))) (treeOf C s all c)
-  split-effect all {c} {d} under low =
-      change-over S s′ (suc left) all split-change under (omega (arith, C .level-le x, fit .level)) low
-      ∙ ap (λ (t : Tree). put (path C s d p (i ∷ [])) t (treeOf C s all c)) slot
-    where
-      left : ℕ
-      left = 3 - C .level x
-
-      slot : slotTree C s′ (suc left) p i ≡ node (λ j. leaf (g j))
-      slot = slot-refers left new-refers ∙ new-tree left (omega (arith, C .level-le x))
-
-  -- every tree that table p is not in stays
-  pub split-stays : (all : ℕ) {c : ℕ} → Used s c → LevelsLeft C s c all → NotUnder C s c p → treeOf C s′ all c ≡ treeOf C s all c
-  split-stays all {c} u low off = frame S s′ all c u low (λ d j under k. splits .words j k (not-new j (under .used)) (λ e. off d (rw (← e .0) under)))

@@ -1,16 +1,12 @@
--- The first step: a leaf word stored over a leaf word, in a slot of a used table. Sound again, the effect on every tree, what stays.
+-- The first step: a leaf word stored over a leaf word, in a slot of a used table. Sound again.
 -- Assumes nothing.
 use mathlib.Core.Path.{_≡_, sym, ap, _∙_}
-use mathlib.Core.List.{[], _∷_}
 use mathlib.Core.Logic.{_⊎_, inl, inr}
 use Prim.Native.Nat.{ℕ, _<_}
 use native.Mathlib.Omega.{arith}
-use Rattle.forest.specs.Tree.{leaf, put}
 use Rattle.forest.specs.Sound.{State, Codec, Used, levelIn, parent, slotIn, IsTable, Hangs, Refers, Sound}
-use Rattle.forest.specs.Under.{Under, NotUnder, LevelsLeft}
-use Rattle.forest.specs.Hang.{path}
-use Rattle.forest.specs.Frame.{treeOf, Change, frame}
-use Rattle.forest.specs.Keep.{SameSlot, same-slot-or, Fits, leaf-over, hangs-elsewhere, hangs-keep, refers-keep}
+use Rattle.forest.specs.Frame.{Change}
+use Rattle.forest.specs.Keep.{SameSlot, same-slot-or, Fits, hangs-elsewhere, hangs-keep, refers-keep}
 
 -- s′ is s with the word v in slot i of table p
 pub record Stored (s s′ : State) (p i v : ℕ) : Type 0 where
@@ -50,12 +46,3 @@ module _ {C : Codec} {s s′ : State} {p i v : ℕ} (S : Sound C s) (stored : St
       leafy k j u l nt (inl e) = rw (stored .ledger k, e .0, e .1, stored .here) (fits .good)
       leafy k j u l nt (inr ne) =
           rw (stored .ledger k, stored .words k j ne) (S .leaves k j u l (λ t. nt (rw (stored .ledger k, levelIn) (t .0), rw (stored .words k j ne) (t .1))))
-
-  -- every tree over the slot gets the leaf v there
-  pub store-effect : (all : ℕ) {c d : ℕ} → Under C s c d p → LevelsLeft C s c all
-      → treeOf C s′ all c ≡ put (path C s d p (i ∷ [])) (leaf v) (treeOf C s all c)
-  store-effect all under low = leaf-over S s′ all store-change (stored .here) (fits .plain) under low
-
-  -- every tree that table p is not in stays
-  pub store-stays : (all : ℕ) {c : ℕ} → Used s c → LevelsLeft C s c all → NotUnder C s c p → treeOf C s′ all c ≡ treeOf C s all c
-  store-stays all {c} used′ low off = frame S s′ all c used′ low (λ d j under k. stored .words j k (λ e. off d (rw (← e .0) under)))

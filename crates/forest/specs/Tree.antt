@@ -2,7 +2,6 @@
 -- Assumes nothing.
 use mathlib.Core.Path.{_≡_, refl, ap, fun-ext}
 use mathlib.Core.Bool.{true, false, cond}
-use mathlib.Core.List.{List, [], _∷_}
 use mathlib.Core.Logic.{_⊎_, inl, inr, _≢_}
 use Prim.Native.Nat.{ℕ, zero, suc, _%_, _≤_, _<_}
 use lib.Dec.{eqb, ltb, ltb→lt, nltb→le}
@@ -16,28 +15,6 @@ pub data Tree : Type 0 where
 
 pub node-ext : {f g : ℕ → Tree} → ((i : ℕ) → f i ≡ g i) → node f ≡ node g
 node-ext same = ap node (fun-ext same)
-
--- ---- a tree put in a place of another
-
--- `put path t u` is u with t in the place that the path leads to, slot by slot
-unfoldable pub put : List ℕ → Tree → Tree → Tree
-put [] t u = t
-put (i ∷ path) t (leaf w) = leaf w
-put (i ∷ path) t (node f) = node (λ j. let u = put path t (f j) in cond (eqb j i) u (f j))
-
-pub put-here : (t u : Tree) → put [] t u ≡ t
-unfolding put
-put-here t u = refl
-
--- one slot of a node changes, and its other slots stay
-pub put-node : {f g : ℕ → Tree} (i : ℕ) (path : List ℕ) (t : Tree) → g i ≡ put path t (f i) → ((j : ℕ) → j ≢ i → g j ≡ f j)
-    → node g ≡ put (i ∷ path) t (node f)
-unfolding put
-put-node {f} {g} i path t here others = node-ext (λ j. go j (eqb-cases j i))
-  where
-    go : (j : ℕ) → ((j ≡ i) × (eqb j i ≡ true)) ⊎ ((j ≢ i) × (eqb j i ≡ false)) → g j ≡ cond (eqb j i) (put path t (f j)) (f j)
-    go j (inl e) = rw (e .1) (rw (e .0) here)
-    go j (inr e) = rw (e .1) (others j (e .0))
 
 -- ---- something done to each slot of a table
 

@@ -130,11 +130,6 @@ module _ {C : Codec} {s : State} where
   pub refers-over : {k i c : ℕ} → Refers C s k i c → NotUnder C s c k
   refers-over r d under = omega (arith, under .deep, refers-level r)
 
-  -- a table that is neither over k nor under c is not over c
-  pub refers-apart : {k i c a : ℕ} → Sound C s → Refers C s k i c → NotUnder C s a k → NotUnder C s c a → NotUnder C s a c
-  refers-apart {c = c} S r off off′ zero under = off′ 0 (subst (λ (a : ℕ). Under C s c 0 a) (under-zero under) (under-self (r .used)))
-  refers-apart {a = a} S r off off′ (suc d) under = off d (subst (λ (k : ℕ). Under C s a d k) (r .from) (under-back S under .1))
-
   -- only one slot of k is over j
   pub refers-one : {k i i′ c c′ d d′ j : ℕ} → Refers C s k i c → Refers C s k i′ c′ → Under C s c d j → Under C s c′ d′ j → i ≡ i′
   refers-one r r′ under under′ =

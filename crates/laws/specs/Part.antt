@@ -1,14 +1,12 @@
 -- A part of a list that was lent and has come back: what a callee says of the part, said of the whole. Assumes nothing.
 use mathlib.Core.Path.{_≡_, refl, sym, ap, _∙_}
 use mathlib.Core.List.{List, [], _∷_, _++_, append-nil}
-use mathlib.Core.Logic.{_⊎_, inl, inr}
 use Prim.Native.Nat.{ℕ, zero, suc, _+_, _-_, _≤_, _<_}
 use native.Mathlib.Numerals.{add-one}
 use native.Mathlib.Omega.{arith}
 use lib.ListN.{length, getD, set, take, drop, replicate, length-append, length-take, length-drop, drop-of-length-le, List·getD-append}
 use lib.Seq.{getD-take, getD-drop, getD-append-add, length-take-le, take-all, drop-length}
 use borrow.Rule.Slice.PartMut.{putMid, midOf, post-is, mid-len}
-use Rattle.laws.specs.Test.{le-or}
 
 -- the list l with the list p in the place of its elements from a on
 unfoldable pub putPart {ℓ} : {A : Type ℓ} → ℕ → List A → List A → List A

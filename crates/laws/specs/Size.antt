@@ -2,15 +2,13 @@
 -- Assumes nothing.
 use mathlib.Core.Path.{_≡_, sym, ap, _∙_}
 use mathlib.Core.Bool.{_&&_}
-use mathlib.Core.Logic.{⊎-elim}
 use Prim.Native.Nat.{ℕ, _+_, _*_, _-_, _/_, _%_, _^_, _≤_, _<_}
-use native.Mathlib.Nat.{add-mul, mul-assoc, mul-mod-left, mul-le-mul-right, div-add-mod', mod-lt, mod-eq-of-lt, zero-mod, mod-mod-of-dvd, dvd-mul-left, add-mul-mod-self-right, div-eq-of-lt-le, div-lt-iff-lt-mul, mul-div-cancel}
+use native.Mathlib.Nat.{add-mul, mul-assoc, mul-mod-left, mul-le-mul-right, div-add-mod', mod-lt, mod-eq-of-lt, zero-mod, mod-mod-of-dvd, dvd-mul-left, add-mul-mod-self-right, div-eq-of-lt-le, div-lt-iff-lt-mul}
 use native.Mathlib.Omega.{arith}
 use lib.Bits.{bitAnd, bitOr, and-mask}
 use lib.Dec.{eqb}
 use lib.Pow.{pow-add, pow-pos, pow-mono, mod-mod-pow}
 use Rattle.laws.specs.Bit.{or-ones, or-aligned, and-not}
-use Rattle.laws.specs.Test.{eq-or}
 
 -- the bytes that one entry of a table at this level spans (document 01, "What a word says": entry sizes)
 unfoldable pub sizeAt : ℕ → ℕ
@@ -32,16 +30,10 @@ pub size-page : (level : ℕ) → 3 ≤ level → sizeAt level ≡ 4096
 unfolding sizeAt
 size-page level h = let e : 12 + 9 * (3 - level) ≡ 12 = omega arith in ap (λ (k : ℕ). 2 ^ k) e
 
--- every size is a multiple of the page, and divides 2^64
+-- every size is a multiple of the page
 pub size-pages : (level : ℕ) → sizeAt level ≡ 2 ^ (9 * (3 - level)) * 4096
 unfolding sizeAt
 size-pages level = let e : 12 + 9 * (3 - level) ≡ 9 * (3 - level) + 12 = omega arith in ap (λ (k : ℕ). 2 ^ k) e ∙ pow-add 2 (9 * (3 - level)) 12
-
-pub size-wraps : (level : ℕ) → 2 ^ 64 ≡ 2 ^ (52 - 9 * (3 - level)) * sizeAt level
-unfolding sizeAt
-size-wraps level =
-    let e : 64 ≡ (52 - 9 * (3 - level)) + (12 + 9 * (3 - level)) = omega arith in
-    ap (λ (k : ℕ). 2 ^ k) e ∙ pow-add 2 (52 - 9 * (3 - level)) (12 + 9 * (3 - level))
 
 pub size-low : (level : ℕ) → 4096 ≤ sizeAt level
 unfolding sizeAt
@@ -73,13 +65,8 @@ pub up-zero : (v : ℕ) → up v 0 ≡ 0
 unfolding up
 up-zero v = down-zero (v + (0 - 1))
 
--- a multiple is its own rounding, up and down
-pub down-multiple : (q a : ℕ) → 0 < a → down (q * a) a ≡ q * a
-unfolding down
-down-multiple q a h = ap (λ (k : ℕ). k * a) (mul-div-cancel q h)
-
 -- the multiples of a around v
-pub down-between : (q v a : ℕ) → 0 < a → q * a ≤ v → v < (q + 1) * a → down v a ≡ q * a
+down-between : (q v a : ℕ) → 0 < a → q * a ≤ v → v < (q + 1) * a → down v a ≡ q * a
 unfolding down
 down-between q v a h l u = ap (λ (k : ℕ). k * a) (div-eq-of-lt-le a l u)
 
@@ -98,10 +85,6 @@ up-next v a h n =
 
 pub down-le : (v a : ℕ) → down v a ≤ v
 down-le v a = let r = down-rest v a in omega arith
-
-pub le-up : (v a : ℕ) → 0 < a → v ≤ up v a
-le-up v a h = ⊎-elim (λ e. let r = up-exact v a h e in omega arith)
-    (λ n. let r = up-next v a h n in let s = down-rest v a in let m = mod-lt v h in omega arith) (eq-or (v % a) 0)
 
 -- ---- sizes are powers of two: masks
 

@@ -1,8 +1,7 @@
 -- A loop over slots as a fold: `iter f n s` is f at 0, then at 1, .., then at n - 1. Assumes nothing.
 use mathlib.Core.Path.{_≡_, refl, sym, ap, _∙_}
-use Prim.Native.Nat.{ℕ, zero, suc, _+_, _≤_, _<_}
+use Prim.Native.Nat.{ℕ, zero, suc, _+_}
 use native.Mathlib.Numerals.{add-one}
-use native.Mathlib.Omega.{arith}
 
 unfoldable pub iter {ℓ} : {S : Type ℓ} → (ℕ → S → S) → ℕ → S → S
 iter f zero s = s

@@ -13,10 +13,6 @@ unfoldable pub sum : ℕ → (ℕ → ℕ) → ℕ
 sum zero f = 0
 sum (suc n) f = sum n f + f n
 
-pub sum-suc : (n : ℕ) (f : ℕ → ℕ) → sum (suc n) f ≡ sum n f + f n
-unfolding sum
-sum-suc n f = refl
-
 pub sum-empty : (f : ℕ → ℕ) → sum 0 f ≡ 0
 unfolding sum
 sum-empty f = refl

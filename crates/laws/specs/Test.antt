@@ -1,6 +1,6 @@
 -- Tests that compute, and what they say: a case split on a test, `T b` through `&&`, `||` and a choice, "for all below n", "for all words".
 -- Assumes nothing.
-use mathlib.Core.Path.{_≡_, refl, sym, ap, _∙_, subst}
+use mathlib.Core.Path.{_≡_, refl, sym, subst}
 use mathlib.Core.Bool.{Bool, true, false, cond, _&&_, _||_, true≢false}
 use mathlib.Core.List.{List, [], _∷_}
 use mathlib.Core.Logic.{_⊎_, inl, inr, _≢_}
@@ -8,7 +8,7 @@ use Prim.Native.Nat.{ℕ, zero, suc, _+_, _≤_, _<_}
 use native.Mathlib.Decide.{decLe}
 use native.Mathlib.Numerals.{add-one}
 use native.Mathlib.Omega.{arith}
-use lib.Dec.{T, eqb, eqb→eq, eqb-refl, leb, ltb}
+use lib.Dec.{T, eqb, eqb→eq, eqb-refl}
 use lib.ListN.{length, getD}
 
 -- ---- case splits
@@ -78,10 +78,6 @@ cond-false false a b u t = t
 pub cond-of : (c a b : Bool) → (T c → T a) → (¬ (T c) → T b) → T (cond c a b)
 cond-of true a b u v = u tt
 cond-of false a b u v = v (λ t. t)
-
-pub cond-same {ℓ} : {A : Type ℓ} (b : Bool) (a : A) → cond b a a ≡ a
-cond-same true a = refl
-cond-same false a = refl
 
 pub eq→eqb : (a b : ℕ) → a ≡ b → T (eqb a b)
 eq→eqb a b e = rw e (eqb-refl b)

@@ -23,7 +23,7 @@ use Rattle.pool.specs.declared.Outcome.{Outcome}
 use Rattle.pool.specs.declared.Outcome.the-variants.{Accepted, Refused}
 use Rattle.verify.specs.Verify.{endFits, verify, refused-never, verified-forwards}
 use Rattle.rules.specs.declared.Map.{Map}
-use Rattle.rules.specs.Fit.{Plain, Fit}
+use Rattle.rules.specs.Fit.{Fit}
 
 -- the map that a call asks for: "start is rounded down and end up to 4096"; "blocks allowed" is NO_BLOCK_MAPPINGS unset, the constraints' bit 0
 unfoldable pub asked : ℕ → ℕ → ℕ → ℕ → ℕ → Map
@@ -158,5 +158,5 @@ asked-fit h start end frame flags constraints low ok =
       some = verified-forwards h (m .region) (p .region);
       frame = f .0;
       room = f .1;
-      flags = record { below = low; alone = only-plain h flags (p .from); no-table = p .plain };
+      flags = record { wide = low; bits = only-plain h flags (p .from); clear = p .plain };
     }

@@ -23,20 +23,18 @@ use Rattle.need.specs.Needed.{needed}
 use Rattle.put.specs.Put.{mapRange}
 use Rattle.map.specs.Ask.{verifyMap}
 use Rattle.map.specs.Call.{refused, mapSound, sound-not, sound-full, sound-mapped, put-down, call-misshaped, call-refused, call-asked}
-use Rattle.forest.specs.Tree.{Tree, node, treeAt-node}
+use Rattle.forest.specs.Tree.{Tree}
 use Rattle.sound.specs.Clauses.{SoundPool}
-use Rattle.sound.specs.Codec.{shaped-placed, childOf, slotWord, rootTree}
+use Rattle.sound.specs.Codec.{shaped-placed, rootTree}
 use Rattle.sound.specs.Decide.{decide-sound, sound-decide}
 use Rattle.sound.specs.Generic.{sound-pool}
-use Rattle.sound.specs.Hanging.{root-left}
 use Rattle.tree.specs.Rules.{Given}
 use Rattle.tree.specs.Document.{document-is}
 use Rattle.tree.specs.Needed.{document-needs}
 use Rattle.tree.specs.Root.{mapTree, mapMade}
 use Rattle.mapped.specs.Terms.{Call, callOf, Maps, askedOf, Passed, leftOf, rootIn, pagesOf, treeAfter, madeBy}
-use Rattle.mapped.specs.Leaf.{root-used}
 use Rattle.mapped.specs.Stand.{Allowed}
-use Rattle.mapped.specs.Moves.{slotShows, Ready, Worked}
+use Rattle.mapped.specs.Moves.{Ready, Worked, root-ready, root-node}
 use Rattle.mapped.specs.Pieces.{doneTable, takesTable, Area}
 use Rattle.mapped.specs.Range.{range-works}
 use Rattle.mapped.specs.Need.{needed-is}
@@ -57,29 +55,21 @@ module _ {h : Handle} {c : Call} {s : St} (passed : Passed h c s) where
   area = asked-area h (c .start) (c .end) (c .frame) (c .flags) (c .constraints) (passed .asks) (passed .shape .level)
 
   ready : Ready (shaped-placed (passed .shape)) s (leftOf h) 0
-  ready = record {
-    shape = passed .shape;
-    pool = passed .pool;
-    used = root-used (shaped-placed (passed .shape)) (passed .pool);
-    low = root-left (shaped-placed (passed .shape)) (passed .pool);
-  }
+  ready = root-ready (passed .shape) (passed .pool)
 
   pub given : Given (pagesOf c)
   given =
       let I = area .inside in
       record { plain = allowed .plain; ends = omega (arith, area .room, I .startPage, I .endPage, I .framePage) }
 
-  is-node : rootTree h s ≡ node (λ i. slotShows h s (leftOf h) 0 i)
-  is-node = treeAt-node (childOf (h .base .0)) (leftOf h) (slotWord s) 0
-
   takes-made : takesTable m (leftOf h) (rootTree h s) ≡ madeBy h c s
   takes-made =
-      subst (λ (t : Tree). takesTable m (leftOf h) t ≡ mapMade (leftOf h) (rootIn h) (pagesOf c) t) (sym is-node)
+      subst (λ (t : Tree). takesTable m (leftOf h) t ≡ mapMade (leftOf h) (rootIn h) (pagesOf c) t) (sym (root-node h s))
       (document-needs (m .flags) (m .blocks) (leftOf h) (rootIn h) (m .region .start .0) (m .region .end .0) (m .frame .0) _ (omega arith) (area .inside))
 
   done-tree : doneTable m (leftOf h) (rootTree h s) ≡ treeAfter h c s
   done-tree =
-      subst (λ (t : Tree). doneTable m (leftOf h) t ≡ mapTree (leftOf h) (rootIn h) (pagesOf c) t) (sym is-node)
+      subst (λ (t : Tree). doneTable m (leftOf h) t ≡ mapTree (leftOf h) (rootIn h) (pagesOf c) t) (sym (root-node h s))
       (document-is (m .flags) (m .blocks) (leftOf h) (rootIn h) (m .region .start .0) (m .region .end .0) (m .frame .0) _ (omega arith) (area .inside))
 
   -- REFUSAL 9'S COUNT IS THE TREE'S

@@ -66,9 +66,6 @@ module _ {h : Handle} (placed : Placed h) where
     inside : i < 512
     inside = slot-below level (m .region .start .0)
 
-    up : levelAt s k ≡ level
-    up = omega (arith, R .low)
-
     fine : FineTree left (slotShows h s left k i)
     fine = slot-fine placed (R .pool) left k i (R .used) (R .low) inside
 

@@ -7,7 +7,7 @@ use native.Mathlib.Omega.{arith}
 use Rattle.laws.specs.Test.{eq-or}
 use Rattle.entry.specs.Sub.{subOf, sub-leaf, sub-link}
 use Rattle.entry.specs.declared.Sub.the-variants.{Table}
-use Rattle.pool.specs.State.{St, tables, wordAt}
+use Rattle.pool.specs.State.{St, tables, wordAt, used-in}
 use Rattle.pool.specs.Number.{lowestFree, free}
 use Rattle.pool.specs.declared.Handle.{Handle}
 use Rattle.pool.specs.declared.Found.the-variants.{At}
@@ -20,7 +20,7 @@ use Rattle.forest.specs.Frame.{slot-refers}
 use Rattle.forest.specs.Keep.{slot-leaf}
 use Rattle.sound.specs.Alloc.{free-found}
 use Rattle.sound.specs.Clauses.{levelAt}
-use Rattle.sound.specs.Codec.{Placed, codecOf, childOf, slotWord, view, word-in, used-in, treeFrom}
+use Rattle.sound.specs.Codec.{Placed, codecOf, childOf, slotWord, view, word-in, treeFrom}
 use Rattle.sound.specs.Generic.{pool-sound}
 use Rattle.sound.specs.Take.{take-is, take-free}
 use Rattle.tree.specs.Visit.{opened, splits, fillTree}

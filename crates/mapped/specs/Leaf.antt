@@ -1,15 +1,15 @@
 -- The leaves of a sound pool are fine words, so its root shows a fine tree; and a fine word with flags from the set may stand where it is fine.
 -- Assumes nothing.
-use mathlib.Core.Path.{_≡_, refl, sym, ap, subst, _∙_}
+use mathlib.Core.Path.{_≡_, ap, subst, _∙_}
 use Prim.Native.Nat.{ℕ, _+_, _-_, _/_, _%_, _^_, _≤_, _<_}
 use native.Mathlib.Omega.{arith}
 use lib.Dec.{T, lit<}
 use Rattle.laws.specs.Bit.{Sub}
 use Rattle.laws.specs.Size.{sizeAt}
-use Rattle.entry.specs.Word.{addressOf, el1Flags}
+use Rattle.entry.specs.Word.{addressOf, el1Flags, plainFlags}
 use Rattle.pool.specs.State.{St, wordAt}
 use Rattle.pool.specs.Number.{levelOf, rootNumber}
-use Rattle.pool.specs.Sound.{flagSet, plainFlags, leafb}
+use Rattle.pool.specs.Sound.{flagSet, leafb}
 use Rattle.pool.specs.declared.Handle.{Handle}
 use Rattle.forest.specs.Tree.{treeAt-node, entry}
 use Rattle.forest.specs.Sound.{TableWord}
@@ -19,7 +19,7 @@ use Rattle.sound.specs.Generic.{leaf-says, pool-sound}
 use Rattle.sound.specs.Hanging.{root-left}
 use Rattle.sound.specs.Step.{Stands}
 use Rattle.tree.specs.Page.{span, entry-rest}
-use Rattle.tree.specs.Word.{frameOf, plain, address-frame}
+use Rattle.tree.specs.Word.{frameOf, address-frame}
 use Rattle.tree.specs.Fine.{Fine, sound-fine}
 use Rattle.tree.specs.Shown.{FineTree, FineTable}
 use Rattle.tree.specs.Forest.{tree-fine}
@@ -30,14 +30,9 @@ pub set-below : (h : Handle) → flagSet h < 2 ^ 64
 unfolding flagSet el1Flags
 set-below h = lit< tt
 
--- flags without bit 1, by either name
-pub plain-is : (w : ℕ) → plainFlags w ≡ plain w
-unfolding plainFlags plain
-plain-is w = refl
-
 pub leaf-fine : (h : Handle) (level w : ℕ) → level ≤ 3 → LeafWord (flagSet h) level w → Fine (3 - level) w
 leaf-fine h level w low leaf =
-    sound-fine (flagSet h) level w low (set-below h) (subst (λ (x : ℕ). Sub x (flagSet h)) (plain-is w) (leaf .flags))
+    sound-fine (flagSet h) level w low (set-below h) (leaf .flags)
     (leaf .clear) (leaf .aligned) (leaf .top) (leaf .page)
 
 module _ {h : Handle} (placed : Placed h) {s : St} (P : SoundPool h s) where
@@ -61,16 +56,16 @@ module _ {h : Handle} (placed : Placed h) {s : St} (P : SoundPool h s) where
   root-fine = table-fine (3 - h .level) 0 root-used (root-left placed P)
 
 -- the flags of a leaf are from the set
-pub leaf-from : {h : Handle} {s : St} → SoundPool h s → (k i : ℕ) → i < 512 → InUse s k → ¬ (TableWord (levelAt s k) (wordAt s k i)) → Sub (plain (wordAt s k i)) (flagSet h)
-leaf-from {h} {s} P k i inside used old = subst (λ (x : ℕ). Sub x (flagSet h)) (plain-is (wordAt s k i)) (P .leaves k i inside used old .flags)
+pub leaf-from : {h : Handle} {s : St} → SoundPool h s → (k i : ℕ) → i < 512 → InUse s k → ¬ (TableWord (levelAt s k) (wordAt s k i)) → Sub (plainFlags (wordAt s k i)) (flagSet h)
+leaf-from {h} {s} P k i inside used old = P .leaves k i inside used old .flags
 
 -- ---- a fine word with flags from the set may stand
 
-pub fine-stands : (h : Handle) (left level v : ℕ) → level + left ≡ 3 → Fine left v → Sub (plain v) (flagSet h) → Stands h level v
+pub fine-stands : (h : Handle) (left level v : ℕ) → level + left ≡ 3 → Fine left v → Sub (plainFlags v) (flagSet h) → Stands h level v
 fine-stands h left level v low fine flags = record {
   plain = λ table. let c = fine .clear (omega (arith, table .0)) in omega (arith, table .1);
   leaf = record {
-    flags = subst (λ (x : ℕ). Sub x (flagSet h)) (sym (plain-is v)) flags;
+    flags = flags;
     clear = λ high. fine .clear (omega arith);
     aligned = λ some high. aligned;
     top = λ z. let t = fine .top (omega arith) in let f = address-frame v in (t .0, omega (arith, t .1));

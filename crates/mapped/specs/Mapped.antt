@@ -5,6 +5,7 @@ use mathlib.Core.List.{List, [], _∷_, map, List·Permᴰ·swap, Permᴰ·symm}
 use mathlib.Core.Logic.{_↔_}
 use Prim.Native.Nat.{ℕ, suc, _+_, _/_, _%_, _≤_, _<_}
 use native.Mathlib.Omega.{arith}
+use Rattle.entry.specs.Word.{valid-of, valid-none}
 use Rattle.pool.specs.State.{St}
 use Rattle.pool.specs.Number.{used, free}
 use Rattle.pool.specs.Refuse.{Out, out}
@@ -20,14 +21,15 @@ use Rattle.sound.specs.Clauses.{SoundPool}
 use Rattle.sound.specs.Codec.{shaped-placed, rootTree}
 use Rattle.sound.specs.Hanging.{used-tree}
 use Rattle.walked.specs.AsBefore.{walkOf, mapped, hole, shown}
-use Rattle.tree.specs.Word.{valid-of, valid-none}
 use Rattle.tree.specs.Walk.{seen}
 use Rattle.tree.specs.Order.{Reorders, Each, Pairs, each-reorders, pairs-reorders, madeAll}
 use Rattle.tree.specs.Demands.{region-mapped, region-holes, others-as-before, tables-after, valid-map-frees-none}
-use Rattle.mapped.specs.Terms.{Call, callOf, Maps, askedOf, Asks, Lawful, Passed, InRegion, frameFor, Valid, Apart, InTurn, next, InSpan, leftOf, rootIn, pagesOf, treeAfter, madeBy, freedBy}
+use Rattle.mapped.specs.Terms.{Call, callOf, Maps, askedOf, Asks, Lawful, Passed, InRegion, frameFor, Valid, Apart, InTurn, next, InSpan, leftOf, rootIn, pagesOf, treeAfter}
+use Rattle.mapped.specs.Terms.{madeBy, freedBy}
 use Rattle.mapped.specs.Leaf.{root-fine}
 use Rattle.mapped.specs.Shown.{inBytes, walk-shown}
-use Rattle.mapped.specs.Call.{stateAfter, given, needed-made, call-full, call-maps, full-passed, full-more, call-passed, call-room, call-count, call-shaped, call-sound, call-tree}
+use Rattle.mapped.specs.Call.{stateAfter, given, needed-made, call-full, call-maps, full-passed, full-more, call-passed, call-room, call-count, call-shaped, call-sound}
+use Rattle.mapped.specs.Call.{call-tree}
 use Rattle.mapped.specs.Place.{region-page, page-region, region-spans, frame-is, span-spans}
 use Rattle.mapped.specs.Order.{apart-flip, order-accepted, order-walks, order-tables, order-shown, turn-enough}
 

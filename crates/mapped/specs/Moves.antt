@@ -7,28 +7,29 @@ use native.Mathlib.Nat.{ℕ-set}
 use native.Mathlib.Omega.{arith}
 use lib.ListN.{length, getD}
 use Rattle.pool.specs.State.{St, tables, wordAt, numberAt, storeAt}
-use Rattle.pool.specs.Number.{levelOf, numberOf, lowestFree, lowest-found, free}
+use Rattle.pool.specs.Number.{levelOf, numberOf, lowestFree, lowest-found, free, level-back}
 use Rattle.pool.specs.Refuse.{Shaped, shaped-keep}
 use Rattle.pool.specs.declared.Handle.{Handle}
 use Rattle.pool.specs.declared.Found.the-variants.{At}
 use Rattle.table.specs.Table.{takeAt, freeTree}
 use Rattle.rules.specs.Rules.{fillOf}
-use Rattle.forest.specs.Tree.{Tree, leaf, entry}
+use Rattle.forest.specs.Tree.{Tree, leaf, entry, node, treeAt-node}
 use Rattle.forest.specs.Sound.{TableWord, IsTable, Refers}
 use Rattle.forest.specs.Under.{refers-level}
 use Rattle.forest.specs.Split.{Splits, Fit, new-tree}
 use Rattle.forest.specs.Place.{below-self, over-trans}
 use Rattle.forest.specs.Move.{Work, move-skip, move-down, move-split, split-at}
 use Rattle.sound.specs.Clauses.{InUse, levelAt, SoundPool}
-use Rattle.sound.specs.Codec.{Placed, shaped-placed, codecOf, childOf, slotWord, view, level-of, number-pos, treeFrom}
+use Rattle.sound.specs.Codec.{Placed, shaped-placed, codecOf, childOf, slotWord, view, number-pos, treeFrom, rootTree}
 use Rattle.sound.specs.Generic.{pool-sound, sound-pool}
 use Rattle.sound.specs.Step.{Stands, not-table, Step, step-pool, step-shaped, step-own}
 use Rattle.sound.specs.Store.{store-step}
 use Rattle.sound.specs.Take.{take-free, take-splits, take-fit, take-tables, take-words}
 use Rattle.sound.specs.Free.{free-step, free-free}
+use Rattle.sound.specs.Hanging.{root-left}
 use Rattle.tree.specs.Fine.{Fine}
 use Rattle.tree.specs.Visit.{fillTree}
-use Rattle.mapped.specs.Leaf.{leaf-fine, leaf-from}
+use Rattle.mapped.specs.Leaf.{leaf-fine, leaf-from, root-used}
 use Rattle.mapped.specs.Rule.{fill-length, fill-at, fill-tree}
 use Rattle.mapped.specs.Stand.{fill-stands}
 
@@ -151,7 +152,7 @@ module _ {h : Handle} (placed : Placed h) where
       same-words = take-words placed (R .pool) (level + 1) k i words f (R .used) inside own high (fill-length level w) found
 
       at-level : levelOf (numberOf (level + 1) k i) ≡ level + 1
-      at-level = level-of (level + 1) k i (omega arith)
+      at-level = level-back (level + 1) k i (omega arith)
 
       pub taken-ready : Ready after left f
       taken-ready =
@@ -202,3 +203,11 @@ module _ {h : Handle} (placed : Placed h) where
       same-words = next .same-words ∙ W .same-words;
       spare = omega (arith, W .spare, next .spare);
     }
+
+-- ---- the root's table of a pool that refusals 1 and 8 leave
+
+pub root-ready : {h : Handle} {s : St} (shape : Shaped h s) → SoundPool h s → Ready (shaped-placed shape) s (3 - h .level) 0
+root-ready shape P = record { shape = shape; pool = P; used = root-used (shaped-placed shape) P; low = root-left (shaped-placed shape) P }
+
+pub root-node : (h : Handle) (s : St) → rootTree h s ≡ node (λ i. slotShows h s (3 - h .level) 0 i)
+root-node h s = treeAt-node (childOf (h .base .0)) (3 - h .level) (slotWord s) 0

@@ -11,7 +11,7 @@ use Rattle.entry.specs.declared.Sub.the-variants.{Table, Leaf}
 use Rattle.region.specs.Region.{entryIndex}
 use Rattle.region.specs.Chunks.{chunks}
 use Rattle.region.specs.declared.MemoryRegion.{MemoryRegion}
-use Rattle.pool.specs.State.{St, tables, wordAt}
+use Rattle.pool.specs.State.{St, tables, wordAt, used-in}
 use Rattle.pool.specs.declared.Handle.{Handle}
 use Rattle.rules.specs.declared.Map.{Map}
 use Rattle.rules.specs.declared.Rule.{Rule}
@@ -22,7 +22,7 @@ use Rattle.forest.specs.Tree.{Tree, leaf, node, treeAt-node}
 use Rattle.forest.specs.Sound.{Refers}
 use Rattle.forest.specs.Frame.{slot-refers}
 use Rattle.forest.specs.Keep.{slot-leaf}
-use Rattle.sound.specs.Codec.{Placed, codecOf, childOf, slotWord, view, word-in, used-in, treeFrom}
+use Rattle.sound.specs.Codec.{Placed, codecOf, childOf, slotWord, view, word-in, treeFrom}
 use Rattle.sound.specs.Generic.{pool-sound}
 use Rattle.tree.specs.Word.{fillWord}
 use Rattle.tree.specs.Fine.{Fine, fine-fill}

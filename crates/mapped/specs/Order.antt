@@ -4,6 +4,7 @@ use mathlib.Core.Path.{_≡_, refl, sym, ap, subst₂, _∙_}
 use mathlib.Core.List.{List, [], _∷_, map, Permᴰ·map}
 use Prim.Native.Nat.{ℕ, suc, _*_, _-_, _/_, _≤_}
 use native.Mathlib.Omega.{arith}
+use Rattle.entry.specs.Word.{valid-of}
 use Rattle.pool.specs.State.{St, tables}
 use Rattle.pool.specs.Number.{used, free, used-free}
 use Rattle.pool.specs.declared.Handle.{Handle}
@@ -17,7 +18,6 @@ use Rattle.walk.specs.Arm.{says}
 use Rattle.walked.specs.AsBefore.{walkOf, shown}
 use Rattle.walked.specs.Any.{slotsOf, met}
 use Rattle.walked.specs.Walked.{walk-of-tree}
-use Rattle.tree.specs.Word.{valid-of}
 use Rattle.tree.specs.Walk.{seen}
 use Rattle.tree.specs.Shown.{FineTable}
 use Rattle.tree.specs.Rules.{Given}

@@ -5,6 +5,9 @@ use Prim.Native.Nat.{ℕ, suc, _+_, _*_, _-_, _/_, _^_, _≤_, _<_}
 use native.Mathlib.Omega.{arith}
 use borrow.Author.Tests.{ltb-true}
 use Rattle.laws.specs.Size.{sizeAt, size-high, down}
+use Rattle.region.specs.Region.{rounded}
+use Rattle.region.specs.Chunks.{Holds}
+use Rattle.region.specs.declared.MemoryRegion.{MemoryRegion}
 use Rattle.pool.specs.State.{St}
 use Rattle.pool.specs.declared.Handle.{Handle}
 use Rattle.pool.specs.declared.VaRange.{VaRange}
@@ -20,12 +23,12 @@ use Rattle.mapped.specs.Call.{area}
 
 -- ---- the pages of a region
 
-module _ {b n start end p : ℕ} (I : Inside b n start end p) (va : ℕ) where
-  pub in-page : start ≤ va → va < end → OfRegion (start / 4096) (end / 4096) (va / 4096)
-  in-page from below = record { from = omega (arith, I .startPage); below = omega (arith, I .endPage) }
+module _ (r : MemoryRegion) {b n p : ℕ} (I : Inside b n (r .start .0) (r .end .0) p) (va : ℕ) where
+  pub in-page : Holds r va → OfRegion (r .start .0 / 4096) (r .end .0 / 4096) (va / 4096)
+  in-page at = record { from = omega (arith, at .from, I .startPage); below = omega (arith, at .below, I .endPage) }
 
-  pub page-in : OfRegion (start / 4096) (end / 4096) (va / 4096) → (start ≤ va) × (va < end)
-  page-in of = (omega (arith, of .from, I .startPage), omega (arith, of .below, I .endPage))
+  pub page-in : OfRegion (r .start .0 / 4096) (r .end .0 / 4096) (va / 4096) → Holds r va
+  page-in of = record { from = omega (arith, of .from, I .startPage); below = omega (arith, of .below, I .endPage) }
 
 pub page-spans : (left q : ℕ) {start end p page : ℕ} → Inside (first (suc left) q) (span (suc left)) start end p → OfRegion (start / 4096) (end / 4096) page → In (suc left) q page
 page-spans left q {page = page} I of = in-of (suc left) q page (omega (arith, I .low, of .from)) (omega (arith, I .high, of .below))
@@ -35,11 +38,11 @@ page-spans left q {page = page} I of = in-of (suc left) q page (omega (arith, I 
 module _ {h : Handle} {c : Call} {s : St} (passed : Passed h c s) (va : ℕ) where
   pub region-page : InRegion c va → OfRegion (pagesOf c .from) (pagesOf c .upto) (va / 4096)
   unfolding asked
-  region-page at = in-page (area passed .inside) va (at .from) (at .below)
+  region-page at = in-page (rounded (c .start) (c .end)) (area passed .inside) va at
 
   pub page-region : OfRegion (pagesOf c .from) (pagesOf c .upto) (va / 4096) → InRegion c va
   unfolding asked
-  page-region of = let p = page-in (area passed .inside) va of in record { from = p .0; below = p .1 }
+  page-region of = page-in (rounded (c .start) (c .end)) (area passed .inside) va of
 
   pub region-spans : InRegion c va → In (suc (leftOf h)) (rootIn h) (va / 4096)
   region-spans at = page-spans (leftOf h) (rootIn h) (area passed .inside) (region-page at)

@@ -9,30 +9,21 @@ use lib.ListN.{length, getD, List·getD-eq-default}
 use borrow.Author.Tests.{ne-eqb}
 use Rattle.laws.specs.Size.{sizeAt, down}
 use Rattle.laws.specs.Test.{byBool, eq-or, le-or}
-use Rattle.entry.specs.Word.{addressOf, flagsOf}
-use Rattle.region.specs.declared.MemoryRegion.{MemoryRegion}
+use Rattle.entry.specs.Word.{addressOf, flagsOf, valid, valid-yes, valid-no, valid-of, valid-none, leafWord}
+use Rattle.region.specs.Region.{whole}
 use Rattle.table.specs.Table.{length-rising, rising-at}
 use Rattle.rules.specs.declared.Map.{Map}
 use Rattle.rules.specs.declared.Rule.the-variants.{Write, Keep, Drop, Down}
-use Rattle.rules.specs.Rules.{valid, tableWord, leafWord, whole, rule2, blockable, ruleOf, fillOf}
+use Rattle.rules.specs.Rules.{tableWord, rule2, blockable, ruleOf, fillOf}
 use Rattle.rules.specs.Laws.{rule-page, rule-keep, rule-part, rule-drop, rule-into, rule-block, rule-split, same-table, fill-hole, fill-leaf}
 use Rattle.forest.specs.Tree.{Tree, leaf, node, node-ext}
-use Rattle.tree.specs.Word.{valid as isValid, fillWord, valid-yes, valid-no, valid-of, valid-none}
+use Rattle.tree.specs.Word.{fillWord}
 use Rattle.tree.specs.Visit.{Rule as Says, keep, write, down as goDown, fillTree}
 use Rattle.tree.specs.Slots.{fillSlot, fill-node, fill-slot, fill-past}
-use Rattle.tree.specs.Document.{written, wholeEntry, already, documentRule}
+use Rattle.tree.specs.Document.{already, documentRule}
 use Rattle.tree.specs.Split.{fill-address}
 
--- ---- the same tests by either name
-
-written-is : (level frame flags : ℕ) → leafWord level frame flags ≡ written level frame flags
-unfolding leafWord written valid isValid
-written-is level frame flags = refl
-
-whole-is : (level : ℕ) (c : MemoryRegion) → whole level c ≡ wholeEntry level c
-unfolding whole wholeEntry
-whole-is level c = refl
-
+-- rule 2's test by either name
 already-is : (level : ℕ) (m : Map) (w : ℕ) → w % 4 ≢ 3 → rule2 level m w ≡ already level (m .region) (m .frame .0) (m .flags) w
 unfolding rule2 already tableWord
 already-is level m w plain = rw (ne-eqb (w % 4) 3 plain)
@@ -55,30 +46,30 @@ module _ (m : Map) (left : ℕ) where
     module _ (other : rule2 level m w ≡ false) where
       said-part : whole level (m .region) ≡ false → saysOf m (suc left) (leaf w) ≡ goDown
       unfolding documentRule
-      said-part e = rw (sym (already-is level m w plain) ∙ other, sym (whole-is level (m .region)) ∙ e)
+      said-part e = rw (sym (already-is level m w plain) ∙ other, e)
 
-      said-block : whole level (m .region) ≡ true → blockable level m ≡ true → saysOf m (suc left) (leaf w) ≡ write (written level (m .frame .0) (m .flags))
+      said-block : whole level (m .region) ≡ true → blockable level m ≡ true → saysOf m (suc left) (leaf w) ≡ write (leafWord level (m .frame .0) (m .flags))
       unfolding documentRule blockable
-      said-block e b = rw (sym (already-is level m w plain) ∙ other, sym (whole-is level (m .region)) ∙ e, b)
+      said-block e b = rw (sym (already-is level m w plain) ∙ other, e, b)
 
       said-split : whole level (m .region) ≡ true → blockable level m ≡ false → saysOf m (suc left) (leaf w) ≡ goDown
       unfolding documentRule blockable
-      said-split e b = rw (sym (already-is level m w plain) ∙ other, sym (whole-is level (m .region)) ∙ e, b)
+      said-split e b = rw (sym (already-is level m w plain) ∙ other, e, b)
 
   -- ---- a table
 
   module _ (f : ℕ → Tree) where
     said-over : whole level (m .region) ≡ false → saysOf m (suc left) (node f) ≡ goDown
     unfolding documentRule
-    said-over e = rw (sym (whole-is level (m .region)) ∙ e)
+    said-over e = rw e
 
-    said-drop : whole level (m .region) ≡ true → isValid (m .flags) ≡ false → saysOf m (suc left) (node f) ≡ write (m .flags)
+    said-drop : whole level (m .region) ≡ true → valid (m .flags) ≡ false → saysOf m (suc left) (node f) ≡ write (m .flags)
     unfolding documentRule
-    said-drop e v = rw (sym (whole-is level (m .region)) ∙ e, v)
+    said-drop e v = rw (e, v)
 
-    said-into : whole level (m .region) ≡ true → isValid (m .flags) ≡ true → saysOf m (suc left) (node f) ≡ goDown
+    said-into : whole level (m .region) ≡ true → valid (m .flags) ≡ true → saysOf m (suc left) (node f) ≡ goDown
     unfolding documentRule
-    said-into e v = rw (sym (whole-is level (m .region)) ∙ e, v)
+    said-into e v = rw (e, v)
 
 -- ---- what both say
 
@@ -96,7 +87,7 @@ pub data TableRule (level : ℕ) (m : Map) (left w : ℕ) (f : ℕ → Tree) : T
 -- rule 1
 pub page-rule : (m : Map) (w : ℕ) → LeafRule 3 m 0 w
 unfolding documentRule
-page-rule m w = writes (written 3 (m .frame .0) (m .flags)) (sym (rule-page 3 m w (omega arith)) ∙ ap Write (written-is 3 (m .frame .0) (m .flags))) refl
+page-rule m w = writes (leafWord 3 (m .frame .0) (m .flags)) (sym (rule-page 3 m w (omega arith))) refl
 
 module _ (m : Map) (left w : ℕ) (low : suc left ≤ 3) where
   -- rules 2, 3, 5
@@ -108,8 +99,8 @@ module _ (m : Map) (left w : ℕ) (low : suc left ≤ 3) where
       (λ same. keeps (sym (rule-keep level m w high same)) (said-same m left w high plain same))
       (λ other. byBool (whole level (m .region))
       (λ all. byBool (blockable level m)
-      (λ b. writes (written level (m .frame .0) (m .flags))
-      (sym (rule-block level m w high other all plain b) ∙ ap Write (written-is level (m .frame .0) (m .flags))) (said-block m left w high plain other all b))
+      (λ b. writes (leafWord level (m .frame .0) (m .flags))
+      (sym (rule-block level m w high other all plain b)) (said-block m left w high plain other all b))
       (λ b. splits (sym (rule-split level m w high other all plain b)) (said-split m left w high plain other all b)))
       (λ part. splits (sym (rule-part level m w high other part)) (said-part m left w high plain other part)))
 
@@ -120,7 +111,7 @@ module _ (m : Map) (left w : ℕ) (low : suc left ≤ 3) where
       let high : level < 3 = omega arith in
       let other : rule2 level m w ≡ false = sym (same-table level m w both) in
       byBool (whole level (m .region))
-      (λ all. byBool (isValid (m .flags))
+      (λ all. byBool (valid (m .flags))
       (λ v. enters (sym (rule-into level m w high other all both (valid-yes (m .flags) v))) (said-into m left f all v))
       (λ v. drops (sym (rule-drop level m w high other all both (λ e. omega (arith, valid-no (m .flags) v)))) (said-drop m left f all v)))
       (λ part. enters (sym (rule-part level m w high other part)) (said-over m left f part))
@@ -146,7 +137,6 @@ module _ (left w : ℕ) (low : suc left ≤ 3) where
           ap (λ (t : List ℕ). getD t i 0) (sym (fill-leaf (3 - suc left) w v))
           ∙ rising-at 512 _ _ i inside
           ∙ ap (λ (l : ℕ). leafWord l (down (addressOf w) (sizeAt (3 - suc left))) (flagsOf w) + i * sizeAt l) up
-          ∙ ap (λ (x : ℕ). x + i * sizeAt (3 - left)) (written-is (3 - left) (down (addressOf w) (sizeAt (3 - suc left))) (flagsOf w))
           ∙ sym (fill-address left w i low ∙ rw (valid-of w v))
       go (inr n) =
           ap (λ (t : List ℕ). getD t i 0) (sym (fill-hole (3 - suc left) w n))

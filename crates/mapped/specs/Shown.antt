@@ -7,7 +7,7 @@ use Prim.Native.Nat.{ℕ, zero, suc, _+_, _*_, _-_, _/_, _%_, _^_, _≤_, _<_}
 use native.Mathlib.Omega.{arith}
 use Rattle.laws.specs.Size.{sizeAt, down, down-rest}
 use Rattle.laws.specs.Test.{byBool}
-use Rattle.entry.specs.Word.{addressOf, flagsOf, kind-block, kind-clear}
+use Rattle.entry.specs.Word.{addressOf, flagsOf, kind-block, kind-clear, valid, plainFlags, valid-yes, valid-no}
 use Rattle.pool.specs.State.{St}
 use Rattle.pool.specs.Refuse.{Shaped}
 use Rattle.pool.specs.declared.Handle.{Handle}
@@ -21,7 +21,7 @@ use Rattle.walked.specs.AsBefore.{walkOf, Shown, mapped, hole, shown}
 use Rattle.walked.specs.Any.{slotsOf, met}
 use Rattle.walked.specs.Walked.{walk-of-tree}
 use Rattle.tree.specs.Page.{span, entry-number, entry-rest, slotOf, slot-lt}
-use Rattle.tree.specs.Word.{valid, frameOf as frameIn, plain, address-frame, valid-yes, valid-no}
+use Rattle.tree.specs.Word.{frameOf as frameIn, address-frame}
 use Rattle.tree.specs.Fine.{Fine}
 use Rattle.tree.specs.Walk.{Seen, mapped as seenMapped, hole as seenHole, seenIn, walk as walkIn, seen, seen-fine}
 use Rattle.tree.specs.Shown.{FineTree, FineTable}
@@ -34,8 +34,8 @@ inBytes (seenHole flags) = hole flags
 
 -- ---- one word
 
-flags-shown : (w : ℕ) → flagsIn w ≡ plain w
-unfolding plain flagsOf
+flags-shown : (w : ℕ) → flagsIn w ≡ plainFlags w
+unfolding plainFlags flagsOf
 flags-shown w =
     let low : w % 4096 / 4 ≡ w / 4 % 1024 = omega arith in
     let bit : w % 4096 % 2 ≡ w % 2 = omega arith in
@@ -66,10 +66,10 @@ frame-shown left w va low fine =
     let e : addressOf w / size * size + va % size / 4096 * 4096 ≡ (frameIn w + va / 4096 % span left) * 4096 = omega arith in
     frame-is (3 - left) w va ∙ e
 
-seen-valid : (left w page : ℕ) → Fine left w → valid w ≡ true → seenIn left w page ≡ seenMapped (plain w) (frameIn w + page % span left)
+seen-valid : (left w page : ℕ) → Fine left w → valid w ≡ true → seenIn left w page ≡ seenMapped (plainFlags w) (frameIn w + page % span left)
 seen-valid left w page fine v = seen-fine left w page fine ∙ rw v
 
-seen-none : (left w page : ℕ) → Fine left w → valid w ≡ false → seenIn left w page ≡ seenHole (plain w)
+seen-none : (left w page : ℕ) → Fine left w → valid w ≡ false → seenIn left w page ≡ seenHole (plainFlags w)
 seen-none left w page fine v = seen-fine left w page fine ∙ rw v
 
 says-shown : (left w va : ℕ) → left ≤ 3 → Fine left w → shown (says va (at (3 - left) w)) ≡ inBytes (seenIn left w (va / 4096))
@@ -80,10 +80,10 @@ says-shown left w va low fine = byBool (valid w)
     ap shown (says-hole (3 - left) w va (kind-clear (3 - left) w (λ e. omega arith) (λ e. omega arith)))
     ∙ ap hole (flags-shown w) ∙ sym (ap inBytes (seen-none left w (va / 4096) fine v)))
   where
-    both : (k : ℕ) → k ≤ 3 → Fine k w → mapped (flagsIn w) (frameOf (3 - k) w va) ≡ mapped (plain w) ((frameIn w + va / 4096 % span k) * 4096)
+    both : (k : ℕ) → k ≤ 3 → Fine k w → mapped (flagsIn w) (frameOf (3 - k) w va) ≡ mapped (plainFlags w) ((frameIn w + va / 4096 % span k) * 4096)
     both k l f = ap₂ mapped (flags-shown w) (frame-shown k w va l f)
 
-    some : (k : ℕ) → k ≤ 3 → Fine k w → w % 2 ≡ 1 → shown (says va (at (3 - k) w)) ≡ mapped (plain w) ((frameIn w + va / 4096 % span k) * 4096)
+    some : (k : ℕ) → k ≤ 3 → Fine k w → w % 2 ≡ 1 → shown (says va (at (3 - k) w)) ≡ mapped (plainFlags w) ((frameIn w + va / 4096 % span k) * 4096)
     some zero l f o = let b = f .page refl o in ap shown (says-page 3 w va (omega arith)) ∙ both 0 l f
     some (suc zero) l f o =
         let b = f .clear (omega arith) in ap shown (says-block 2 w va (kind-block 2 w (inr refl) (omega arith))) ∙ both 1 l f
@@ -136,7 +136,8 @@ module _ {h : Handle} {s : St} (shape : Shaped h s) (P : SoundPool h s) (va : �
   walk-shown =
       let left : ℕ = 3 - h .level in
       let e : Ends = walkTree (slotOf (va / 4096)) (suc left) (rootTree h s) in
-      let same : walkTree (slotsOf va) (suc left) (rootTree h s) ≡ e = walk-same (slotsOf va) (slotOf (va / 4096)) (suc left) (rootTree h s) (λ l h. slots-are va l (omega arith)) in
+      let same : walkTree (slotsOf va) (suc left) (rootTree h s) ≡ e =
+      walk-same (slotsOf va) (slotOf (va / 4096)) (suc left) (rootTree h s) (λ l h. slots-are va l (omega arith)) in
       let ends = table-ends (slotOf (va / 4096)) left (rootTree h s) (slot-lt (va / 4096)) (root-fine (shaped-placed shape) P) in
       ap shown (walk-of-tree shape P va) ∙ ap (λ (x : Ends). shown (says va (met x))) same ∙ ends-shown va e left (omega arith) ends
       ∙ ap inBytes (seen-ends (suc left) (rootTree h s) (va / 4096))

@@ -7,21 +7,22 @@ use lib.Dec.{eqb, ltb}
 use Rattle.laws.specs.Bit.{Sub}
 use Rattle.laws.specs.Size.{sizeAt}
 use Rattle.laws.specs.Test.{byBool}
-use Rattle.entry.specs.Word.{flagsOf}
+use Rattle.entry.specs.Word.{flagsOf, valid, plainFlags, Plain, flags-valid, leafWord}
+use Rattle.region.specs.Region.{whole}
 use Rattle.pool.specs.Sound.{flagSet}
 use Rattle.pool.specs.declared.Handle.{Handle}
 use Rattle.rules.specs.declared.Map.{Map}
 use Rattle.forest.specs.Tree.{Tree, leaf, node}
 use Rattle.sound.specs.Step.{Stands}
 use Rattle.tree.specs.Page.{span, first}
-use Rattle.tree.specs.Word.{valid as isValid, plain, fillWord, Plain, plain-flags, flags-valid, flags-shown, leaf-hole, leaf-plain}
+use Rattle.tree.specs.Word.{fillWord, plain-flags, flags-shown, leaf-hole, leaf-plain}
 use Rattle.tree.specs.Fine.{Fine, fill-flags, fill-is, fill-below, fine-fill}
 use Rattle.tree.specs.Visit.{keep, write, down as goDown}
 use Rattle.tree.specs.Shown.{FineTree, Good}
 use Rattle.tree.specs.Rules.{Given}
 use Rattle.tree.specs.After.{map-shows}
 use Rattle.tree.specs.Chunks.{inPages, Inside}
-use Rattle.tree.specs.Document.{written, wholeEntry, already, word-frames, documentRule, document-says}
+use Rattle.tree.specs.Document.{already, word-frames, documentRule, document-says}
 use Rattle.mapped.specs.Leaf.{fine-stands}
 use Rattle.mapped.specs.Rule.{saysOf}
 
@@ -39,32 +40,32 @@ pub record Piece (left q : ℕ) (m : Map) : Type 0 where
 -- ---- what is written
 
 module _ (m : Map) (flags : Plain (m .flags)) where
-  written-plain : (left p : ℕ) → left ≤ 3 → p % 4096 ≡ 0 → p < 2 ^ 48 → plain (written (3 - left) p (m .flags)) ≡ m .flags
+  written-plain : (left p : ℕ) → left ≤ 3 → p % 4096 ≡ 0 → p < 2 ^ 48 → plainFlags (leafWord (3 - left) p (m .flags)) ≡ m .flags
   written-plain left p low paged small =
-      ap plain (word-frames left p (m .flags) low paged) ∙ byBool (isValid (m .flags))
+      ap plainFlags (word-frames left p (m .flags) low paged) ∙ byBool (valid (m .flags))
       (λ v. leaf-plain (m .flags) flags left (p / 4096) (omega arith) v)
-      (λ v. ap plain (leaf-hole (m .flags) flags left (p / 4096) v) ∙ flags-shown (m .flags) flags)
+      (λ v. ap plainFlags (leaf-hole (m .flags) flags left (p / 4096) v) ∙ flags-shown (m .flags) flags)
 
   -- whatever is written has the map's flags
-  says-plain : (left x : ℕ) (t : Tree) → left ≤ 3 → m .frame .0 % 4096 ≡ 0 → m .frame .0 < 2 ^ 48 → saysOf m left t ≡ write x → plain x ≡ m .flags
+  says-plain : (left x : ℕ) (t : Tree) → left ≤ 3 → m .frame .0 % 4096 ≡ 0 → m .frame .0 < 2 ^ 48 → saysOf m left t ≡ write x → plainFlags x ≡ m .flags
   unfolding documentRule
   says-plain zero x (leaf w) low paged small e =
-      let same : written 3 (m .frame .0) (m .flags) ≡ x = cc in ap plain (sym same) ∙ written-plain 0 (m .frame .0) low paged small
+      let same : leafWord 3 (m .frame .0) (m .flags) ≡ x = cc in ap plainFlags (sym same) ∙ written-plain 0 (m .frame .0) low paged small
   says-plain zero x (node f) low paged small e = let z : _≡_ {A = ℕ} 0 1 = cc in absurd (omega arith)
   says-plain (suc left) x (leaf w) low paged small e =
       let level : ℕ = 3 - suc left in
       either (already level (m .region) (m .frame .0) (m .flags) w)
-      (wholeEntry level (m .region) && (eqb (m .frame .0 % sizeAt level) 0 && (m .blocks && ltb 0 level))) e
+      (whole level (m .region) && (eqb (m .frame .0 % sizeAt level) 0 && (m .blocks && ltb 0 level))) e
     where
-      either : (a b : Bool) → cond a keep (cond b (write (written (3 - suc left) (m .frame .0) (m .flags))) goDown) ≡ write x → plain x ≡ m .flags
+      either : (a b : Bool) → cond a keep (cond b (write (leafWord (3 - suc left) (m .frame .0) (m .flags))) goDown) ≡ write x → plainFlags x ≡ m .flags
       either true b e = let z : _≡_ {A = ℕ} 0 1 = cc in absurd (omega arith)
       either false true e =
-          let same : written (3 - suc left) (m .frame .0) (m .flags) ≡ x = cc in ap plain (sym same) ∙ written-plain (suc left) (m .frame .0) low paged small
+          let same : leafWord (3 - suc left) (m .frame .0) (m .flags) ≡ x = cc in ap plainFlags (sym same) ∙ written-plain (suc left) (m .frame .0) low paged small
       either false false e = let z : _≡_ {A = ℕ} 0 1 = cc in absurd (omega arith)
-  says-plain (suc left) x (node f) low paged small e = either (wholeEntry (3 - suc left) (m .region) && not (isValid (m .flags))) e
+  says-plain (suc left) x (node f) low paged small e = either (whole (3 - suc left) (m .region) && not (valid (m .flags))) e
     where
-      either : (a : Bool) → cond a (write (m .flags)) goDown ≡ write x → plain x ≡ m .flags
-      either true e = let same : m .flags ≡ x = cc in ap plain (sym same) ∙ flags-shown (m .flags) flags
+      either : (a : Bool) → cond a (write (m .flags)) goDown ≡ write x → plainFlags x ≡ m .flags
+      either true e = let same : m .flags ≡ x = cc in ap plainFlags (sym same) ∙ flags-shown (m .flags) flags
       either false e = let z : _≡_ {A = ℕ} 0 1 = cc in absurd (omega arith)
 
 -- it may stand where it is written
@@ -82,14 +83,14 @@ write-stands h left q level x m t allowed piece low fine e =
 -- ---- what a split fills
 
 module _ (h : Handle) (left w : ℕ) (fine : Fine (suc left) w) (j : ℕ) (slot : j < 512) where
-  fill-plain : plain (fillWord left w j) ≡ plain w
+  fill-plain : plainFlags (fillWord left w j) ≡ plainFlags w
   fill-plain =
       let F = fill-flags left w fine in
-      ap plain (fill-is left w fine j) ∙ byBool (isValid w)
+      ap plainFlags (fill-is left w fine j) ∙ byBool (valid w)
       (λ v. leaf-plain (flagsOf w) F left _ (fill-below left w fine j slot v) (flags-valid w ∙ v))
-      (λ v. ap plain (leaf-hole (flagsOf w) F left _ (flags-valid w ∙ v)) ∙ flags-shown (flagsOf w) F)
+      (λ v. ap plainFlags (leaf-hole (flagsOf w) F left _ (flags-valid w ∙ v)) ∙ flags-shown (flagsOf w) F)
       ∙ sym (plain-flags w (fine .clear (omega arith)))
 
-  pub fill-stands : (level : ℕ) → level + left ≡ 3 → Sub (plain w) (flagSet h) → Stands h level (fillWord left w j)
+  pub fill-stands : (level : ℕ) → level + left ≡ 3 → Sub (plainFlags w) (flagSet h) → Stands h level (fillWord left w j)
   fill-stands level low from =
       fine-stands h left level (fillWord left w j) low (fine-fill left w fine j slot) (subst (λ (f : ℕ). Sub f (flagSet h)) (sym fill-plain) from)

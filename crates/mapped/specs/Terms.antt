@@ -1,10 +1,12 @@
--- The words in which the demands on the call are said: the call and its answer, its region, the root's span, the tables that a map makes and frees. Definitions alone. Assumes nothing.
+-- The words in which the demands on the call are said: the call and its answer, its region, the root's span, the tables that a map makes and frees. Definitions
+-- alone. Assumes nothing.
 use mathlib.Core.Path.{_≡_}
 use mathlib.Core.Bool.{true}
 use mathlib.Core.List.{List, [], _∷_}
-use Prim.Native.Nat.{ℕ, _+_, _-_, _%_, _^_, _≤_, _<_}
+use Prim.Native.Nat.{ℕ, _+_, _-_, _%_, _^_, _<_}
 use Rattle.laws.specs.Size.{down}
 use Rattle.region.specs.Region.{rounded}
+use Rattle.region.specs.Chunks.{Holds}
 use Rattle.pool.specs.State.{St}
 use Rattle.pool.specs.Refuse.{Shaped, Out, out}
 use Rattle.pool.specs.declared.Handle.{Handle}
@@ -66,9 +68,8 @@ pub record Passed (h : Handle) (c : Call) (s : St) : Type 0 where
   pub pool : SoundPool h s
 
 -- the address lies in the call's region: "start is rounded down and end up to 4096"
-pub record InRegion (c : Call) (va : ℕ) : Type 0 where
-  pub from : rounded (c .start) (c .end) .start .0 ≤ va
-  pub below : va < rounded (c .start) (c .end) .end .0
+abbrev pub InRegion : Call → ℕ → Type 0
+InRegion c va = Holds (rounded (c .start) (c .end)) va
 
 -- the frame that the call gives to the page of an address
 abbrev pub frameFor : Call → ℕ → ℕ

@@ -66,11 +66,6 @@ module _ (h : Handle) (start end set clear : ℕ) (live : Bool) (ok : verifyEdit
   pub asked-bits : Bits h e
   asked-bits = let b = bits-pass h (e .set) (e .clear) (asked-passes .0) in record { set = b .0; clear = b .1 }
 
-  -- VALID is not among the bits to set
-  pub asked-even : set % 2 ≡ 0
-  unfolding asked
-  asked-even = bits-pass h (e .set) (e .clear) (asked-passes .0) .2
-
   pub asked-area : h .level ≤ 3 → Area (3 - h .level) (rootOf (h .range) (3 - h .level)) (areaOf e 0)
   unfolding asked
   asked-area low = record {

@@ -1,7 +1,7 @@
 -- The call of modify on a pool that refusals 1 to 8 leave: it is refused 9 exactly when the tree's count exceeds what is free, and where it is accepted it leaves
 -- a sound pool whose root shows the tree after the modify. Assumes nothing.
 use mathlib.Core.Path.{_≡_, refl, sym, ap, subst, _∙_}
-use mathlib.Core.Bool.{Bool, true, false}
+use mathlib.Core.Bool.{Bool, true, false, true≢false}
 use mathlib.Core.List.{List, _++_}
 use mathlib.Core.Logic.{_⊎_, inl, inr}
 use Prim.Native.Nat.{ℕ, suc, _/_, _%_, _^_, _≤_, _<_}
@@ -25,20 +25,20 @@ use Rattle.modify.specs.declared.Modified.{Modified}
 use Rattle.modify.specs.declared.Modified.the-variants as modified
 use Rattle.modify.specs.Ask.{asked, verifyEdit, verifySurvey, survey-full, survey-off, survey-broken, survey-short, survey-accepted}
 use Rattle.modify.specs.Call.{Modifying, modifying, refused, answerOf, editTables, modifySound, sound-not, sound-refused, sound-edited, call-misshaped, call-refused, call-asked}
-use Rattle.forest.specs.Tree.{Tree, node, treeAt-node}
+use Rattle.modify.specs.Call.{nothing}
+use Rattle.forest.specs.Tree.{Tree}
 use Rattle.sound.specs.Clauses.{SoundPool}
-use Rattle.sound.specs.Codec.{shaped-placed, childOf, slotWord, rootTree}
+use Rattle.sound.specs.Codec.{shaped-placed, rootTree}
 use Rattle.sound.specs.Decide.{decide-sound, sound-decide}
-use Rattle.sound.specs.Hanging.{root-left}
 use Rattle.tree.specs.Modify.{GivenModify, modifyTree, modifyMade}
 use Rattle.tree.specs.Walk.{seen}
 use Rattle.tree.specs.DocumentModify.{document-modifies, document-modify-needs}
 use Rattle.mapped.specs.Terms.{leftOf, rootIn}
-use Rattle.mapped.specs.Leaf.{slot-fine, root-used}
-use Rattle.mapped.specs.Moves.{slotShows, Ready, Worked, worked-shaped, worked-pool}
+use Rattle.mapped.specs.Leaf.{slot-fine}
+use Rattle.mapped.specs.Moves.{slotShows, Ready, Worked, worked-shaped, worked-pool, root-ready, root-node}
 use Rattle.mapped.specs.Pieces.{Area}
 use Rattle.mapped.specs.Asked.{Early}
-use Rattle.modified.specs.Terms.{Call, callOf, accepted, Modifies, askedOf, Passed, surveyed, pagesOf, treeAfter, madeBy, numbersOf, Fits}
+use Rattle.modified.specs.Terms.{Call, callOf, accepted, Modifies, askedOf, Passed, surveyed, pagesOf, treeAfter, madeBy, numbersOf}
 use Rattle.modified.specs.Numbers.{tableNumbers, occurs, firstPage}
 use Rattle.modified.specs.Word.{Bits}
 use Rattle.modified.specs.Range.{editTable, editTakes, areaOf, range-edits}
@@ -65,39 +65,31 @@ module _ {h : Handle} {c : Call} {s : St} (passed : Passed h c s) where
   area = asked-area h (c .start) (c .end) (c .set) (c .clear) (c .live) (passed .asks) (passed .shape .level)
 
   pub ready : Ready (shaped-placed (passed .shape)) s (leftOf h) 0
-  ready = record {
-    shape = passed .shape;
-    pool = passed .pool;
-    used = root-used (shaped-placed (passed .shape)) (passed .pool);
-    low = root-left (shaped-placed (passed .shape)) (passed .pool);
-  }
+  ready = root-ready (passed .shape) (passed .pool)
 
   pub given : GivenModify (pagesOf c)
   given = record { set = bits .set .plain; clear = bits .clear .plain }
 
-  is-node : rootTree h s ≡ node (λ i. slotShows h s (leftOf h) 0 i)
-  is-node = treeAt-node (childOf (h .base .0)) (leftOf h) (slotWord s) 0
-
   takes-made : editTakes e (leftOf h) 0 (rootTree h s) ≡ madeBy h c s
   takes-made =
-      subst (λ (t : Tree). editTakes e (leftOf h) 0 t ≡ modifyMade (leftOf h) (rootIn h) (pagesOf c) t) (sym is-node)
+      subst (λ (t : Tree). editTakes e (leftOf h) 0 t ≡ modifyMade (leftOf h) (rootIn h) (pagesOf c) t) (sym (root-node h s))
       (document-modify-needs (e .set) (e .clear) (leftOf h) (rootIn h) (e .region .start .0) (e .region .end .0) _ (omega arith) (area .inside))
 
   done-tree : editTable e (leftOf h) 0 (rootTree h s) ≡ treeAfter h c s
   done-tree =
-      subst (λ (t : Tree). editTable e (leftOf h) 0 t ≡ modifyTree (leftOf h) (rootIn h) (pagesOf c) t) (sym is-node)
+      subst (λ (t : Tree). editTable e (leftOf h) 0 t ≡ modifyTree (leftOf h) (rootIn h) (pagesOf c) t) (sym (root-node h s))
       (document-modifies (e .set) (e .clear) (leftOf h) (rootIn h) (e .region .start .0) (e .region .end .0) _ (omega arith) (area .inside))
 
   -- REFUSAL 9'S COUNT IS THE TREE'S
   pub splits-made : surveyed h c s .splits ≡ madeBy h c s
   splits-made =
-      let q = survey-splits (shaped-placed (passed .shape)) (leftOf h) 0 0 e s (record { splits = 0; numbers = 0; broken = false; word = 0 }) ready in
+      let q = survey-splits (shaped-placed (passed .shape)) (leftOf h) 0 0 e s nothing ready in
       omega (arith, takes-made)
 
   -- REFUSAL 11'S COUNT IS THE TREE'S, where the house rule is kept
   pub numbers-made : surveyed h c s .broken ≡ false → surveyed h c s .numbers ≡ length (numbersOf h c s)
   numbers-made kept =
-      let a = survey-numbers (shaped-placed (passed .shape)) (leftOf h) (omega arith) (rootIn h) 0 0 e s (record { splits = 0; numbers = 0; broken = false; word = 0 }) area ready kept in
+      let a = survey-numbers (shaped-placed (passed .shape)) (leftOf h) (omega arith) (rootIn h) 0 0 e s nothing area ready kept in
       omega (arith, a .numbers)
 
   -- each once
@@ -113,7 +105,7 @@ module _ {h : Handle} {c : Call} {s : St} (passed : Passed h c s) where
       let placed = shaped-placed (passed .shape) in
       ap (λ (t : Tree). occurs (firstPage (suc (leftOf h)) t y % 2 ^ 44) (numbersOf h c s)) (sym done-tree)
       ∙ subst (λ (t : Tree). occurs (firstPage (suc (leftOf h)) (editTable e (leftOf h) 0 t) y % 2 ^ 44) (tableNumbers (e .set) (e .clear) (leftOf h) (e .region) t)
-      ≡ changes (e .set) (e .clear) (seen (suc (leftOf h)) t y)) (sym is-node)
+      ≡ changes (e .set) (e .clear) (seen (suc (leftOf h)) t y)) (sym (root-node h s))
       (region-tells (e .set) (e .clear) (bits .set .plain) (bits .clear .plain) y (leftOf h) (rootIn h) (areaOf e 0) (λ i. slotShows h s (leftOf h) 0 i) (omega arith) area
       (λ j inside. slot-fine placed (passed .pool) (leftOf h) 0 j (ready .used) (ready .low) inside)
       (asked-forwards h (c .start) (c .end) (c .set) (c .clear) (c .live) (passed .asks)) above under)
@@ -140,19 +132,22 @@ module _ {h : Handle} {c : Call} {s : St} (passed : Passed h c s) where
 
 -- ---- what the call answers
 
+-- none of refusals 9 to 11 is given, by the survey
+pub record Clear (h : Handle) (c : Call) (s : St) (list : List ℕ) : Type 0 where
+  pub room : madeBy h c s ≤ free (s .ledger)
+  pub kept : c .live ≡ true → surveyed h c s .broken ≡ false
+  pub enough : c .live ≡ true → length (numbersOf h c s) ≤ length list
+
 -- refusals 9, 10 and 11, or none of them
 pub data Judged (h : Handle) (c : Call) (s : St) (list : List ℕ) : Type 0 where
   is-full : free (s .ledger) < madeBy h c s → Judged h c s list
   is-broken : madeBy h c s ≤ free (s .ledger) → c .live ≡ true → surveyed h c s .broken ≡ true → Judged h c s list
   is-short : madeBy h c s ≤ free (s .ledger) → c .live ≡ true → surveyed h c s .broken ≡ false → length list < length (numbersOf h c s) → Judged h c s list
-  is-fit : Fits h c s list → Judged h c s list
+  is-clear : Clear h c s list → Judged h c s list
 
 -- what refusals 9 to 11 say
 abbrev verdict : Handle → Call → St → List ℕ → Outcome
 verdict h c s list = verifySurvey (free (s .ledger)) (length list) (c .live) (surveyed h c s)
-
-false-not : false ≡ true → ⊥
-false-not q = let z : _≡_ {A = ℕ} 0 1 = cc in omega arith
 
 -- no refusal is an acceptance
 not-accepted : {r : Refusal} (live : Bool) (n k : ℕ) → modified.Refused r ≡ accepted live n k → ⊥
@@ -192,7 +187,7 @@ module _ {h : Handle} {c : Call} {s : St} (passed : Passed h c s) (list : List �
       ∙ ap (λ (n : ℕ). refused (WantOfRoom n (free (s .ledger))) s list) m
 
   -- accepted
-  pub call-accepted : Fits h c s list → let w = workAfter h c s list in
+  pub call-accepted : Clear h c s list → let w = workAfter h c s list in
       callOf h c s list ≡ modifying (accepted (c .live) (used (w .state .ledger)) (w .count)) (w .state) (w .list)
   call-accepted fits = call-done (go (c .live) refl)
     where
@@ -200,7 +195,9 @@ module _ {h : Handle} {c : Call} {s : St} (passed : Passed h c s) (list : List �
       room = omega (arith, fits .room, splits-made passed)
 
       go : (live : Bool) → c .live ≡ live → verdict h c s list ≡ Accepted
-      go true q = sym (survey-accepted (free (s .ledger)) (length list) (c .live) (surveyed h c s) room q (fits .kept q) (fits .enough q))
+      go true q =
+          sym (survey-accepted (free (s .ledger)) (length list) (c .live) (surveyed h c s) room q (fits .kept q)
+          (omega (arith, fits .enough q, numbers-made passed (fits .kept q))))
       go false q = sym (survey-off (free (s .ledger)) (length list) (c .live) (surveyed h c s) room q)
 
   -- refusal 10
@@ -223,14 +220,15 @@ module _ {h : Handle} {c : Call} {s : St} (passed : Passed h c s) (list : List �
   judged : Judged h c s list
   judged = go (le-or (madeBy h c s) (free (s .ledger)))
     where
-      long : surveyed h c s .broken ≡ false → (length (numbersOf h c s) ≤ length list) ⊎ (length list < length (numbersOf h c s)) → madeBy h c s ≤ free (s .ledger) → c .live ≡ true → Judged h c s list
-      long kept (inl enough) room on = is-fit (record { room = room; kept = λ q. kept; enough = λ q. omega (arith, numbers-made passed kept) })
+      long : surveyed h c s .broken ≡ false → (length (numbersOf h c s) ≤ length list) ⊎ (length list < length (numbersOf h c s)) → madeBy h c s ≤ free (s .ledger)
+          → c .live ≡ true → Judged h c s list
+      long kept (inl enough) room on = is-clear (record { room = room; kept = λ q. kept; enough = λ q. enough })
       long kept (inr short) room on = is-short room on kept short
 
       live : madeBy h c s ≤ free (s .ledger) → (b : Bool) → c .live ≡ b → Judged h c s list
       live room true on = byBool (surveyed h c s .broken) (λ broken. is-broken room on broken)
           (λ kept. long kept (le-or (length (numbersOf h c s)) (length list)) room on)
-      live room false off = is-fit (record { room = room; kept = λ on. absurd (false-not (sym off ∙ on)); enough = λ on. absurd (false-not (sym off ∙ on)) })
+      live room false off = is-clear (record { room = room; kept = λ on. absurd (true≢false (sym on ∙ off)); enough = λ on. absurd (true≢false (sym on ∙ off)) })
 
       go : (madeBy h c s ≤ free (s .ledger)) ⊎ (free (s .ledger) < madeBy h c s) → Judged h c s list
       go (inl room) = live room (c .live) refl
@@ -270,9 +268,10 @@ module _ (h : Handle) (c : Call) (s : St) (list : List ℕ) {y : Refusal} {s′ 
   refused-is : {r : Refusal} → callOf h c s list ≡ refused r s list → y ≡ r
   refused-is {r} q = let p = answer-of (sym q ∙ is) in let same : r ≡ y = cc in sym same
 
-  refused-not : Passed h c s → Fits h c s list → ⊥
+  refused-not : Passed h c s → Clear h c s list → ⊥
   refused-not passed fits =
-      not-accepted (c .live) (used (workAfter h c s list .state .ledger)) (workAfter h c s list .count) (ap (λ (x : Modifying). x .answer) (sym is ∙ call-accepted passed list fits))
+      not-accepted (c .live) (used (workAfter h c s list .state .ledger)) (workAfter h c s list .count)
+      (ap (λ (x : Modifying). x .answer) (sym is ∙ call-accepted passed list fits))
 
 module _ (h : Handle) (c : Call) (s : St) (list : List ℕ) {s′ : St} {list′ : List ℕ} where
   pub full-back : {a b : ℕ} → callOf h c s list ≡ modifying (modified.Refused (WantOfRoom a b)) s′ list′ → Passed h c s × (free (s .ledger) < madeBy h c s)
@@ -285,7 +284,7 @@ module _ (h : Handle) (c : Call) (s : St) (list : List ℕ) {s′ : St} {list′
       go (is-full full) = full
       go (is-broken room on broken) = absurd (let e = ap number (refused-is h c s list is (call-broken passed list room on broken)) in omega arith)
       go (is-short room on kept short) = absurd (let e = ap number (refused-is h c s list is (call-short passed list room on kept short)) in omega arith)
-      go (is-fit fits) = absurd (refused-not h c s list is passed fits)
+      go (is-clear fits) = absurd (refused-not h c s list is passed fits)
 
   pub broken-back : {w : ℕ} → callOf h c s list ≡ modifying (modified.Refused (HouseRule w)) s′ list′
       → Passed h c s × (madeBy h c s ≤ free (s .ledger)) × (c .live ≡ true) × (surveyed h c s .broken ≡ true)
@@ -298,7 +297,7 @@ module _ (h : Handle) (c : Call) (s : St) (list : List ℕ) {s′ : St} {list′
       go (is-full full) = absurd (let e = ap number (refused-is h c s list is (call-full passed list full)) in omega arith)
       go (is-broken room on broken) = (passed, room, on, broken)
       go (is-short room on kept short) = absurd (let e = ap number (refused-is h c s list is (call-short passed list room on kept short)) in omega arith)
-      go (is-fit fits) = absurd (refused-not h c s list is passed fits)
+      go (is-clear fits) = absurd (refused-not h c s list is passed fits)
 
   pub short-back : {n : ℕ} → callOf h c s list ≡ modifying (modified.Refused (Short n)) s′ list′
       → Passed h c s × (madeBy h c s ≤ free (s .ledger)) × (c .live ≡ true) × (surveyed h c s .broken ≡ false) × (length list < length (numbersOf h c s))
@@ -311,7 +310,7 @@ module _ (h : Handle) (c : Call) (s : St) (list : List ℕ) {s′ : St} {list′
       go (is-full full) = absurd (let e = ap number (refused-is h c s list is (call-full passed list full)) in omega arith)
       go (is-broken room on broken) = absurd (let e = ap number (refused-is h c s list is (call-broken passed list room on broken)) in omega arith)
       go (is-short room on kept short) = (passed, room, on, kept, short)
-      go (is-fit fits) = absurd (refused-not h c s list is passed fits)
+      go (is-clear fits) = absurd (refused-not h c s list is passed fits)
 
 -- ---- accepted
 
@@ -319,23 +318,23 @@ module _ {h : Handle} {c : Call} {s s′ : St} {list list′ : List ℕ} {n k : 
   pub call-passed : Passed h c s
   call-passed = passed-by h c s list (modifies .answers) (λ r early e. not-accepted (c .live) n k (answer-of e))
 
-  pub call-fits : Fits h c s list
-  call-fits = go (judged call-passed list)
+  pub call-clear : Clear h c s list
+  call-clear = go (judged call-passed list)
     where
       never : {r : Refusal} → callOf h c s list ≡ refused r s list → ⊥
       never q = not-accepted (c .live) n k (answer-of (sym q ∙ modifies .answers))
 
-      go : Judged h c s list → Fits h c s list
+      go : Judged h c s list → Clear h c s list
       go (is-full full) = absurd (never (call-full call-passed list full))
       go (is-broken room on broken) = absurd (never (call-broken call-passed list room on broken))
       go (is-short room on kept short) = absurd (never (call-short call-passed list room on kept short))
-      go (is-fit fits) = fits
+      go (is-clear fits) = fits
 
   abbrev w : Work
   w = workAfter h c s list
 
   done : modifying (accepted (c .live) n k) s′ list′ ≡ modifying (accepted (c .live) (used (w .state .ledger)) (w .count)) (w .state) (w .list)
-  done = sym (modifies .answers) ∙ call-accepted call-passed list call-fits
+  done = sym (modifies .answers) ∙ call-accepted call-passed list call-clear
 
   pub call-state : s′ ≡ w .state
   call-state = ap (λ (x : Modifying). x .state) done
@@ -344,19 +343,19 @@ module _ {h : Handle} {c : Call} {s s′ : St} {list list′ : List ℕ} {n k : 
   call-list = ap (λ (x : Modifying). x .list) done
 
   pub call-shaped : Shaped h s′
-  call-shaped = subst (Shaped h) (sym call-state) (after-shaped call-passed (call-fits .room) list)
+  call-shaped = subst (Shaped h) (sym call-state) (after-shaped call-passed (call-clear .room) list)
 
   pub call-sound : SoundPool h s′
-  call-sound = subst (SoundPool h) (sym call-state) (after-sound call-passed (call-fits .room) list)
+  call-sound = subst (SoundPool h) (sym call-state) (after-sound call-passed (call-clear .room) list)
 
   pub call-tree : rootTree h s′ ≡ treeAfter h c s
-  call-tree = ap (rootTree h) call-state ∙ after-tree call-passed (call-fits .room) list
+  call-tree = ap (rootTree h) call-state ∙ after-tree call-passed (call-clear .room) list
 
   -- the answer
   accepted-same : (live : Bool) (a b x y : ℕ) → accepted live a b ≡ accepted live x y → (a ≡ x) × (live ≡ true → b ≡ y)
   unfolding accepted
   accepted-same true a b x y q = (let z : a ≡ x = cc in z, λ on. let z : b ≡ y = cc in z)
-  accepted-same false a b x y q = (let z : a ≡ x = cc in z, λ on. absurd (false-not on))
+  accepted-same false a b x y q = (let z : a ≡ x = cc in z, λ on. absurd (true≢false (sym on)))
 
   pub call-answer : (n ≡ used (s′ .ledger)) × (c .live ≡ true → k ≡ w .count)
   call-answer =
@@ -367,17 +366,14 @@ module _ {h : Handle} {c : Call} {s s′ : St} {list list′ : List ℕ} {n k : 
 
   pub call-off : c .live ≡ false → list′ ≡ list
   call-off off =
-      call-list ∙ ap (λ (x : Numbered). x .list) (after-list call-passed (call-fits .room) list ∙ ap (λ (live : Bool). putAll live (numbersOf h c s) (numbered 0 list)) off
+      call-list ∙ ap (λ (x : Numbered). x .list) (after-list call-passed (call-clear .room) list ∙ ap (λ (live : Bool). putAll live (numbersOf h c s) (numbered 0 list)) off
       ∙ put-off (numbersOf h c s) (numbered 0 list))
 
   module _ (on : c .live ≡ true) where
-    pub call-enough : length (numbersOf h c s) ≤ length list
-    call-enough = let q = numbers-made call-passed (call-fits .kept on) in omega (arith, call-fits .enough on)
-
     listed : numbered (w .count) (w .list) ≡ numbered (length (numbersOf h c s)) (numbersOf h c s ++ drop (length (numbersOf h c s)) list)
     listed =
-        after-list call-passed (call-fits .room) list ∙ ap (λ (live : Bool). putAll live (numbersOf h c s) (numbered 0 list)) on
-        ∙ put-live (numbersOf h c s) list call-enough
+        after-list call-passed (call-clear .room) list ∙ ap (λ (live : Bool). putAll live (numbersOf h c s) (numbered 0 list)) on
+        ∙ put-live (numbersOf h c s) list (call-clear .enough on)
 
     pub call-on : (k ≡ length (numbersOf h c s)) × (list′ ≡ numbersOf h c s ++ drop k list)
     call-on =

@@ -1,7 +1,7 @@
 -- Where the house rule is kept, a survey's count of numbers is the length of what the modify lists: no valid entry is split, and a split of a hole lists nothing.
 -- Assumes nothing.
 use mathlib.Core.Path.{_≡_, refl, sym, ap, ap₂, subst, _∙_}
-use mathlib.Core.Bool.{true, false}
+use mathlib.Core.Bool.{true, false, true≢false}
 use mathlib.Core.List.{List, [], _∷_, _++_, append-nil}
 use mathlib.Core.Logic.{_⊎_, inl, inr, _≢_}
 use Prim.Native.Nat.{ℕ, zero, suc, _+_, _-_, _%_, _≤_, _<_}
@@ -10,17 +10,17 @@ use lib.ListN.{length, length-append}
 use borrow.Author.Tests.{eq-eqb, ne-eqb}
 use Rattle.laws.specs.Size.{sizeAt, size-page}
 use Rattle.laws.specs.Test.{byBool, eq-or}
-use Rattle.entry.specs.Word.{kindOf, kind-block}
+use Rattle.entry.specs.Word.{kindOf, kind-block, valid, valid-yes, flags-valid, edited}
 use Rattle.entry.specs.Sub.{sub-leaf}
 use Rattle.entry.specs.declared.Kind.{Kind}
 use Rattle.entry.specs.declared.Kind.the-variants.{Table as table, Block, Page, Hole}
-use Rattle.region.specs.Region.{entryIndex}
+use Rattle.region.specs.Region.{entryIndex, whole}
 use Rattle.region.specs.Chunks.{chunks}
 use Rattle.region.specs.declared.MemoryRegion.{MemoryRegion}
 use Rattle.pool.specs.State.{St, tables, wordAt}
 use Rattle.pool.specs.declared.Handle.{Handle}
 use Rattle.rules.specs.declared.Map.{Map}
-use Rattle.rules.specs.Rules.{chunkMap, whole}
+use Rattle.rules.specs.Rules.{chunkMap}
 use Rattle.need.specs.Needed.{slot-below}
 use Rattle.edit.specs.declared.Edit.{Edit}
 use Rattle.edit.specs.Word.{editWord}
@@ -29,18 +29,16 @@ use Rattle.edit.specs.Range.{chunkEdit}
 use Rattle.survey.specs.declared.Survey.{Survey}
 use Rattle.survey.specs.House.{mayChange}
 use Rattle.survey.specs.Find.{splitsIn, breach, ifBlock, surveyPart, surveyWhole, surveyEntry, surveyChunk, surveyRange, entry-whole, entry-part}
-use Rattle.forest.specs.Tree.{Tree, leaf, node, treeAt-node}
+use Rattle.forest.specs.Tree.{Tree, leaf, treeAt-node}
 use Rattle.forest.specs.Keep.{slot-leaf}
 use Rattle.sound.specs.Codec.{Placed, codecOf, childOf, slotWord, view, word-in, treeFrom}
 use Rattle.tree.specs.Page.{child}
-use Rattle.tree.specs.Word.{valid, fillWord, valid-yes, flags-valid}
-use Rattle.tree.specs.Edit.{edited}
-use Rattle.tree.specs.Visit.{opened, fillTree}
+use Rattle.tree.specs.Word.{fillWord}
+use Rattle.tree.specs.Visit.{fillTree, opens-leaf, opens-node}
 use Rattle.tree.specs.Fine.{Fine}
 use Rattle.tree.specs.Shown.{FineTree}
 use Rattle.tree.specs.Split.{fill-address}
 use Rattle.tree.specs.Needed.{slotIn}
-use Rattle.tree.specs.Document.{wholeEntry}
 use Rattle.mapped.specs.Leaf.{slot-fine}
 use Rattle.mapped.specs.Stand.{Piece}
 use Rattle.mapped.specs.Moves.{slotShows, Ready, entered-ready}
@@ -50,9 +48,10 @@ use Rattle.mapped.specs.Down.{Holds, holds-table, holds-leaf, holds}
 use Rattle.mapped.specs.Loop.{slot-of}
 use Rattle.modified.specs.Word.{hole-stays, valid-edited}
 use Rattle.modified.specs.Range.{areaOf}
-use Rattle.modified.specs.Splits.{whole-is, chunk-leaf, chunk-table}
+use Rattle.modified.specs.Splits.{chunk-leaf, chunk-table}
 use Rattle.modified.specs.Numbers.{gathered, changedNumber, ownNumbers, lowerNumbers, tableNumbers}
-use Rattle.modified.specs.Gathered.{number-changed, number-same, number-hole, own-whole, own-part, own-none, lower-whole, lower-part, lower-into, leaf-number, leaf-page, gathered-both, gathered-none}
+use Rattle.modified.specs.Gathered.{number-changed, number-same, number-hole, own-whole, own-part, own-none, lower-whole, lower-part, lower-into, leaf-number, leaf-page}
+use Rattle.modified.specs.Gathered.{gathered-both, gathered-none}
 
 -- ---- a split of a hole lists nothing
 
@@ -63,16 +62,13 @@ module _ (set clear : ℕ) where
   page-number : (c : MemoryRegion) (w : ℕ) → ownNumbers set clear 0 c (leaf w) ≡ changedNumber set clear c w
   page-number c w = sym (leaf-page set clear c (leaf w)) ∙ leaf-number set clear c w
 
-  opens-fill : (left w : ℕ) → opened left (leaf w) ≡ fillTree left w
-  unfolding opened
-  opens-fill left w = refl
-
   pub hole-none : (left : ℕ) (c : MemoryRegion) (w : ℕ) → suc left ≤ 3 → valid w ≡ false → tableNumbers set clear left c (fillTree left w) ≡ []
   unfolding tableNumbers
   hole-none zero c w low v =
       gathered-none 0 (ownNumbers set clear 0) (chunks 3 (c .start .0) (c .end .0)) (fillTree 0 w) (λ d.
       let i : ℕ = entryIndex 3 (d .start .0) in
-      ap (ownNumbers set clear 0 d) (slot-fill 0 w i (slot-below 3 (d .start .0))) ∙ page-number d (fillWord 0 w i) ∙ number-hole set clear d (fillWord 0 w i) (fill-hole 0 w i low v))
+      ap (ownNumbers set clear 0 d) (slot-fill 0 w i (slot-below 3 (d .start .0))) ∙ page-number d (fillWord 0 w i)
+      ∙ number-hole set clear d (fillWord 0 w i) (fill-hole 0 w i low v))
   hole-none (suc left) c w low v =
       let cs : List MemoryRegion = chunks (3 - suc left) (c .start .0) (c .end .0) in
       ap₂ (λ (a b : List ℕ). a ++ b)
@@ -80,30 +76,23 @@ module _ (set clear : ℕ) where
       let i : ℕ = entryIndex (3 - suc left) (d .start .0) in
       let x : ℕ = fillWord (suc left) w i in
       ap (lowerNumbers set clear (λ b u. tableNumbers set clear left b u) left d) (slot-fill (suc left) w i (slot-below (3 - suc left) (d .start .0)))
-      ∙ byBool (wholeEntry (3 - suc left) d)
+      ∙ byBool (whole (3 - suc left) d)
       (λ e. lower-whole set clear (λ b u. tableNumbers set clear left b u) left d x e)
-      (λ e. lower-part set clear (λ b u. tableNumbers set clear left b u) left d x e ∙ ap (tableNumbers set clear left d) (opens-fill left x)
+      (λ e. lower-part set clear (λ b u. tableNumbers set clear left b u) left d x e ∙ ap (tableNumbers set clear left d) (opens-leaf left x)
       ∙ hole-none left d x (omega arith) (fill-hole (suc left) w i low v))))
       (gathered-none (suc left) (ownNumbers set clear (suc left)) cs (fillTree (suc left) w) (λ d.
       let i : ℕ = entryIndex (3 - suc left) (d .start .0) in
       let x : ℕ = fillWord (suc left) w i in
       ap (ownNumbers set clear (suc left) d) (slot-fill (suc left) w i (slot-below (3 - suc left) (d .start .0)))
-      ∙ byBool (wholeEntry (3 - suc left) d)
+      ∙ byBool (whole (3 - suc left) d)
       (λ e. own-whole set clear left d x e ∙ number-hole set clear d x (fill-hole (suc left) w i low v))
       (λ e. own-part set clear left d x e)))
-
-opens-node : (left : ℕ) (f : ℕ → Tree) → opened left (node f) ≡ node f
-unfolding opened
-opens-node left f = refl
 
 -- ---- what a survey adds, where the house rule is kept
 
 pub record Adds (v x : Survey) (n : ℕ) : Type 0 where
   pub kept : v .broken ≡ false
   pub numbers : x .numbers ≡ v .numbers + n
-
-true-not : true ≡ false → ⊥
-true-not q = let z : _≡_ {A = ℕ} 0 1 = cc in omega arith
 
 breach-broken : (w : ℕ) (v : Survey) → breach w v .broken ≡ true
 unfolding breach
@@ -149,7 +138,7 @@ module _ (h : Handle) (level : ℕ) (e : Edit) (w : ℕ) (v : Survey) where
       record { kept = sym (ap (λ (x : Survey). x .broken) is) ∙ ok; numbers = ap (λ (x : Survey). x .numbers) is })
       (λ not.
       let is : surveyWhole h level e w v ≡ breach w more = rw (ne-eqb (editWord level e w) w other, not) in
-      absurd (true-not (sym (ap (λ (x : Survey). x .broken) is ∙ breach-broken w more) ∙ ok)))
+      absurd (true≢false (sym (ap (λ (x : Survey). x .broken) is ∙ breach-broken w more) ∙ ok)))
 
 -- ---- a part of an entry
 
@@ -164,7 +153,7 @@ module _ (level : ℕ) (c : MemoryRegion) (w : ℕ) (v : Survey) where
   kinds : (k : Kind) → ifBlock k (breach w split) split .broken ≡ false → Adds v (ifBlock k (breach w split) split) 0
   unfolding ifBlock
   kinds table ok = record { kept = ok; numbers = omega arith }
-  kinds Block ok = absurd (true-not (sym (breach-broken w split) ∙ ok))
+  kinds Block ok = absurd (true≢false (sym (breach-broken w split) ∙ ok))
   kinds Page ok = record { kept = ok; numbers = omega arith }
   kinds Hole ok = record { kept = ok; numbers = omega arith }
 
@@ -199,10 +188,10 @@ module _ (h : Handle) (e : Edit) (c : MemoryRegion) (w : ℕ) (v : Survey) where
           subst (λ (xs : List ℕ). Adds v (surveyWhole h (3 - left) (chunkEdit e c) w v) (length xs)) (sym (number-changed (e .set) (e .clear) c w y (λ q. other (is ∙ q))))
           (whole-one h (3 - left) (chunkEdit e c) w v other ok)
 
-  page-adds : Fine 0 w → wholeEntry 3 c ≡ true → surveyEntry h 3 (chunkEdit e c) w v .broken ≡ false
+  page-adds : Fine 0 w → whole 3 c ≡ true → surveyEntry h 3 (chunkEdit e c) w v .broken ≡ false
       → Adds v (surveyEntry h 3 (chunkEdit e c) w v) (length (ownNumbers (e .set) (e .clear) 0 c (leaf w)))
   page-adds fine all ok =
-      let is = entry-whole h 3 (chunkEdit e c) w v (whole-is 3 c ∙ all) in
+      let is = entry-whole h 3 (chunkEdit e c) w v all in
       subst (λ (xs : List ℕ). Adds v (surveyEntry h 3 (chunkEdit e c) w v) (length xs)) (sym (page-number (e .set) (e .clear) c w))
       (subst (λ (x : Survey). Adds v x (length (changedNumber (e .set) (e .clear) c w))) is
       (changed-adds 0 (omega arith) fine (ap (λ (x : Survey). x .broken) is ∙ ok)))
@@ -215,35 +204,36 @@ module _ (h : Handle) (e : Edit) (c : MemoryRegion) (w : ℕ) (v : Survey) where
     entryNumbers u = lowerNumbers (e .set) (e .clear) rec left c u ++ ownNumbers (e .set) (e .clear) (suc left) c u
 
     leaf-adds : surveyEntry h (3 - suc left) (chunkEdit e c) w v .broken ≡ false → Adds v (surveyEntry h (3 - suc left) (chunkEdit e c) w v) (length (entryNumbers (leaf w)))
-    leaf-adds ok = byBool (wholeEntry (3 - suc left) c) all part
+    leaf-adds ok = byBool (whole (3 - suc left) c) all part
       where
         level : ℕ
         level = 3 - suc left
 
-        all : wholeEntry (3 - suc left) c ≡ true → Adds v (surveyEntry h (3 - suc left) (chunkEdit e c) w v) (length (entryNumbers (leaf w)))
+        all : whole (3 - suc left) c ≡ true → Adds v (surveyEntry h (3 - suc left) (chunkEdit e c) w v) (length (entryNumbers (leaf w)))
         all a =
-            let is = entry-whole h level (chunkEdit e c) w v (whole-is level c ∙ a) in
+            let is = entry-whole h level (chunkEdit e c) w v a in
             subst (λ (xs : List ℕ). Adds v (surveyEntry h level (chunkEdit e c) w v) (length xs))
             (sym (ap₂ (λ (x y : List ℕ). x ++ y) (lower-whole (e .set) (e .clear) rec left c w a) (own-whole (e .set) (e .clear) left c w a)))
             (subst (λ (x : Survey). Adds v x (length (changedNumber (e .set) (e .clear) c w))) is
             (changed-adds (suc left) low fine (ap (λ (x : Survey). x .broken) is ∙ ok)))
 
-        part : wholeEntry (3 - suc left) c ≡ false → Adds v (surveyEntry h (3 - suc left) (chunkEdit e c) w v) (length (entryNumbers (leaf w)))
+        part : whole (3 - suc left) c ≡ false → Adds v (surveyEntry h (3 - suc left) (chunkEdit e c) w v) (length (entryNumbers (leaf w)))
         part a =
-            let is = entry-part h level (chunkEdit e c) w v (whole-is level c ∙ a) in
+            let is = entry-part h level (chunkEdit e c) w v a in
             let kept : surveyPart level c w v .broken ≡ false = ap (λ (x : Survey). x .broken) is ∙ ok in
-            let hole : valid w ≡ false = byBool {A = valid w ≡ false} (valid w) (λ y. absurd (true-not (sym (part-block level c w v (valid-block left w low fine y)) ∙ kept))) (λ n. n) in
+            let hole : valid w ≡ false = byBool {A = valid w ≡ false} (valid w) (λ y. absurd (true≢false (sym (part-block level c w v (valid-block left w low fine y)) ∙ kept)))
+            (λ n. n) in
             subst (λ (xs : List ℕ). Adds v (surveyEntry h level (chunkEdit e c) w v) (length xs))
             (sym (ap₂ (λ (x y : List ℕ). x ++ y)
-            (lower-part (e .set) (e .clear) rec left c w a ∙ ap (rec c) (opens-fill (e .set) (e .clear) left w) ∙ hole-none (e .set) (e .clear) left c w low hole)
+            (lower-part (e .set) (e .clear) rec left c w a ∙ ap (rec c) (opens-leaf left w) ∙ hole-none (e .set) (e .clear) left c w low hole)
             (own-part (e .set) (e .clear) left c w a)))
             (subst (λ (x : Survey). Adds v x 0) is (part-adds level c w v kept))
 
 -- ---- a table of a sound pool
 
 -- a chunk of whole pages is a whole entry of level 3
-pub page-whole : (q : ℕ) (m : Map) → Piece 0 q m → wholeEntry 3 (m .region) ≡ true
-unfolding wholeEntry
+pub page-whole : (q : ℕ) (m : Map) → Piece 0 q m → whole 3 (m .region) ≡ true
+unfolding whole
 page-whole q m piece =
     let s = size-page 3 (omega arith) in
     let a : m .region .start .0 % sizeAt 3 ≡ 0 = ap (λ (n : ℕ). m .region .start .0 % n) s ∙ piece .inside .startPage in
@@ -256,7 +246,8 @@ module _ {h : Handle} (placed : Placed h) where
       → Adds v (surveyRange left h s k e v) (length (tableNumbers (e .set) (e .clear) left (e .region) (treeFrom h s left k)))
 
   chunk-adds : (left q k : ℕ) (e : Edit) (s : St) → Ready placed s (suc left) k → Counts left → (c : MemoryRegion) (p : ℕ) (v : Survey)
-      → Piece (suc left) q (areaOf (chunkEdit e c) p) → let i = entryIndex (3 - suc left) (c .start .0) in let x = surveyChunk (λ j n y. surveyRange left h s j n y) h s (3 - suc left) k e c v in
+      → Piece (suc left) q (areaOf (chunkEdit e c) p)
+      → let i = entryIndex (3 - suc left) (c .start .0) in let x = surveyChunk (λ j n y. surveyRange left h s j n y) h s (3 - suc left) k e c v in
       x .broken ≡ false
       → Adds v x (length (lowerNumbers (e .set) (e .clear) (λ d u. tableNumbers (e .set) (e .clear) left d u) left c (slotShows h s (suc left) k i)
       ++ ownNumbers (e .set) (e .clear) (suc left) c (slotShows h s (suc left) k i)))
@@ -280,10 +271,12 @@ module _ {h : Handle} (placed : Placed h) where
       go : Holds placed s left k i → Adds v x (length (numbers (slotShows h s (suc left) k i)))
       go (holds-table j r both leads shows) =
           let is = chunk-table (λ a n y. surveyRange left h s a n y) h s (3 - suc left) k e c v j leads in
-          let adds = counts q j p (chunkEdit e c) s v (record { inside = piece .inside; room = piece .room }) (entered-ready placed R i inside r) (sym (ap (λ (y : Survey). y .broken) is) ∙ ok) in
+          let adds = counts q j p (chunkEdit e c) s v (record { inside = piece .inside; room = piece .room }) (entered-ready placed R i inside r)
+          (sym (ap (λ (y : Survey). y .broken) is) ∙ ok) in
           let tree = treeAt-node (childOf (h .base .0)) left (slotWord s) j in
           let same : numbers (slotShows h s (suc left) k i) ≡ rec c (treeFrom h s left j) =
-          ap numbers shows ∙ ap₂ (λ (a b : List ℕ). a ++ b) (lower-into (e .set) (e .clear) rec left c _ ∙ ap (rec c) (opens-node left _)) (own-none (e .set) (e .clear) (suc left) c _) ∙ append-nil (rec c _) ∙ ap (rec c) (sym tree) in
+          ap numbers shows ∙ ap₂ (λ (a b : List ℕ). a ++ b) (lower-into (e .set) (e .clear) rec left c _ ∙ ap (rec c) (opens-node left _))
+          (own-none (e .set) (e .clear) (suc left) c _) ∙ append-nil (rec c _) ∙ ap (rec c) (sym tree) in
           subst (λ (xs : List ℕ). Adds v x (length xs)) (sym same)
           (subst (λ (y : Survey). Adds v y (length (rec c (treeFrom h s left j)))) (sym is) adds)
       go (holds-leaf old other shows) =
@@ -319,7 +312,8 @@ module _ {h : Handle} (placed : Placed h) where
       let adds = chunks-add (suc left) q (areaOf e p) (surveyChunk (λ j n x. surveyRange left h s j n x) h s (3 - suc left) k e) (λ c u. lower c u ++ own c u) t
       (λ c y x piece kept. subst (λ (u : Tree). Adds x (surveyChunk (λ j n z. surveyRange left h s j n z) h s (3 - suc left) k e c x) (length (lower c u ++ own c u)))
       (sym (slot-of h s (suc left) k (entryIndex (3 - suc left) (c .start .0))))
-      (chunk-adds left (child q (slotAt (suc left) c)) k e s R (survey-numbers left (omega arith)) c y x (record { inside = piece .inside; some = piece .some; room = piece .room }) kept))
+      (chunk-adds left (child q (slotAt (suc left) c)) k e s R (survey-numbers left (omega arith)) c y x
+      (record { inside = piece .inside; some = piece .some; room = piece .room }) kept))
       (e .region) p v (pieces (suc left) q (areaOf e p) low p (e .region) area) ok in
       let both = gathered-both (suc left) lower own cs t in
       let joined = length-append (gathered (suc left) lower cs t) (gathered (suc left) own cs t) in

@@ -10,9 +10,9 @@ use lib.Dec.{eqb, eqb→eq}
 use borrow.Author.Tests.{eq-eqb}
 use Rattle.laws.specs.Size.{sizeAt}
 use Rattle.laws.specs.Test.{byBool, eq-or, le-or, both}
-use Rattle.entry.specs.Word.{kindOf, only, kind-clear}
+use Rattle.entry.specs.Word.{kindOf, only, kind-clear, valid, valid-no, edited}
 use Rattle.entry.specs.Sub.{sub-leaf}
-use Rattle.region.specs.Region.{region, entryIndex}
+use Rattle.region.specs.Region.{region, entryIndex, whole}
 use Rattle.region.specs.Chunks.{chunks, Tiles, none, more, chunks-tile}
 use Rattle.region.specs.declared.MemoryRegion.{MemoryRegion}
 use Rattle.pool.specs.State.{St, tables, wordAt}
@@ -21,22 +21,21 @@ use Rattle.rules.specs.declared.Map.{Map}
 use Rattle.rules.specs.Rules.{chunkMap}
 use Rattle.need.specs.Needed.{slot-below}
 use Rattle.edit.specs.declared.Edit.{Edit}
-use Rattle.edit.specs.Word.{edited, ofKind, editWord}
+use Rattle.edit.specs.Word.{ofKind, editWord}
 use Rattle.edit.specs.Each.{eachOf, eachChunk}
 use Rattle.edit.specs.Range.{chunkEdit}
 use Rattle.survey.specs.declared.Survey.{Survey}
 use Rattle.survey.specs.House.{mayChange}
-use Rattle.survey.specs.Find.{splitsIn, breach, breach-kept, breach-first, surveyPart, surveyWhole, surveyEntry, surveyChunk, surveyRange, part-block, part-other, whole-same, whole-allowed, whole-breach, entry-whole, entry-part}
+use Rattle.survey.specs.Find.{splitsIn, breach, breach-kept, breach-first, surveyPart, surveyWhole, surveyEntry, surveyChunk, surveyRange, part-block, part-other, whole-same}
+use Rattle.survey.specs.Find.{whole-allowed, whole-breach, entry-whole, entry-part}
 use Rattle.forest.specs.Tree.{Tree, leaf, node, treeAt-node}
 use Rattle.forest.specs.Walk.{Ends, walkTree}
 use Rattle.forest.specs.Keep.{slot-leaf}
 use Rattle.sound.specs.Codec.{Placed, codecOf, childOf, slotWord, view, word-in, treeFrom}
 use Rattle.tree.specs.Page.{span, first, child, child-order, slotOf, slot-lt, end-rest, multiple-child, in-of, in-rest, entry-rest}
-use Rattle.tree.specs.Word.{valid, valid-no}
 use Rattle.tree.specs.Fine.{Fine}
 use Rattle.tree.specs.Shown.{FineTree}
 use Rattle.tree.specs.Chunks.{index-slot}
-use Rattle.tree.specs.Document.{wholeEntry}
 use Rattle.mapped.specs.Leaf.{slot-fine}
 use Rattle.mapped.specs.Stand.{Piece}
 use Rattle.mapped.specs.Moves.{slotShows, Ready, entered-ready}
@@ -44,7 +43,7 @@ use Rattle.mapped.specs.Pieces.{Area, slotAt, Pieces, pieces}
 use Rattle.mapped.specs.Down.{Holds, holds-table, holds-leaf, holds}
 use Rattle.modified.specs.Word.{hole-stays}
 use Rattle.modified.specs.Range.{areaOf}
-use Rattle.modified.specs.Splits.{whole-is, chunk-leaf, chunk-table}
+use Rattle.modified.specs.Splits.{chunk-leaf, chunk-table}
 use Rattle.modified.specs.Counted.{valid-block, page-whole}
 use Rattle.modified.specs.Listed.{slot-in}
 
@@ -248,7 +247,8 @@ module _ (h : Handle) (set clear left q : ℕ) (m : Map) (low : left ≤ 3) (f :
       (finds-as
       (λ y w k b at. broken-as (endsOf y) (within-lower left (endsOf y .left) y (s / 4096) (z / 4096) (e / 4096) low (small y) ends b)
       (subst (λ (i : Ends). Broken h set clear (s / 4096) (z / 4096) i y w) (ends-same c p y piece k b) at))
-      (λ y w k b at. subst (λ (i : Ends). Broken h set clear (s / 4096) (z / 4096) i y w) (sym (ends-same c p y piece k b)) (broken-as (endsOf y) (within-wider (omega arith) (omega arith)) at))
+      (λ y w k b at. subst (λ (i : Ends). Broken h set clear (s / 4096) (z / 4096) i y w) (sym (ends-same c p y piece k b))
+      (broken-as (endsOf y) (within-wider (omega arith) (omega arith)) at))
       here)
       (finds-as
       (λ y w k b at. broken-as (endsOf y) (within-later left (endsOf y .left) y (s / 4096) (z / 4096) (e / 4096) low (small y) ends k b) at)
@@ -271,16 +271,16 @@ module _ (left : ℕ) (c : MemoryRegion) (low : left ≤ 3) (start : c .start .0
   size = sizeAt (3 - left)
 
   -- the region is made of whole entries
-  whole-ends : wholeEntry (3 - left) c ≡ true → (c .start .0 / 4096 % span left ≡ 0) × (c .end .0 / 4096 % span left ≡ 0)
-  unfolding wholeEntry
+  whole-ends : whole (3 - left) c ≡ true → (c .start .0 / 4096 % span left ≡ 0) × (c .end .0 / 4096 % span left ≡ 0)
+  unfolding whole
   whole-ends all =
       let two = both (eqb (c .start .0 % size) 0) (eqb (c .end .0 % size) 0) all in
       let a = eqb→eq (c .start .0 % size) 0 (rw (two .0) tt) in
       let b = eqb→eq (c .end .0 % size) 0 (rw (two .1) tt) in
       (omega (arith, entry-rest left (c .start .0) low start), omega (arith, entry-rest left (c .end .0) low end))
 
-  ends-whole : c .start .0 / 4096 % span left ≡ 0 → c .end .0 / 4096 % span left ≡ 0 → wholeEntry (3 - left) c ≡ true
-  unfolding wholeEntry
+  ends-whole : c .start .0 / 4096 % span left ≡ 0 → c .end .0 / 4096 % span left ≡ 0 → whole (3 - left) c ≡ true
+  unfolding whole
   ends-whole a b =
       rw (
         eq-eqb (c .start .0 % size) 0 (omega (arith, entry-rest left (c .start .0) low start)),
@@ -309,7 +309,7 @@ module _ (h : Handle) (e : Edit) (c : MemoryRegion) (w : ℕ) (v : Survey) where
     same-new = new-is level (chunkEdit e c) w
 
     -- covered as a whole: it is not split
-    module _ (all : wholeEntry level c ≡ true) where
+    module _ (all : whole level c ≡ true) where
       within : (y : ℕ) → lo ≤ y → y < hi → Within lo hi left y
       within y k b =
           let ends = whole-ends left c low (piece .inside .startPage) (piece .inside .endPage) all in
@@ -343,13 +343,14 @@ module _ (h : Handle) (e : Edit) (c : MemoryRegion) (w : ℕ) (v : Survey) where
               })))
 
   -- covered in part: a valid one is split
-  module _ (left q p : ℕ) (low : suc left ≤ 3) (fine : Fine (suc left) w) (piece : Piece (suc left) q (areaOf (chunkEdit e c) p)) (part : wholeEntry (3 - suc left) c ≡ false) where
+  module _ (left q p : ℕ) (low : suc left ≤ 3) (fine : Fine (suc left) w) (piece : Piece (suc left) q (areaOf (chunkEdit e c) p)) (part : whole (3 - suc left) c ≡ false) where
     abbrev under : ℕ
     under = 3 - suc left
 
     splits-it : ¬ (Within lo hi (suc left) lo)
     splits-it W =
-        let mine = in-rest (suc left) q lo (in-of (suc left) q lo (piece .inside .low) (omega (arith, piece .inside .high, piece .some, piece .inside .startPage, piece .inside .endPage))) in
+        let mine = in-rest (suc left) q lo
+        (in-of (suc left) q lo (piece .inside .low) (omega (arith, piece .inside .high, piece .some, piece .inside .startPage, piece .inside .endPage))) in
         let begins : lo % span (suc left) ≡ 0 = omega (arith, W .from) in
         let ends : hi ≡ first (suc left) q + span (suc left) = omega (arith, W .upto, piece .inside .high) in
         clash (ends-whole (suc left) c low (piece .inside .startPage) (piece .inside .endPage) begins (ap (λ (n : ℕ). n % span (suc left)) ends ∙ end-rest (suc left) q)) part
@@ -370,10 +371,10 @@ module _ (h : Handle) (e : Edit) (c : MemoryRegion) (w : ℕ) (v : Survey) where
   leaf-finds : (left q p : ℕ) → left ≤ 3 → Fine left w → Piece left q (areaOf (chunkEdit e c) p) → Finds (Breaks left) lo hi v (surveyEntry h (3 - left) (chunkEdit e c) w v)
   leaf-finds zero q p low fine piece =
       let all = page-whole q (areaOf (chunkEdit e c) p) piece in
-      subst (Finds (Breaks 0) lo hi v) (entry-whole h 3 (chunkEdit e c) w v (whole-is 3 c ∙ all)) (whole-finds 0 q p low fine piece all)
-  leaf-finds (suc left) q p low fine piece = byBool (wholeEntry (3 - suc left) c)
-      (λ all. subst (Finds (Breaks (suc left)) lo hi v) (entry-whole h (3 - suc left) (chunkEdit e c) w v (whole-is (3 - suc left) c ∙ all)) (whole-finds (suc left) q p low fine piece all))
-      (λ part. subst (Finds (Breaks (suc left)) lo hi v) (entry-part h (3 - suc left) (chunkEdit e c) w v (whole-is (3 - suc left) c ∙ part)) (part-finds left q p low fine piece part))
+      subst (Finds (Breaks 0) lo hi v) (entry-whole h 3 (chunkEdit e c) w v all) (whole-finds 0 q p low fine piece all)
+  leaf-finds (suc left) q p low fine piece = byBool (whole (3 - suc left) c)
+      (λ all. subst (Finds (Breaks (suc left)) lo hi v) (entry-whole h (3 - suc left) (chunkEdit e c) w v all) (whole-finds (suc left) q p low fine piece all))
+      (λ part. subst (Finds (Breaks (suc left)) lo hi v) (entry-part h (3 - suc left) (chunkEdit e c) w v part) (part-finds left q p low fine piece part))
 
 -- ---- a table of a sound pool
 
@@ -407,8 +408,10 @@ module _ {h : Handle} (placed : Placed h) where
       (λ y u k b at. subst (λ (i : Ends). Broken h (e .set) (e .clear) (c .start .0 / 4096) (c .end .0 / 4096) i y u) (walk-leaf (slotOf y) left w) at)
       (leaf-finds h e c w v left q p low fine piece)
 
-  chunk-finds : (left q k : ℕ) (e : Edit) (s : St) → Ready placed s (suc left) k → Scans left → (c : MemoryRegion) (p : ℕ) (v : Survey) → Piece (suc left) q (areaOf (chunkEdit e c) p)
-      → ChunkFinds (suc left) e c (slotShows h s (suc left) k (entryIndex (3 - suc left) (c .start .0))) v (surveyChunk (λ j n y. surveyRange left h s j n y) h s (3 - suc left) k e c v)
+  chunk-finds : (left q k : ℕ) (e : Edit) (s : St) → Ready placed s (suc left) k → Scans left → (c : MemoryRegion) (p : ℕ) (v : Survey)
+      → Piece (suc left) q (areaOf (chunkEdit e c) p)
+      → ChunkFinds (suc left) e c (slotShows h s (suc left) k (entryIndex (3 - suc left) (c .start .0))) v
+      (surveyChunk (λ j n y. surveyRange left h s j n y) h s (3 - suc left) k e c v)
   chunk-finds left q k e s R scans c p v piece = go (holds placed R i inside)
     where
       i : ℕ
@@ -433,8 +436,10 @@ module _ {h : Handle} (placed : Placed h) where
           (subst (ChunkFinds (suc left) e c (leaf (wordAt s k i)) v) (sym is) (leaf-chunk (suc left) q p e c (wordAt s k i) v (omega (arith, R .low)) fine piece))
 
   -- a table's chunks
-  table-finds : (left q k p : ℕ) (e : Edit) (s : St) (v : Survey) (f : MemoryRegion → Survey → Survey) → left ≤ 3 → Area left q (areaOf e p) → e .region .start .0 ≤ e .region .end .0
-      → ((c : MemoryRegion) (y : ℕ) (x : Survey) → Piece left (child q (slotAt left c)) (areaOf (chunkEdit e c) y) → ChunkFinds left e c (slotShows h s left k (entryIndex (3 - left) (c .start .0))) x (f c x))
+  table-finds : (left q k p : ℕ) (e : Edit) (s : St) (v : Survey) (f : MemoryRegion → Survey → Survey) → left ≤ 3 → Area left q (areaOf e p)
+      → e .region .start .0 ≤ e .region .end .0
+      → ((c : MemoryRegion) (y : ℕ) (x : Survey) → Piece left (child q (slotAt left c)) (areaOf (chunkEdit e c) y)
+      → ChunkFinds left e c (slotShows h s left k (entryIndex (3 - left) (c .start .0))) x (f c x))
       → Finds (BreaksIn e (suc left) (treeFrom h s left k)) (e .region .start .0 / 4096) (e .region .end .0 / 4096) v (eachChunk (3 - left) f (e .region) v)
   unfolding eachChunk
   table-finds left q k p e s v f low area some each =
@@ -442,10 +447,13 @@ module _ {h : Handle} (placed : Placed h) where
       (λ c y x piece. each c y x (record { inside = piece .inside; some = piece .some; room = piece .room }))
       (chunks-tile (3 - left) (e .region .start .0) (e .region .end .0)) 0 p v (pieces left q (areaOf e p) low p (e .region) area) some in
       let tree = treeAt-node (childOf (h .base .0)) left (slotWord s) k in
-      subst (λ (u : Tree). Finds (BreaksIn e (suc left) u) (e .region .start .0 / 4096) (e .region .end .0 / 4096) v (eachOf f (chunks (3 - left) (e .region .start .0) (e .region .end .0)) v)) (sym tree)
+      subst (λ (u : Tree). Finds (BreaksIn e (suc left) u) (e .region .start .0 / 4096) (e .region .end .0 / 4096) v
+      (eachOf f (chunks (3 - left) (e .region .start .0) (e .region .end .0)) v)) (sym tree)
       (finds-as
-      (λ y u l b at. subst (λ (i : Ends). Broken h (e .set) (e .clear) (e .region .start .0 / 4096) (e .region .end .0 / 4096) i y u) (sym (walk-node (slotOf y) left (λ i. slotShows h s left k i))) at)
-      (λ y u l b at. subst (λ (i : Ends). Broken h (e .set) (e .clear) (e .region .start .0 / 4096) (e .region .end .0 / 4096) i y u) (walk-node (slotOf y) left (λ i. slotShows h s left k i)) at)
+      (λ y u l b at. subst (λ (i : Ends). Broken h (e .set) (e .clear) (e .region .start .0 / 4096) (e .region .end .0 / 4096) i y u)
+      (sym (walk-node (slotOf y) left (λ i. slotShows h s left k i))) at)
+      (λ y u l b at. subst (λ (i : Ends). Broken h (e .set) (e .clear) (e .region .start .0 / 4096) (e .region .end .0 / 4096) i y u)
+      (walk-node (slotOf y) left (λ i. slotShows h s left k i)) at)
       all)
 
   -- THE LOWEST PAGE

@@ -8,18 +8,16 @@ use native.Mathlib.Omega.{arith}
 use lib.ListN.{length, length-append}
 use borrow.Author.Tests.{eq-eqb, ne-eqb}
 use Rattle.laws.specs.Test.{byBool}
-use Rattle.region.specs.Region.{entryIndex}
+use Rattle.entry.specs.Word.{valid, edited}
+use Rattle.region.specs.Region.{entryIndex, whole}
 use Rattle.region.specs.Chunks.{chunks}
 use Rattle.region.specs.declared.MemoryRegion.{MemoryRegion}
 use Rattle.rules.specs.declared.Map.{Map}
 use Rattle.forest.specs.Tree.{Tree, leaf, node}
-use Rattle.tree.specs.Word.{valid}
-use Rattle.tree.specs.Edit.{edited}
 use Rattle.tree.specs.Visit.{opened}
 use Rattle.tree.specs.Slots.{fillSlot, fill-node}
 use Rattle.tree.specs.Chunks.{atSlot, sweep, chunkedTable, index-slot}
 use Rattle.tree.specs.Needed.{slotIn}
-use Rattle.tree.specs.Document.{wholeEntry}
 use Rattle.tree.specs.DocumentModify.{documentModify}
 use Rattle.mapped.specs.Pieces.{slotAt, Pieces}
 use Rattle.modified.specs.Passes.{downTo, down-whole, down-part, down-into}
@@ -38,11 +36,11 @@ module _ (set clear : ℕ) where
   unfolding changedNumber
   number-hole c w v = rw v
 
-  pub own-whole : (left : ℕ) (c : MemoryRegion) (w : ℕ) → wholeEntry (3 - suc left) c ≡ true → ownNumbers set clear (suc left) c (leaf w) ≡ changedNumber set clear c w
+  pub own-whole : (left : ℕ) (c : MemoryRegion) (w : ℕ) → whole (3 - suc left) c ≡ true → ownNumbers set clear (suc left) c (leaf w) ≡ changedNumber set clear c w
   unfolding ownNumbers
   own-whole left c w e = rw e
 
-  pub own-part : (left : ℕ) (c : MemoryRegion) (w : ℕ) → wholeEntry (3 - suc left) c ≡ false → ownNumbers set clear (suc left) c (leaf w) ≡ []
+  pub own-part : (left : ℕ) (c : MemoryRegion) (w : ℕ) → whole (3 - suc left) c ≡ false → ownNumbers set clear (suc left) c (leaf w) ≡ []
   unfolding ownNumbers
   own-part left c w e = rw e
 
@@ -52,11 +50,11 @@ module _ (set clear : ℕ) where
   own-none (suc left) c f = refl
 
   module _ (rec : MemoryRegion → Tree → List ℕ) (left : ℕ) (c : MemoryRegion) where
-    pub lower-whole : (w : ℕ) → wholeEntry (3 - suc left) c ≡ true → lowerNumbers set clear rec left c (leaf w) ≡ []
+    pub lower-whole : (w : ℕ) → whole (3 - suc left) c ≡ true → lowerNumbers set clear rec left c (leaf w) ≡ []
     unfolding lowerNumbers
     lower-whole w e = rw e
 
-    pub lower-part : (w : ℕ) → wholeEntry (3 - suc left) c ≡ false → lowerNumbers set clear rec left c (leaf w) ≡ rec c (opened left (leaf w))
+    pub lower-part : (w : ℕ) → whole (3 - suc left) c ≡ false → lowerNumbers set clear rec left c (leaf w) ≡ rec c (opened left (leaf w))
     unfolding lowerNumbers opened
     lower-part w e = rw e
 
@@ -99,7 +97,7 @@ module _ (set clear : ℕ) where
   open-none d left c p (node f) = table-none d left c p f
 
   pub leaf-after : (left : ℕ) (c : MemoryRegion) (p : ℕ) (u : Tree) → leafNumbers c (downTo set clear left c p u) ≡ ownNumbers set clear (suc left) c u
-  leaf-after left c p (leaf w) = byBool (wholeEntry (3 - suc left) c)
+  leaf-after left c p (leaf w) = byBool (whole (3 - suc left) c)
       (λ e. ap (leafNumbers c) (down-whole set clear left c p w e) ∙ leaf-number c w ∙ sym (own-whole left c w e))
       (λ e. ap (leafNumbers c) (down-part set clear left c p w e) ∙ open-none c left c p (leaf w) ∙ sym (own-part left c w e))
   leaf-after left c p (node f) = ap (leafNumbers c) (down-into set clear left c p f) ∙ open-none c left c p (node f) ∙ sym (own-none (suc left) c f)
@@ -154,7 +152,8 @@ module _ (left q : ℕ) (m : Map) (low : left ≤ 3) where
       ap₂ (λ (x y : List ℕ). x ++ y) (ap (f c) (same i (omega (arith, all .0 .from))))
       (gathered-from f cs (suc (slotAt left c)) (p + (c .end .0 - c .start .0)) t u (all .1) (λ j l. same j (omega (arith, all .0 .from))))
 
-  pub sweep-before : (f : MemoryRegion → ℕ → Tree → Tree) (cs : List MemoryRegion) (a p j : ℕ) (t : Tree) → Pieces left q m a p cs → j < a → slotIn (sweep left f cs p t) j ≡ slotIn t j
+  pub sweep-before : (f : MemoryRegion → ℕ → Tree → Tree) (cs : List MemoryRegion) (a p j : ℕ) (t : Tree) → Pieces left q m a p cs → j < a
+      → slotIn (sweep left f cs p t) j ≡ slotIn t j
   unfolding sweep
   sweep-before f [] a p j t all l = refl
   sweep-before f (c ∷ cs) a p j t all l =
@@ -173,7 +172,8 @@ module _ (left q : ℕ) (m : Map) (low : left ≤ 3) where
       let p′ : ℕ = p + (c .end .0 - c .start .0) in
       let index = index-slot left (c .start .0) low in
       ap₂ (λ (x y : List ℕ). x ++ y)
-      (ap (g c) (sweep-before f cs (suc (slotAt left c)) p′ i (atSlot i (f c p) (node v)) (all .1) (omega arith) ∙ at-slot i (f c p) v) ∙ each c p (v i) ∙ ap (g′ c) (sym (in-node v i)))
+      (ap (g c) (sweep-before f cs (suc (slotAt left c)) p′ i (atSlot i (f c p) (node v)) (all .1) (omega arith) ∙ at-slot i (f c p) v) ∙ each c p (v i)
+      ∙ ap (g′ c) (sym (in-node v i)))
       (ap (λ (t : Tree). gathered left g cs (sweep left f cs p′ t)) (at-node i (f c p) v)
       ∙ gathered-after f g g′ each cs (suc (slotAt left c)) p′ (λ j. slotIn (atSlot i (f c p) (node v)) j) (all .1)
       ∙ ap (gathered left g′ cs) (sym (at-node i (f c p) v))

@@ -1,17 +1,20 @@
 -- The house rule for live edits (document 01, "Putting down a map", Modify, and refusal 10), by the Arm walk of the words: where a call breaks it, and the lowest such
--- address. Definitions alone; `Change.house-rule-bits` says bit by bit what `mayChange` allows. Assumes nothing.
+-- address; and what refusals 9 to 11 leave. Definitions alone; `Change.house-rule-bits` says bit by bit what `mayChange` allows. Assumes nothing.
 use mathlib.Core.Path.{_≡_}
-use mathlib.Core.Bool.{false}
+use mathlib.Core.Bool.{true, false}
+use mathlib.Core.List.{List}
 use mathlib.Core.Logic.{_⊎_}
 use Prim.Native.Nat.{ℕ, _+_, _%_, _≤_, _<_}
+use lib.ListN.{length}
 use Rattle.laws.specs.Size.{sizeAt, down}
 use Rattle.region.specs.Region.{rounded}
 use Rattle.pool.specs.State.{St, tables}
 use Rattle.pool.specs.declared.Handle.{Handle}
+use Rattle.pool.specs.Number.{free}
 use Rattle.edit.specs.Word.{editWord}
 use Rattle.survey.specs.House.{mayChange}
 use Rattle.walk.specs.Arm.{Reached, at, reach}
-use Rattle.modified.specs.Terms.{Call, askedOf, InRegion}
+use Rattle.modified.specs.Terms.{Call, askedOf, InRegion, madeBy, numbersOf}
 
 -- where the lookups of an address end
 abbrev pub reachOf : Handle → St → ℕ → Reached
@@ -39,3 +42,13 @@ pub record Lowest (h : Handle) (c : Call) (s : St) (w : ℕ) : Type 0 where
   pub address : ℕ
   pub breaks : Breaks h c s address w
   pub least : (b u : ℕ) → b < address → ¬ (Breaks h c s b u)
+
+-- the call breaks the house rule nowhere
+abbrev pub Keeps : Handle → Call → St → Type 0
+Keeps h c s = (va w : ℕ) → ¬ (Breaks h c s va w)
+
+-- refusals 9 to 11 are not given: the tables that are made are free; a live call keeps the house rule and its numbers fit the list
+pub record Fits (h : Handle) (c : Call) (s : St) (list : List ℕ) : Type 0 where
+  pub room : madeBy h c s ≤ free (s .ledger)
+  pub kept : c .live ≡ true → Keeps h c s
+  pub enough : c .live ≡ true → length (numbersOf h c s) ≤ length list

@@ -11,7 +11,8 @@ use lib.Dec.{eqb, eqb→eq}
 use borrow.Author.Tests.{eq-eqb, ne-eqb}
 use Rattle.laws.specs.Size.{sizeAt}
 use Rattle.laws.specs.Test.{byBool, eq-or, le-or, and-l}
-use Rattle.region.specs.Region.{region, entryIndex}
+use Rattle.entry.specs.Word.{valid, plainFlags, Plain, edited}
+use Rattle.region.specs.Region.{region, entryIndex, whole}
 use Rattle.region.specs.Chunks.{chunks, Tiles, none, more, chunks-tile}
 use Rattle.region.specs.declared.MemoryRegion.{MemoryRegion}
 use Rattle.rules.specs.declared.Map.{Map}
@@ -19,22 +20,22 @@ use Rattle.rules.specs.Rules.{chunkMap}
 use Rattle.forest.specs.Tree.{Tree, leaf, node, node-ext}
 use Rattle.forest.specs.Walk.{walkTree}
 use Rattle.tree.specs.Page.{span, span-zero, child, slotOf, slot-lt, In, in-of, in-rest, entry-rest}
-use Rattle.tree.specs.Word.{valid, frameOf, plain, Plain}
-use Rattle.tree.specs.Edit.{edited, edited-frame, edited-bit, edited-plain}
+use Rattle.tree.specs.Word.{frameOf}
+use Rattle.tree.specs.Edit.{edited-frame, edited-bit, edited-plain}
 use Rattle.tree.specs.Fine.{Fine}
 use Rattle.tree.specs.Walk.{Seen, mapped, hole, seenIn, seen, seen-leaf, seen-node, seen-fine, fill-seen}
 use Rattle.tree.specs.Shown.{FineTree, fine-fill-slots}
-use Rattle.tree.specs.Visit.{opened, obey, down}
+use Rattle.tree.specs.Visit.{opened, obey, opens-leaf, opens-node}
 use Rattle.tree.specs.Slots.{fillSlot, fill-node, fill-slot}
 use Rattle.tree.specs.Chunks.{atSlot, sweep, chunked, chunkedTable, index-slot}
 use Rattle.tree.specs.Needed.{slotIn}
-use Rattle.tree.specs.Document.{wholeEntry}
 use Rattle.tree.specs.Modify.{editRule}
 use Rattle.tree.specs.DocumentModify.{documentModify}
 use Rattle.mapped.specs.Stand.{Piece}
 use Rattle.mapped.specs.Pieces.{Area, slotAt, Pieces, pieces}
 use Rattle.modified.specs.Numbers.{gathered, changedNumber, ownNumbers, lowerNumbers, tableNumbers, occurs, firstPage}
-use Rattle.modified.specs.Gathered.{number-changed, number-same, number-hole, own-whole, own-part, own-none, lower-whole, lower-part, lower-into, leaf-page, leaf-number, at-slot, in-node, at-node, at-others, gathered-from, sweep-before}
+use Rattle.modified.specs.Gathered.{number-changed, number-same, number-hole, own-whole, own-part, own-none, lower-whole, lower-part, lower-into, leaf-page, leaf-number}
+use Rattle.modified.specs.Gathered.{at-slot, in-node, at-node, at-others, gathered-from, sweep-before}
 use Rattle.modified.specs.Once.{occurs-append, pagesBelow, Few, nil-occurs, piece-some, gathered-few, page-few, entry-few, table-few, occurs-both}
 
 first-leaf : (left w y : ℕ) → firstPage left (leaf w) y ≡ y - y % span left
@@ -71,8 +72,8 @@ low-same w = omega arith
 high-rest : (w : ℕ) → w / 2 ^ 48 ≡ w / 4096 / 2 ^ 36
 high-rest w = omega arith
 
-parts : (w : ℕ) → plain w + w / 2 % 2 * 2 + frameOf w * 4096 ≡ w
-unfolding plain frameOf
+parts : (w : ℕ) → plainFlags w + w / 2 % 2 * 2 + frameOf w * 4096 ≡ w
+unfolding plainFlags frameOf
 parts w = omega (arith, low-two w, low-four (w % 4096), low-rest w, low-same w, high-rest w)
 
 -- a table stays a table
@@ -99,11 +100,11 @@ module _ (set clear : ℕ) where
     abbrev below : Tree → Tree
     below t = chunkedTable (documentModify set clear) left c p (opened left t)
 
-    chunked-whole : (w : ℕ) → wholeEntry (3 - suc left) c ≡ true → chunked (documentModify set clear) (suc left) c p (leaf w) ≡ obey (editRule set clear w) (leaf w) (below (leaf w))
+    chunked-whole : (w : ℕ) → whole (3 - suc left) c ≡ true → chunked (documentModify set clear) (suc left) c p (leaf w) ≡ obey (editRule set clear w) (leaf w) (below (leaf w))
     unfolding chunked chunkedTable documentModify
     chunked-whole w e = rw e
 
-    chunked-part : (w : ℕ) → wholeEntry (3 - suc left) c ≡ false → chunked (documentModify set clear) (suc left) c p (leaf w) ≡ below (leaf w)
+    chunked-part : (w : ℕ) → whole (3 - suc left) c ≡ false → chunked (documentModify set clear) (suc left) c p (leaf w) ≡ below (leaf w)
     unfolding chunked chunkedTable documentModify obey
     chunked-part w e = rw e
 
@@ -118,7 +119,7 @@ module _ (set clear : ℕ) where
 
   module _ (S : Plain set) (C : Plain clear) where
     -- the word changes exactly if its flags do
-    plain-same : (w : ℕ) → w < 2 ^ 64 → edited set clear (plain w) ≡ plain w → edited set clear w ≡ w
+    plain-same : (w : ℕ) → w < 2 ^ 64 → edited set clear (plainFlags w) ≡ plainFlags w → edited set clear w ≡ w
     plain-same w wide e =
         let a = edited-plain set clear S C w wide in
         let b = edited-bit set clear S C w wide in
@@ -127,10 +128,10 @@ module _ (set clear : ℕ) where
         let z = parts (edited set clear w) in
         omega arith
 
-    seen-valid : (left w y : ℕ) → Fine left w → valid w ≡ true → seenIn left w y ≡ mapped (plain w) (frameOf w + y % span left)
+    seen-valid : (left w y : ℕ) → Fine left w → valid w ≡ true → seenIn left w y ≡ mapped (plainFlags w) (frameOf w + y % span left)
     seen-valid left w y fine v = seen-fine left w y fine ∙ rw v
 
-    seen-none : (left w y : ℕ) → Fine left w → valid w ≡ false → seenIn left w y ≡ hole (plain w)
+    seen-none : (left w y : ℕ) → Fine left w → valid w ≡ false → seenIn left w y ≡ hole (plainFlags w)
     seen-none left w y fine v = seen-fine left w y fine ∙ rw v
 
     changed-count : (left : ℕ) (c : MemoryRegion) (w y x : ℕ) → Fine left w → x ≡ c .start .0 / 4096 % 2 ^ 44
@@ -142,11 +143,11 @@ module _ (set clear : ℕ) where
       where
         go : valid w ≡ true → (edited set clear w ≡ w) ⊎ (edited set clear w ≢ w) → occurs x (changedNumber set clear c w) ≡ changes (seenIn left w y)
         go v (inl same) =
-            let e : edited set clear (plain w) ≡ plain w = sym (edited-plain set clear S C w (fine .wide)) ∙ ap plain same in
-            ap (occurs x) (number-same set clear c w v same) ∙ sym (ap changes (seen-valid left w y fine v) ∙ rw (eq-eqb (edited set clear (plain w)) (plain w) e))
+            let e : edited set clear (plainFlags w) ≡ plainFlags w = sym (edited-plain set clear S C w (fine .wide)) ∙ ap plainFlags same in
+            ap (occurs x) (number-same set clear c w v same) ∙ sym (ap changes (seen-valid left w y fine v) ∙ rw (eq-eqb (edited set clear (plainFlags w)) (plainFlags w) e))
         go v (inr other) =
             ap (occurs x) (number-changed set clear c w v other) ∙ rw (eq-eqb x (c .start .0 / 4096 % 2 ^ 44) is)
-            (sym (ap changes (seen-valid left w y fine v) ∙ rw (ne-eqb (edited set clear (plain w)) (plain w) (λ e. other (plain-same w (fine .wide) e)))))
+            (sym (ap changes (seen-valid left w y fine v) ∙ rw (ne-eqb (edited set clear (plainFlags w)) (plainFlags w) (λ e. other (plain-same w (fine .wide) e)))))
 
     -- ---- a chunk, and a table
 
@@ -214,7 +215,8 @@ module _ (set clear : ℕ) where
 
             go : (z / 4096 ≤ y) ⊎ (y < z / 4096)
                 → (z / 4096 ≤ y → TableTells (suc (slotAt left c)) z (sweep left (after left) cs p′ (node v′)) (node v′) (gathered left (entryNumbers left) cs (node v′)))
-                → TableTells a s (sweep left (after left) cs p′ (atSlot i (after left c p) (node v))) (node v) (entryNumbers left c (slotIn (node v) i) ++ gathered left (entryNumbers left) cs (node v))
+                → TableTells a s (sweep left (after left) cs p′ (atSlot i (after left c p) (node v))) (node v)
+                (entryNumbers left c (slotIn (node v) i) ++ gathered left (entryNumbers left) cs (node v))
             go (inr l) later =
                 let place = index in
                 let at : slotOf y left ≡ slotAt left c = slot-in left q (slotAt left c) y (slot-lt (s / 4096) left) (piece-in (all .0 .piece) above l) in
@@ -258,7 +260,9 @@ module _ (set clear : ℕ) where
                 (few x c p (slotIn (node v) i) (all .0 .piece)) in
                 record {
                   slot = omega (arith, all .0 .from);
-                  tell = subst (λ (t : Tree). Tells left s (slotIn (sweep left (after left) cs p′ t) σ) (slotIn (node v) σ) (entryNumbers left c (slotIn (node v) i) ++ gathered left (entryNumbers left) cs (node v))) (sym tree)
+                  tell =
+                      subst (λ (t : Tree). Tells left s (slotIn (sweep left (after left) cs p′ t) σ) (slotIn (node v) σ)
+                      (entryNumbers left c (slotIn (node v) i) ++ gathered left (entryNumbers left) cs (node v))) (sym tree)
                       (record {
                         from = omega arith;
                         count = occurs-append x (entryNumbers left c (slotIn (node v) i)) (gathered left (entryNumbers left) cs (node v))
@@ -284,12 +288,14 @@ module _ (set clear : ℕ) where
       -- a table's region
       whole-tells : (left q : ℕ) (m : Map) (v : ℕ → Tree) → left ≤ 3 → EachTells left → Area left q m → ((j : ℕ) → j < 512 → FineTree left (v j))
           → m .region .start .0 ≤ m .region .end .0 → m .region .start .0 / 4096 ≤ y → y < m .region .end .0 / 4096
-          → Tells (suc left) (m .region .start .0) (chunkedTable (documentModify set clear) left (m .region) (m .frame .0) (node v)) (node v) (tableNumbers set clear left (m .region) (node v))
+          → Tells (suc left) (m .region .start .0) (chunkedTable (documentModify set clear) left (m .region) (m .frame .0) (node v)) (node v)
+          (tableNumbers set clear left (m .region) (node v))
       unfolding chunkedTable
       whole-tells left q m v low tells area fine some above under =
           let cs : List MemoryRegion = chunks (3 - left) (m .region .start .0) (m .region .end .0) in
           let T = table-tells left q m low tells (λ x c p u piece. few-all left low x (child q (slotAt left c)) m c p u piece)
-          (chunks-tile (3 - left) (m .region .start .0) (m .region .end .0)) 0 (m .frame .0) (pieces left q m low (m .frame .0) (m .region) (record { inside = area .inside; room = area .room })) v
+          (chunks-tile (3 - left) (m .region .start .0) (m .region .end .0)) 0 (m .frame .0)
+          (pieces left q m low (m .frame .0) (m .region) (record { inside = area .inside; room = area .room })) v
           (λ j k b. fine j b) above under (omega (arith, area .room)) some in
           let U : Tree = sweep left (after left) cs (m .frame .0) (node v) in
           let σ : ℕ = slotOf y left in
@@ -308,7 +314,8 @@ module _ (set clear : ℕ) where
           let one = ap (λ (n : ℕ). y % n) span-zero ∙ mod-one y in
           let z = span-zero in
           let start : c .start .0 / 4096 ≡ y = omega (arith, piece .inside .low, piece .inside .high) in
-          let here : firstPage 0 (after 0 c p (leaf w)) y ≡ y = ap (λ (t : Tree). firstPage 0 t y) (chunked-page c p w) ∙ first-edit 0 w (leaf w) y ∙ (let k : y - y % span 0 ≡ y = omega arith in k) in
+          let here : firstPage 0 (after 0 c p (leaf w)) y ≡ y = ap (λ (t : Tree). firstPage 0 t y) (chunked-page c p w) ∙ first-edit 0 w (leaf w) y
+          ∙ (let k : y - y % span 0 ≡ y = omega arith in k) in
           record {
             from = omega arith;
             count = ap (occurs (firstPage 0 (after 0 c p (leaf w)) y % 2 ^ 44)) (sym (leaf-page set clear c (leaf w)) ∙ leaf-number set clear c w)
@@ -316,9 +323,10 @@ module _ (set clear : ℕ) where
           }
 
       -- an entry that is covered as a whole
-      entry-whole : (left q p w : ℕ) (c : MemoryRegion) (m : Map) → suc left ≤ 3 → Piece (suc left) q (chunkMap m c p) → Fine (suc left) w → c .start .0 / 4096 ≤ y → y < c .end .0 / 4096
-          → wholeEntry (3 - suc left) c ≡ true → Tells (suc left) (c .start .0) (after (suc left) c p (leaf w)) (leaf w) (entryNumbers (suc left) c (leaf w))
-      unfolding wholeEntry
+      entry-whole : (left q p w : ℕ) (c : MemoryRegion) (m : Map) → suc left ≤ 3 → Piece (suc left) q (chunkMap m c p) → Fine (suc left) w → c .start .0 / 4096 ≤ y
+          → y < c .end .0 / 4096
+          → whole (3 - suc left) c ≡ true → Tells (suc left) (c .start .0) (after (suc left) c p (leaf w)) (leaf w) (entryNumbers (suc left) c (leaf w))
+      unfolding whole
       entry-whole left q p w c m low piece fine above under all =
           let begins : c .start .0 % sizeAt (3 - suc left) ≡ 0 =
           eqb→eq (c .start .0 % sizeAt (3 - suc left)) 0 (and-l (eqb (c .start .0 % sizeAt (3 - suc left)) 0) (eqb (c .end .0 % sizeAt (3 - suc left)) 0) (rw all tt)) in
@@ -351,22 +359,17 @@ module _ (set clear : ℕ) where
             count = ap (occurs _) numbers ∙ nil-occurs set clear _ (tableNumbers set clear left c (node v)) ∙ T .count ∙ ap changes shows;
           })
 
-      opens-leaf : (left w : ℕ) → opened left (leaf w) ≡ node (fillSlot left w)
-      unfolding opened
-      opens-leaf left w = fill-node left w
-
-      opens-node : (left : ℕ) (f : ℕ → Tree) → opened left (node f) ≡ node f
-      unfolding opened
-      opens-node left f = refl
-
       up-tells : (left : ℕ) → suc left ≤ 3 → EachTells left → EachTells (suc left)
       up-tells left low tells q m c p (node f) piece fine above under =
-          goes-tells left q p c m (node f) f low tells piece fine above under (opens-node left f) (chunked-into left c p f) (lower-into set clear _ left c f) (own-none set clear (suc left) c f) refl
-      up-tells left low tells q m c p (leaf w) piece fine above under = byBool (wholeEntry (3 - suc left) c)
+          goes-tells left q p c m (node f) f low tells piece fine above under (opens-node left f) (chunked-into left c p f) (lower-into set clear _ left c f)
+          (own-none set clear (suc left) c f) refl
+      up-tells left low tells q m c p (leaf w) piece fine above under = byBool (whole (3 - suc left) c)
           (λ e. entry-whole left q p w c m low piece fine above under e)
-          (λ e. goes-tells left q p c m (leaf w) (fillSlot left w) low tells piece (fine-fill-slots left w fine) above under (opens-leaf left w) (chunked-part left c p w e)
+          (λ e. goes-tells left q p c m (leaf w) (fillSlot left w) low tells piece (fine-fill-slots left w fine) above under (opens-leaf left w ∙ fill-node left w)
+          (chunked-part left c p w e)
           (lower-part set clear _ left c w e) (own-part set clear left c w e)
-          (seen-node left (fillSlot left w) y ∙ ap (λ (t : Tree). seen left t y) (fill-slot left w (slotOf y left) (slot-lt y left)) ∙ seen-leaf left _ y ∙ fill-seen left w y fine ∙ sym (seen-leaf (suc left) w y)))
+          (seen-node left (fillSlot left w) y ∙ ap (λ (t : Tree). seen left t y) (fill-slot left w (slotOf y left) (slot-lt y left)) ∙ seen-leaf left _ y ∙ fill-seen left w y fine
+          ∙ sym (seen-leaf (suc left) w y)))
 
       each-tells : (left : ℕ) → left ≤ 3 → EachTells left
       each-tells zero low = page-tells
@@ -375,6 +378,7 @@ module _ (set clear : ℕ) where
       -- EXACTLY THE ENTRIES THAT CHANGE
       pub region-tells : (left q : ℕ) (m : Map) (v : ℕ → Tree) → left ≤ 3 → Area left q m → ((j : ℕ) → j < 512 → FineTree left (v j))
           → m .region .start .0 ≤ m .region .end .0 → m .region .start .0 / 4096 ≤ y → y < m .region .end .0 / 4096
-          → occurs (firstPage (suc left) (chunkedTable (documentModify set clear) left (m .region) (m .frame .0) (node v)) y % 2 ^ 44) (tableNumbers set clear left (m .region) (node v))
+          → occurs (firstPage (suc left) (chunkedTable (documentModify set clear) left (m .region) (m .frame .0) (node v)) y % 2 ^ 44)
+          (tableNumbers set clear left (m .region) (node v))
           ≡ changes (seen (suc left) (node v) y)
       region-tells left q m v low area fine some above under = whole-tells left q m v low (each-tells left low) area fine some above under .count

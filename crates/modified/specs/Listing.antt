@@ -6,7 +6,8 @@ use mathlib.Core.Logic.{_⊎_, inl, inr, _≢_}
 use Prim.Native.Nat.{ℕ, zero, suc, _+_, _-_, _≤_, _<_}
 use native.Mathlib.Omega.{arith}
 use Rattle.laws.specs.Test.{byBool, eq-or}
-use Rattle.region.specs.Region.{entryIndex}
+use Rattle.entry.specs.Word.{valid, edited}
+use Rattle.region.specs.Region.{entryIndex, whole}
 use Rattle.region.specs.Chunks.{chunks}
 use Rattle.region.specs.declared.MemoryRegion.{MemoryRegion}
 use Rattle.pool.specs.State.{St, st, wordAt}
@@ -26,14 +27,11 @@ use Rattle.forest.specs.Keep.{slot-leaf}
 use Rattle.sound.specs.Clauses.{levelAt}
 use Rattle.sound.specs.Codec.{Placed, codecOf, childOf, slotWord, view, word-in, treeFrom}
 use Rattle.tree.specs.Page.{child}
-use Rattle.tree.specs.Word.{valid}
-use Rattle.tree.specs.Edit.{edited}
 use Rattle.tree.specs.Visit.{opened, splits}
 use Rattle.tree.specs.Fine.{Fine}
 use Rattle.tree.specs.Shown.{FineTree}
 use Rattle.tree.specs.Chunks.{sweep}
 use Rattle.tree.specs.Needed.{slotIn, tallied, needed, neededTable}
-use Rattle.tree.specs.Document.{wholeEntry}
 use Rattle.tree.specs.DocumentModify.{documentModify}
 use Rattle.mapped.specs.Leaf.{slot-fine}
 use Rattle.mapped.specs.Stand.{Piece}
@@ -45,7 +43,8 @@ use Rattle.modified.specs.Word.{Bits, table-stays, hole-stays, valid-edi
 use Rattle.modified.specs.Passes.{ownTo, downTo, takes-part, takes-into}
 use Rattle.modified.specs.Range.{editTakes, areaOf, through-chunks, none-taken, own-works, Edits, goes-down, down-works, down-pass, range-edits}
 use Rattle.modified.specs.Numbers.{gathered, changedNumber, ownNumbers, lowerNumbers, tableNumbers}
-use Rattle.modified.specs.Gathered.{number-changed, number-same, number-hole, lower-whole, lower-part, lower-into, leafNumbers, leaf-number, leaf-none, leaf-page, leaf-after, gathered-from, gathered-after}
+use Rattle.modified.specs.Gathered.{number-changed, number-same, number-hole, lower-whole, lower-part, lower-into, leafNumbers, leaf-number, leaf-none, leaf-page, leaf-after}
+use Rattle.modified.specs.Gathered.{gathered-from, gathered-after}
 use Rattle.modified.specs.Notes.{putAll, put-none, put-one, put-append}
 
 -- ---- a loop over the chunks of a table
@@ -130,7 +129,8 @@ module _ {h : Handle} (placed : Placed h) where
           go v is (inr other) =
               let l : Numbered = putNumber (e .live) _ (n .count) (n .list) in
               ap ofNoted (sym (own-changed (3 - left) k e c n refl refl other refl {count = l .count} {list = l .list} refl))
-              ∙ sym (ap (λ (xs : List ℕ). putAll (e .live) xs (ofNoted n)) (numbers-are ∙ number-changed (e .set) (e .clear) c w v (λ q. other (is ∙ q))) ∙ put-one (e .live) _ (ofNoted n))
+              ∙ sym (ap (λ (xs : List ℕ). putAll (e .live) xs (ofNoted n)) (numbers-are ∙ number-changed (e .set) (e .clear) c w v (λ q. other (is ∙ q)))
+              ∙ put-one (e .live) _ (ofNoted n))
 
   own-puts : (left k : ℕ) (e : Edit) (ledger : List ℕ) (c : MemoryRegion) (n : Noted) (R : Ready placed (st (n .words) ledger) left k) → Puts left k e ledger c n R
   own-puts zero k e ledger c n R =
@@ -211,7 +211,7 @@ module _ {h : Handle} (placed : Placed h) where
         ∙ ap (λ (xs : List ℕ). putAll (e .live) xs (ofWork x)) (ap (table c) (O .shows) ∙ sym numbers)
 
     down-puts : count u ≤ free (x .state .ledger) → Downs
-    unfolding wholeEntry
+    unfolding whole
     down-puts room = go (holds placed R j slot)
       where
         set : ℕ
@@ -225,7 +225,7 @@ module _ {h : Handle} (placed : Placed h) where
             puts-down room (sym (own-table level c y both))
             (ap lower shows ∙ lower-into set clear table left c _ ∙ sym (ap (λ (v : Tree). table c (opened left v)) shows))
             (ap count shows ∙ takes-into set clear left c p _ ∙ sym (ap (λ (v : Tree). splits v + editTakes (chunkEdit e c) left p (opened left v)) shows))
-        go (holds-leaf old other shows) = byBool (wholeEntry level c)
+        go (holds-leaf old other shows) = byBool (whole level c)
             (λ all. ap ofWork (sym (step-own h level k e c x refl (sym (own-leaf level c y other) ∙ all)))
             ∙ sym (ap (λ (xs : List ℕ). putAll (e .live) xs (ofWork x)) (ap lower shows ∙ lower-whole set clear table left c y all) ∙ put-none (e .live) (ofWork x)))
             (λ part. puts-down room (sym (own-leaf level c y other) ∙ part)
@@ -273,7 +273,8 @@ module _ {h : Handle} (placed : Placed h) where
       let up : 3 - level ≡ suc left = omega arith in
       let whole : ownWork level k e mid ≡ modifyRange (suc left) h k e w = modify-open level h k e w (omega arith) ∙ ap (λ (d : ℕ). modifyRange d h k e w) up in
       let lower : List ℕ = gathered (suc left) (lowerNumbers (e .set) (e .clear) (λ d v. tableNumbers (e .set) (e .clear) left d v) left) cs t in
-      let after : gathered (suc left) (leafNumbers (e .set) (e .clear)) cs (treeFrom h (mid .state) (suc left) k) ≡ gathered (suc left) (ownNumbers (e .set) (e .clear) (suc left)) cs t =
+      let after : gathered (suc left) (leafNumbers (e .set) (e .clear)) cs (treeFrom h (mid .state) (suc left) k)
+      ≡ gathered (suc left) (ownNumbers (e .set) (e .clear) (suc left)) cs t =
       ap (gathered (suc left) (leafNumbers (e .set) (e .clear)) cs) (D .work .tree ∙ ap (sweep (suc left) (downTo (e .set) (e .clear) left) cs p) is)
       ∙ gathered-after (suc left) q (areaOf e p) low (downTo (e .set) (e .clear) left) (leafNumbers (e .set) (e .clear)) (ownNumbers (e .set) (e .clear) (suc left))
       (leaf-after (e .set) (e .clear) left) cs 0 p _ all

@@ -4,12 +4,11 @@ use mathlib.Core.Path.{_≡_, refl, sym, ap, ap₂, subst, _∙_}
 use mathlib.Core.Bool.{true, false}
 use mathlib.Core.List.{List}
 use mathlib.Core.Logic.{_⊎_, inl, inr, _↔_}
-use Prim.Native.Nat.{ℕ, zero, suc, _+_, _*_, _-_, _/_, _%_, _≤_, _<_}
+use Prim.Native.Nat.{ℕ, suc, _+_, _*_, _-_, _/_, _%_, _≤_, _<_}
 use native.Mathlib.Omega.{arith}
 use Rattle.laws.specs.Size.{sizeAt, down}
 use Rattle.laws.specs.Test.{byBool, le-or}
-use Rattle.entry.specs.Word.{kindOf, kind-page}
-use Rattle.entry.specs.declared.Kind.the-variants.{Block, Page}
+use Rattle.entry.specs.Word.{valid, valid-of, valid-yes, edited}
 use Rattle.region.specs.Region.{rounded}
 use Rattle.pool.specs.State.{St}
 use Rattle.pool.specs.Refuse.{Shaped}
@@ -18,6 +17,7 @@ use Rattle.edit.specs.declared.Edit.{Edit}
 use Rattle.edit.specs.Word.{editWord}
 use Rattle.survey.specs.House.{mayChange}
 use Rattle.modify.specs.Ask.{asked}
+use Rattle.modify.specs.Call.{nothing}
 use Rattle.forest.specs.Tree.{Tree}
 use Rattle.forest.specs.Walk.{Ends, walkTree}
 use Rattle.sound.specs.Clauses.{SoundPool}
@@ -26,18 +26,14 @@ use Rattle.walk.specs.Arm.{at}
 use Rattle.walked.specs.Any.{slotsOf, met}
 use Rattle.walked.specs.Walked.{reach-tree}
 use Rattle.tree.specs.Page.{span, span-size, first, slotOf, slot-lt, in-rest, entry-start}
-use Rattle.tree.specs.Word.{valid, valid-of, valid-yes}
-use Rattle.tree.specs.Edit.{edited}
-use Rattle.tree.specs.Fine.{Fine}
 use Rattle.mapped.specs.Terms.{leftOf, rootIn}
 use Rattle.mapped.specs.Leaf.{root-fine}
 use Rattle.mapped.specs.Shown.{slots-are, walk-same, FineEnds, table-ends}
 use Rattle.modified.specs.Terms.{Call, Modifies, askedOf, Passed, surveyed, InRegion, pagesOf, treeAfter}
-use Rattle.modified.specs.House.{reachOf, Standing, Covered, Breaks, Lowest}
+use Rattle.modified.specs.House.{reachOf, Standing, Covered, Breaks, Lowest, Keeps}
 use Rattle.modified.specs.Word.{valid-edited}
 use Rattle.modified.specs.Asked.{asked-forwards}
-use Rattle.modified.specs.Counted.{valid-block}
-use Rattle.modified.specs.Call.{area, ready, call-passed, call-fits, call-shaped, call-sound, call-tree}
+use Rattle.modified.specs.Call.{area, ready, call-passed, call-clear, call-shaped, call-sound, call-tree}
 use Rattle.modified.specs.Place.{region-page, page-region, region-spans}
 use Rattle.modified.specs.Found.{Within, newWord, Broken, First, Finds, new-is, BreaksIn, survey-finds}
 use Rattle.modified.specs.Stays.{modify-stays}
@@ -47,7 +43,8 @@ use Rattle.modified.specs.Stays.{modify-stays}
 abbrev endsOf : Handle → Tree → ℕ → Ends
 endsOf h t y = walkTree (slotOf y) (suc (leftOf h)) t
 
-reach-ends : {h : Handle} {s : St} → Shaped h s → SoundPool h s → (va : ℕ) → reachOf h s va ≡ at (3 - endsOf h (rootTree h s) (va / 4096) .left) (endsOf h (rootTree h s) (va / 4096) .word)
+reach-ends : {h : Handle} {s : St} → Shaped h s → SoundPool h s → (va : ℕ)
+    → reachOf h s va ≡ at (3 - endsOf h (rootTree h s) (va / 4096) .left) (endsOf h (rootTree h s) (va / 4096) .word)
 unfolding met
 reach-ends {h} {s} shape P va =
     reach-tree shape P va
@@ -135,21 +132,10 @@ module _ {h : Handle} {c : Call} {s : St} (passed : Passed h c s) where
         either (inl split) = inl (λ C. split (covered-within (x .left) va low-end C))
         either (inr bits) = inr (ap (mayChange h w) (sym (new-word w)) ∙ bits)
 
-  -- in a sound pool a valid word is a block at levels 1 and 2, a page at level 3
-  pub standing-kind : {va level w : ℕ} → Standing h c s va level w → (kindOf level w ≡ Block) ⊎ (kindOf level w ≡ Page)
-  standing-kind {va} {level} {w} S =
-      let same : at (3 - ends (va / 4096) .left) (ends (va / 4096) .word) ≡ at level w = sym (reached va) ∙ S .ends in
-      subst (λ (l : ℕ). (kindOf l w ≡ Block) ⊎ (kindOf l w ≡ Page)) (at-level same)
-      (go (ends (va / 4096) .left) (low-end va) (subst (Fine (ends (va / 4096) .left)) (at-word same) (ends-fine (va / 4096) .fine)))
-    where
-      go : (n : ℕ) → n ≤ 3 → Fine n w → (kindOf (3 - n) w ≡ Block) ⊎ (kindOf (3 - n) w ≡ Page)
-      go zero low fine = let b = fine .page refl (S .valid) in let o = S .valid in inr (kind-page 3 w (omega arith) (omega arith))
-      go (suc n) low fine = inl (valid-block n w low fine (valid-of w (S .valid)))
-
   -- ---- the survey
 
-  scanned : Finds (BreaksIn (shaped-placed (passed .shape)) e (suc (leftOf h)) (rootTree h s)) lo hi (record { splits = 0; numbers = 0; broken = false; word = 0 }) (surveyed h c s)
-  scanned = survey-finds (shaped-placed (passed .shape)) (leftOf h) (omega arith) (rootIn h) 0 0 e s (record { splits = 0; numbers = 0; broken = false; word = 0 }) (area passed) (ready passed)
+  scanned : Finds (BreaksIn (shaped-placed (passed .shape)) e (suc (leftOf h)) (rootTree h s)) lo hi nothing (surveyed h c s)
+  scanned = survey-finds (shaped-placed (passed .shape)) (leftOf h) (omega arith) (rootIn h) 0 0 e s nothing (area passed) (ready passed)
       (asked-forwards h (c .start) (c .end) (c .set) (c .clear) (c .live) (passed .asks))
 
   -- the first address of the page
@@ -189,7 +175,7 @@ module _ {h : Handle} {c : Call} {s : St} (passed : Passed h c s) where
         go (inl l) (inl k) = omega arith
 
   -- where the survey is not broken no address breaks
-  kept-none : surveyed h c s .broken ≡ false → (va u : ℕ) → ¬ (Breaks h c s va u)
+  kept-none : surveyed h c s .broken ≡ false → Keeps h c s
   kept-none kept va u B = let page = region-page passed va (B .stands .region) in scanned .none refl kept (va / 4096) u (page .from) (page .below) (to-page va u B)
 
   -- REFUSAL 10, BY THE WALK
@@ -199,6 +185,14 @@ module _ {h : Handle} {c : Call} {s : St} (passed : Passed h c s) where
     λ L. byBool (surveyed h c s .broken)
         (λ broken. (broken, lowest-first (scanned .some refl broken) L))
         (λ kept. absurd (kept-none kept (L .address) w (L .breaks))),
+  )
+
+  pub survey-keeps : (surveyed h c s .broken ≡ false) ↔ Keeps h c s
+  survey-keeps = (
+    kept-none,
+    λ keeps. byBool {A = surveyed h c s .broken ≡ false} (surveyed h c s .broken)
+        (λ broken. let L = survey-lowest (surveyed h c s .word) .0 (broken, refl) in absurd (keeps (L .address) (surveyed h c s .word) (L .breaks)))
+        (λ kept. kept),
   )
 
   -- ---- where the rule is kept
@@ -215,7 +209,8 @@ module _ {h : Handle} {c : Call} {s : St} (passed : Passed h c s) where
         split not = kept-none kept va w (record { level = level; stands = S; rule = inl not })
 
         go : (rounded (c .start) (c .end) .start .0 ≤ down va (sizeAt level)) ⊎ (down va (sizeAt level) < rounded (c .start) (c .end) .start .0)
-            → (down va (sizeAt level) + sizeAt level ≤ rounded (c .start) (c .end) .end .0) ⊎ (rounded (c .start) (c .end) .end .0 < down va (sizeAt level) + sizeAt level) → Covered c level va
+            → (down va (sizeAt level) + sizeAt level ≤ rounded (c .start) (c .end) .end .0) ⊎ (rounded (c .start) (c .end) .end .0 < down va (sizeAt level) + sizeAt level)
+            → Covered c level va
         go (inl a) (inl b) = record { from = a; upto = b }
         go (inr a) b = absurd (split (λ C. omega (arith, C .from)))
         go (inl a) (inr b) = absurd (split (λ C. omega (arith, C .upto)))
@@ -232,7 +227,8 @@ module _ {h : Handle} {c : Call} {s : St} (passed : Passed h c s) where
         let W : Within lo hi (ends y .left) y = covered-within (ends y .left) va (low-end va) (subst (λ (l : ℕ). Covered c l va) (sym (at-level same-end)) kept-covered) in
         let new : edited (e .set) (e .clear) (ends y .word) ≡ editWord level e w =
         sym (valid-edited e (ends y .word) (ends y .left) (low-end va) (ends-fine y .fine) v) ∙ ap₂ (λ (l x : ℕ). editWord l e x) (at-level same-end) (at-word same-end) in
-        modify-stays (leftOf h) (rootIn h) (pagesOf c) (rootTree h s) y (root-fine (shaped-placed (passed .shape)) (passed .pool)) (region-spans passed va (S .region)) (page .from) (page .below) v W
+        modify-stays (leftOf h) (rootIn h) (pagesOf c) (rootTree h s) y (root-fine (shaped-placed (passed .shape)) (passed .pool)) (region-spans passed va (S .region))
+        (page .from) (page .below) v W
         ∙ ap (λ (x : ℕ). record { word = x; left = ends y .left }) new
 
     pub kept-level : 3 - ends (va / 4096) .left ≡ level
@@ -245,7 +241,7 @@ module _ {h : Handle} {c : Call} {s s′ : St} {list list′ : List ℕ} {n k : 
   was = call-passed modifies
 
   kept : surveyed h c s .broken ≡ false
-  kept = call-fits modifies .kept live
+  kept = call-clear modifies .kept live
 
   -- LIVE SAFETY
   pub live-safe : {va level w : ℕ} → Standing h c s va level w

@@ -8,6 +8,7 @@ use lib.ListN.{length, drop}
 use mathlib.Core.Logic.{_↔_}
 use Prim.Native.Nat.{ℕ, suc, _+_, _*_, _/_, _%_, _≤_, _<_, _^_}
 use native.Mathlib.Omega.{arith}
+use Rattle.entry.specs.Word.{valid, valid-of, valid-none, edited}
 use Rattle.pool.specs.State.{St}
 use Rattle.pool.specs.Number.{used, free}
 use Rattle.pool.specs.declared.Handle.{Handle}
@@ -22,9 +23,7 @@ use Rattle.forest.specs.Nodes.{nodes}
 use Rattle.sound.specs.Clauses.{SoundPool}
 use Rattle.sound.specs.Codec.{shaped-placed, rootTree}
 use Rattle.sound.specs.Hanging.{used-tree}
-use Rattle.tree.specs.Word.{valid, valid-of, valid-none}
 use Rattle.tree.specs.Walk.{Seen, mapped as seenMapped, hole as seenHole, seen}
-use Rattle.tree.specs.Edit.{edited}
 use Rattle.tree.specs.Shown.{FineTable}
 use Rattle.tree.specs.Demands.{modified as tree-modified, holes-stay, modify-others, modify-tables}
 use Rattle.walk.specs.Arm.{at as endsAt}
@@ -33,12 +32,13 @@ use Rattle.mapped.specs.Terms.{InSpan, leftOf, rootIn}
 use Rattle.mapped.specs.Leaf.{root-fine}
 use Rattle.mapped.specs.Shown.{inBytes, walk-shown}
 use Rattle.mapped.specs.Place.{span-spans}
-use Rattle.modified.specs.Terms.{Call, callOf, Modifies, askedOf, Passed, surveyed, InRegion, flagsAfter, pagesOf, treeAfter, madeBy, numbersOf, Fits}
+use Rattle.modified.specs.Terms.{Call, callOf, Modifies, askedOf, Passed, surveyed, InRegion, flagsAfter, pagesOf, treeAfter, madeBy, numbersOf}
 use Rattle.modified.specs.Numbers.{occurs, firstPage}
 use Rattle.modified.specs.Listed.{changes}
-use Rattle.modified.specs.Call.{workAfter, given, splits-made, numbers-made, numbers-one, numbers-tell, call-full, call-broken, call-short, call-accepted, full-back, broken-back, short-back, call-passed, call-fits, call-shaped, call-sound, call-tree, call-answer, call-off, call-enough, call-on}
-use Rattle.modified.specs.House.{reachOf, Standing, Covered, Lowest}
-use Rattle.modified.specs.Lowest.{survey-lowest, live-safe}
+use Rattle.modified.specs.Call.{workAfter, given, splits-made, numbers-made, numbers-one, numbers-tell, call-full, call-broken, call-short, call-accepted, full-back}
+use Rattle.modified.specs.Call.{broken-back, short-back, call-passed, Clear, call-clear, call-shaped, call-sound, call-tree, call-answer, call-off, call-on}
+use Rattle.modified.specs.House.{reachOf, Standing, Covered, Lowest, Keeps, Fits}
+use Rattle.modified.specs.Lowest.{survey-lowest, survey-keeps, live-safe}
 use Rattle.modified.specs.Change.{bit, houseBit, house-rule-bits}
 use Rattle.modified.specs.Place.{region-page, page-region, region-spans}
 
@@ -68,7 +68,7 @@ unfolding inBytes
 now-hole x f p e even = rw (e, valid-none f even)
 
 flags-are : (c : Call) (f : ℕ) → edited (pagesOf c .set) (pagesOf c .clear) f ≡ flagsAfter c f
-unfolding edited flagsAfter asked
+unfolding asked
 flags-are c f = refl
 
 -- ---- AN ACCEPTED CALL
@@ -170,7 +170,7 @@ module _ {h : Handle} {c : Call} {s s′ : St} {list list′ : List ℕ} {n k : 
 
   -- live, it is answered how many numbers there are, and the list holds them and then what it held: it has room for all of them
   pub modify-list-exactly : c .live ≡ true → (k ≡ length (numbersOf h c s)) × (k ≤ length list) × (list′ ≡ numbersOf h c s ++ drop k list)
-  modify-list-exactly on = let p = call-on modifies on in (p .0, omega (arith, p .0, call-enough modifies on), p .1)
+  modify-list-exactly on = let p = call-on modifies on in (p .0, omega (arith, p .0, call-clear modifies .enough on), p .1)
 
   -- ---- live
 
@@ -247,10 +247,10 @@ module _ (h : Handle) (c : Call) (s : St) (list : List ℕ) where
 
   -- 11 is given exactly when none of refusals 1 to 10 is, and a live call would list more numbers than the list has room for;
   pub modify-refused-11-exactly : ((n : ℕ) × (s′ : St) × (list′ : List ℕ) × (callOf h c s list ≡ modifying (Refused (Short n)) s′ list′))
-      ↔ (Passed h c s × (madeBy h c s ≤ free (s .ledger)) × (c .live ≡ true) × (surveyed h c s .broken ≡ false) × (length list < length (numbersOf h c s)))
+      ↔ (Passed h c s × (madeBy h c s ≤ free (s .ledger)) × (c .live ≡ true) × Keeps h c s × (length list < length (numbersOf h c s)))
   modify-refused-11-exactly = (
-    λ at. short-back h c s list (at .3),
-    λ short. (length (numbersOf h c s), s, list, call-short (short .0) list (short .1) (short .2) (short .3) (short .4)),
+    λ at. let back = short-back h c s list (at .3) in (back .0, back .1, back .2, survey-keeps (back .0) .0 (back .3), back .4),
+    λ short. (length (numbersOf h c s), s, list, call-short (short .0) list (short .1) (short .2) (survey-keeps (short .0) .1 (short .3)) (short .4)),
   )
 
   -- it carries the length that is needed, and leaves the state and the list as they were;
@@ -273,6 +273,12 @@ module _ (h : Handle) (c : Call) (s : St) (list : List ℕ) where
   -- the call is accepted exactly when none of refusals 1 to 11 is given
   pub modify-accepted-exactly : ((n k : ℕ) × (s′ : St) × (list′ : List ℕ) × Modifies h c s list n k s′ list′) ↔ (Passed h c s × Fits h c s list)
   modify-accepted-exactly = (
-    λ at. (call-passed (at .4), call-fits (at .4)),
-    λ fits. let w = workAfter h c s list in (used (w .state .ledger), w .count, w .state, w .list, record { answers = call-accepted (fits .0) list (fits .1) }),
+    λ at.
+        let passed = call-passed (at .4) in
+        let clear = call-clear (at .4) in
+        (passed, record { room = clear .room; kept = λ on. survey-keeps passed .0 (clear .kept on); enough = clear .enough }),
+    λ fits.
+        let w = workAfter h c s list in
+        let clear : Clear h c s list = record { room = fits .1 .room; kept = λ on. survey-keeps (fits .0) .1 (fits .1 .kept on); enough = fits .1 .enough } in
+        (used (w .state .ledger), w .count, w .state, w .list, record { answers = call-accepted (fits .0) list clear }),
   )

@@ -4,17 +4,15 @@ use mathlib.Core.Bool.{not, cond, _&&_}
 use mathlib.Core.List.{List, [], _∷_, _++_}
 use Prim.Native.Nat.{ℕ, zero, suc, _+_, _-_, _/_, _%_, _^_}
 use lib.Dec.{eqb}
-use Rattle.region.specs.Region.{entryIndex}
+use Rattle.entry.specs.Word.{valid, edited}
+use Rattle.region.specs.Region.{entryIndex, whole}
 use Rattle.region.specs.Chunks.{chunks}
 use Rattle.region.specs.declared.MemoryRegion.{MemoryRegion}
 use Rattle.forest.specs.Tree.{Tree, leaf, node}
 use Rattle.forest.specs.Walk.{walkTree}
 use Rattle.tree.specs.Page.{span, slotOf}
-use Rattle.tree.specs.Word.{valid}
-use Rattle.tree.specs.Edit.{edited}
 use Rattle.tree.specs.Visit.{fillTree}
 use Rattle.tree.specs.Needed.{slotIn}
-use Rattle.tree.specs.Document.{wholeEntry}
 
 -- what `each` gives for a chunk and its slot of a table, one chunk after the other
 unfoldable pub gathered : ℕ → (MemoryRegion → Tree → List ℕ) → List MemoryRegion → Tree → List ℕ
@@ -30,12 +28,12 @@ module _ (set clear : ℕ) where
   unfoldable pub ownNumbers : ℕ → MemoryRegion → Tree → List ℕ
   ownNumbers zero c (leaf w) = changedNumber c w
   ownNumbers zero c (node f) = []
-  ownNumbers (suc left) c (leaf w) = cond (wholeEntry (3 - suc left) c) (changedNumber c w) []
+  ownNumbers (suc left) c (leaf w) = cond (whole (3 - suc left) c) (changedNumber c w) []
   ownNumbers (suc left) c (node f) = []
 
   -- the table below an entry: the one that is there, or that of a split; `rec` gives a table's numbers
   unfoldable pub lowerNumbers : (MemoryRegion → Tree → List ℕ) → ℕ → MemoryRegion → Tree → List ℕ
-  lowerNumbers rec left c (leaf w) = cond (wholeEntry (3 - suc left) c) [] (rec c (fillTree left w))
+  lowerNumbers rec left c (leaf w) = cond (whole (3 - suc left) c) [] (rec c (fillTree left w))
   lowerNumbers rec left c (node f) = rec c (node f)
 
   -- a table with `left` levels below its own, for the region c

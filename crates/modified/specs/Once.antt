@@ -7,18 +7,16 @@ use Prim.Native.Nat.{ℕ, zero, suc, _+_, _-_, _/_, _%_, _^_, _≤_, _<_}
 use native.Mathlib.Omega.{arith}
 use lib.Dec.{eqb, eqb→eq}
 use Rattle.laws.specs.Test.{byBool}
-use Rattle.region.specs.Region.{region, entryIndex}
+use Rattle.entry.specs.Word.{valid, edited}
+use Rattle.region.specs.Region.{region, entryIndex, whole}
 use Rattle.region.specs.Chunks.{chunks, Tiles, none, more, chunks-tile}
 use Rattle.region.specs.declared.MemoryRegion.{MemoryRegion}
 use Rattle.rules.specs.declared.Map.{Map}
 use Rattle.rules.specs.Rules.{chunkMap}
 use Rattle.forest.specs.Tree.{Tree, leaf, node}
 use Rattle.tree.specs.Page.{child}
-use Rattle.tree.specs.Word.{valid}
-use Rattle.tree.specs.Edit.{edited}
 use Rattle.tree.specs.Visit.{opened}
 use Rattle.tree.specs.Needed.{slotIn}
-use Rattle.tree.specs.Document.{wholeEntry}
 use Rattle.mapped.specs.Stand.{Piece}
 use Rattle.mapped.specs.Pieces.{Area, slotAt, Pieces, pieces}
 use Rattle.modified.specs.Numbers.{gathered, changedNumber, ownNumbers, lowerNumbers, tableNumbers, occurs}
@@ -109,7 +107,7 @@ module _ (set clear x : ℕ) where
         subst (Few x c) (sym same) (once q (chunkMap m c p) v (record { inside = piece .inside; room = piece .room }) (omega (arith, piece .some)))
 
     pub entry-few : (u : Tree) → Few x c (occurs x (entryNumbers u))
-    entry-few (leaf w) = byBool (wholeEntry (3 - suc left) c)
+    entry-few (leaf w) = byBool (whole (3 - suc left) c)
         (λ e.
         let same : occurs x (entryNumbers (leaf w)) ≡ occurs x (changedNumber set clear c w) =
         ap₂ (λ (y z : List ℕ). occurs x (y ++ z)) (lower-whole set clear rec left c w e) (own-whole set clear left c w e) in
@@ -121,18 +119,21 @@ module _ (set clear x : ℕ) where
   unfolding tableNumbers
   table-few zero low q m t area some =
       gathered-few 0 q m (ownNumbers set clear 0) t (λ c p u piece. page-few c u (piece-some piece))
-      (chunks-tile 3 (m .region .start .0) (m .region .end .0)) 0 (m .frame .0) (pieces 0 q m low (m .frame .0) (m .region) (record { inside = area .inside; room = area .room })) some
+      (chunks-tile 3 (m .region .start .0) (m .region .end .0)) 0 (m .frame .0)
+      (pieces 0 q m low (m .frame .0) (m .region) (record { inside = area .inside; room = area .room })) some
   table-few (suc left) low q m t area some =
       let cs : List MemoryRegion = chunks (3 - suc left) (m .region .start .0) (m .region .end .0) in
       let lower : MemoryRegion → Tree → List ℕ = lowerNumbers set clear (λ d v. tableNumbers set clear left d v) left in
       let own : MemoryRegion → Tree → List ℕ = ownNumbers set clear (suc left) in
       let few = gathered-few (suc left) q m (λ c u. lower c u ++ own c u) t
       (λ c p u piece. entry-few left (child q (slotAt (suc left) c)) p m c (table-few left (omega arith)) piece u)
-      (chunks-tile (3 - suc left) (m .region .start .0) (m .region .end .0)) 0 (m .frame .0) (pieces (suc left) q m low (m .frame .0) (m .region) (record { inside = area .inside; room = area .room })) some in
+      (chunks-tile (3 - suc left) (m .region .start .0) (m .region .end .0)) 0 (m .frame .0)
+      (pieces (suc left) q m low (m .frame .0) (m .region) (record { inside = area .inside; room = area .room })) some in
       omega (arith, occurs-both x (suc left) lower own cs t, occurs-append x (gathered (suc left) lower cs t) (gathered (suc left) own cs t))
 
   -- EACH NUMBER ONCE
-  pub numbers-once : (left q : ℕ) (m : Map) (t : Tree) → left ≤ 3 → Area left q m → m .region .start .0 ≤ m .region .end .0 → occurs x (tableNumbers set clear left (m .region) t) ≤ 1
+  pub numbers-once : (left q : ℕ) (m : Map) (t : Tree) → left ≤ 3 → Area left q m → m .region .start .0 ≤ m .region .end .0
+      → occurs x (tableNumbers set clear left (m .region) t) ≤ 1
   numbers-once left q m t low area some =
       let few = table-few left low q m t area some in
       let room = area .room in

@@ -9,18 +9,16 @@ use native.Mathlib.Omega.{arith}
 use lib.Dec.{eqb}
 use borrow.Author.Tests.{eq-eqb, ne-eqb}
 use Rattle.laws.specs.Test.{byBool, eq-or}
-use Rattle.region.specs.Region.{entryIndex}
+use Rattle.entry.specs.Word.{valid, edited}
+use Rattle.region.specs.Region.{entryIndex, whole}
 use Rattle.region.specs.Chunks.{chunks}
 use Rattle.region.specs.declared.MemoryRegion.{MemoryRegion}
 use Rattle.rules.specs.declared.Map.{Map}
 use Rattle.forest.specs.Tree.{Tree, leaf, node, node-ext}
-use Rattle.tree.specs.Word.{valid}
-use Rattle.tree.specs.Visit.{down, fillTree, opened, splits, obey, counted}
+use Rattle.tree.specs.Visit.{fillTree, opened, splits, obey, counted}
 use Rattle.tree.specs.Slots.{fillSlot, fill-node}
 use Rattle.tree.specs.Chunks.{atSlot, sweep, chunked, chunkedTable, index-slot}
 use Rattle.tree.specs.Needed.{needed, neededTable}
-use Rattle.tree.specs.Document.{wholeEntry}
-use Rattle.tree.specs.Edit.{edited}
 use Rattle.tree.specs.Modify.{editRule}
 use Rattle.tree.specs.DocumentModify.{documentModify}
 use Rattle.mapped.specs.Pieces.{slotAt, Pieces}
@@ -38,7 +36,8 @@ at-other i j f g (leaf w) other = refl
 at-other i j f g (node u) other = node-ext (λ x. go x (eq-or x i))
   where
     go : (x : ℕ) → (x ≡ i) ⊎ (x ≢ i)
-        → cond (eqb x i) (g (cond (eqb x j) (f (u x)) (u x))) (cond (eqb x j) (f (u x)) (u x)) ≡ cond (eqb x j) (f (cond (eqb x i) (g (u x)) (u x))) (cond (eqb x i) (g (u x)) (u x))
+        → cond (eqb x i) (g (cond (eqb x j) (f (u x)) (u x))) (cond (eqb x j) (f (u x)) (u x))
+        ≡ cond (eqb x j) (f (cond (eqb x i) (g (u x)) (u x))) (cond (eqb x i) (g (u x)) (u x))
     go x (inl e) = rw (eq-eqb x i e, ne-eqb x j (λ q. other (sym e ∙ q)))
     go x (inr n) = rw (ne-eqb x i n)
 
@@ -77,16 +76,16 @@ module _ (set clear : ℕ) where
 
   -- a chunk goes down unless it is a whole entry that is no table
   unfoldable pub downTo : ℕ → MemoryRegion → ℕ → Tree → Tree
-  downTo left c p (leaf w) = cond (wholeEntry (3 - suc left) c) (leaf w) (chunkedTable (documentModify set clear) left c p (fillTree left w))
+  downTo left c p (leaf w) = cond (whole (3 - suc left) c) (leaf w) (chunkedTable (documentModify set clear) left c p (fillTree left w))
   downTo left c p (node f) = chunkedTable (documentModify set clear) left c p (node f)
 
   module _ (left : ℕ) (c : MemoryRegion) (p : ℕ) where
-    pub down-whole : (w : ℕ) → wholeEntry (3 - suc left) c ≡ true → downTo left c p (leaf w) ≡ leaf w
+    pub down-whole : (w : ℕ) → whole (3 - suc left) c ≡ true → downTo left c p (leaf w) ≡ leaf w
     unfolding downTo
     down-whole w e = rw e
 
     -- what goes down, with the tables that it takes
-    pub down-part : (w : ℕ) → wholeEntry (3 - suc left) c ≡ false
+    pub down-part : (w : ℕ) → whole (3 - suc left) c ≡ false
         → downTo left c p (leaf w) ≡ chunkedTable (documentModify set clear) left c p (opened left (leaf w))
     unfolding downTo opened
     down-part w e = rw e
@@ -95,7 +94,7 @@ module _ (set clear : ℕ) where
     unfolding downTo opened
     down-into f = refl
 
-    pub takes-part : (w : ℕ) → wholeEntry (3 - suc left) c ≡ false
+    pub takes-part : (w : ℕ) → whole (3 - suc left) c ≡ false
         → needed (documentModify set clear) (suc left) c p (leaf w) ≡ splits (leaf w) + neededTable (documentModify set clear) left c p (opened left (leaf w))
     unfolding needed neededTable documentModify counted
     takes-part w e = rw e
@@ -146,7 +145,7 @@ module _ (set clear : ℕ) where
 
   passes : (left : ℕ) (c : MemoryRegion) (p : ℕ) (t : Tree) → ownTo (downTo left c p t) ≡ chunked (documentModify set clear) (suc left) c p t
   unfolding downTo chunked chunkedTable documentModify opened obey
-  passes left c p (leaf w) = byBool (wholeEntry (3 - suc left) c)
+  passes left c p (leaf w) = byBool (whole (3 - suc left) c)
       (λ e. rw e (own-leaf w ∙ edit-stops w (leaf w) (leaf w) _))
       (λ e. rw e (ap ownTo (ap (chunkedTable (documentModify set clear) left c p) (fill-node left w)) ∙ own-table left c p (fillSlot left w)
       ∙ sym (ap (chunkedTable (documentModify set clear) left c p) (fill-node left w))))
@@ -162,7 +161,8 @@ module _ (set clear : ℕ) where
     pages-pass = ap (λ (f : MemoryRegion → ℕ → Tree → Tree). sweep 0 f (parts 0) p t) (λ i d x u. passes-page d x u i)
 
     pub two-passes : (left q : ℕ) (m : Map) → suc left ≤ 3 → Pieces (suc left) q m 0 p (parts (suc left))
-        → sweep (suc left) (λ d x u. ownTo u) (parts (suc left)) p (sweep (suc left) (downTo left) (parts (suc left)) p t) ≡ chunkedTable (documentModify set clear) (suc left) c p t
+        → sweep (suc left) (λ d x u. ownTo u) (parts (suc left)) p (sweep (suc left) (downTo left) (parts (suc left)) p t)
+        ≡ chunkedTable (documentModify set clear) (suc left) c p t
     unfolding chunkedTable
     two-passes left q m low all =
         sweep-twice (suc left) q m low (downTo left) (λ d x u. ownTo u) (parts (suc left)) 0 p t all

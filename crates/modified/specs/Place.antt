@@ -1,5 +1,6 @@
 -- Addresses of the call's region, in pages of the root's tree. Assumes nothing.
 use Prim.Native.Nat.{ℕ, suc, _/_}
+use Rattle.region.specs.Region.{rounded}
 use Rattle.pool.specs.State.{St}
 use Rattle.pool.specs.declared.Handle.{Handle}
 use Rattle.modify.specs.Ask.{asked}
@@ -13,11 +14,11 @@ use Rattle.modified.specs.Call.{area}
 module _ {h : Handle} {c : Call} {s : St} (passed : Passed h c s) (va : ℕ) where
   pub region-page : InRegion c va → OfRegion (pagesOf c .from) (pagesOf c .upto) (va / 4096)
   unfolding asked
-  region-page at = in-page (area passed .inside) va (at .from) (at .below)
+  region-page at = in-page (rounded (c .start) (c .end)) (area passed .inside) va at
 
   pub page-region : OfRegion (pagesOf c .from) (pagesOf c .upto) (va / 4096) → InRegion c va
   unfolding asked
-  page-region of = let p = page-in (area passed .inside) va of in record { from = p .0; below = p .1 }
+  page-region of = page-in (rounded (c .start) (c .end)) (area passed .inside) va of
 
   pub region-spans : InRegion c va → In (suc (leftOf h)) (rootIn h) (va / 4096)
   region-spans at = page-spans (leftOf h) (rootIn h) (area passed .inside) (region-page at)

@@ -7,14 +7,14 @@ use mathlib.Core.Logic.{_⊎_, inl, inr, _≢_}
 use Prim.Native.Nat.{ℕ, zero, suc, _+_, _-_, _≤_, _<_}
 use native.Mathlib.Omega.{arith}
 use Rattle.laws.specs.Test.{byBool, eq-or}
-use Rattle.region.specs.Region.{entryIndex}
+use Rattle.entry.specs.Word.{valid, edited}
+use Rattle.region.specs.Region.{entryIndex, whole}
 use Rattle.region.specs.Chunks.{chunks}
 use Rattle.region.specs.declared.MemoryRegion.{MemoryRegion}
 use Rattle.pool.specs.State.{St, st, wordAt}
 use Rattle.pool.specs.Number.{free}
 use Rattle.pool.specs.declared.Handle.{Handle}
 use Rattle.rules.specs.declared.Map.{Map}
-use Rattle.split.specs.Split.{below}
 use Rattle.need.specs.Needed.{slot-below}
 use Rattle.edit.specs.declared.Edit.{Edit}
 use Rattle.edit.specs.Word.{editWord}
@@ -28,14 +28,11 @@ use Rattle.sound.specs.Clauses.{levelAt}
 use Rattle.sound.specs.Codec.{Placed, codecOf, view, word-in, treeFrom}
 use Rattle.sound.specs.Step.{Stands}
 use Rattle.tree.specs.Page.{child}
-use Rattle.tree.specs.Word.{valid}
 use Rattle.tree.specs.Visit.{opened, splits}
 use Rattle.tree.specs.Fine.{Fine}
-use Rattle.tree.specs.Edit.{edited}
 use Rattle.tree.specs.Shown.{FineTree}
 use Rattle.tree.specs.Chunks.{sweep, chunkedTable}
 use Rattle.tree.specs.Needed.{tallied, needed, neededTable}
-use Rattle.tree.specs.Document.{wholeEntry}
 use Rattle.tree.specs.DocumentModify.{documentModify}
 use Rattle.mapped.specs.Leaf.{slot-fine, leaf-from}
 use Rattle.mapped.specs.Stand.{Piece}
@@ -214,7 +211,7 @@ module _ {h : Handle} (placed : Placed h) where
         (subst₂ (λ (v : Tree) (n : ℕ). Slotted placed (x .state) (modifyRange left h (O .table) (chunkEdit e c) w .state) (suc left) k j v n) (sym tree) (sym all) (O .back W′))
 
     pub down-works : count u ≤ free (x .state .ledger) → Down
-    unfolding wholeEntry
+    unfolding whole
     down-works room = go (holds placed R j slot)
       where
         set : ℕ
@@ -225,9 +222,10 @@ module _ {h : Handle} (placed : Placed h) where
 
         go : Holds placed (x .state) left k j → Down
         go (holds-table a r both leads shows) =
-            by-down room (sym (own-table level c y both)) (ap (downTo set clear left c p) shows ∙ down-into set clear left c p _ ∙ sym (ap (λ (v : Tree). editTable (chunkEdit e c) left p (opened left v)) shows))
+            by-down room (sym (own-table level c y both))
+            (ap (downTo set clear left c p) shows ∙ down-into set clear left c p _ ∙ sym (ap (λ (v : Tree). editTable (chunkEdit e c) left p (opened left v)) shows))
             (ap count shows ∙ takes-into set clear left c p _ ∙ sym (ap (λ (v : Tree). splits v + editTakes (chunkEdit e c) left p (opened left v)) shows))
-        go (holds-leaf old other shows) = byBool (wholeEntry level c)
+        go (holds-leaf old other shows) = byBool (whole level c)
             (λ all. subst₂ (λ (z : Work) (v : Tree). Slotted placed (x .state) (z .state) (suc left) k j v (count u))
             (step-own h level k e c x refl (sym (own-leaf level c y other) ∙ all)) (shows ∙ sym (ap (downTo set clear left c p) shows ∙ down-whole set clear left c p y all))
             (kept placed R j (count u)))
@@ -248,7 +246,8 @@ module _ {h : Handle} (placed : Placed h) where
       let cs : List MemoryRegion = chunks (3 - suc left) (e .region .start .0) (e .region .end .0) in
       let W = loop placed (λ (x : Work). x .state) (λ c x y. stepAt (3 - suc left) h k e c y) (downTo (e .set) (e .clear) left)
       (λ c x v. needed (documentModify (e .set) (e .clear)) (suc left) c x v) (suc left) q k (areaOf e p) low
-      (λ c x y piece ready enough. down-works left (child q (slotAt (suc left) c)) k e bits edits c x y (record { inside = piece .inside; some = piece .some; room = piece .room }) ready enough)
+      (λ c x y piece ready enough. down-works left (child q (slotAt (suc left) c)) k e bits edits c x y
+      (record { inside = piece .inside; some = piece .some; room = piece .room }) ready enough)
       cs 0 p w (pieces (suc left) q (areaOf e p) low p (e .region) area) R room in
       subst (λ (x : Work). Worked placed (w .state) (x .state) (suc left) k (sweep (suc left) (downTo (e .set) (e .clear) left) cs p t) (editTakes e (suc left) p t))
       (through-chunks (3 - suc left) (stepAt (3 - suc left) h k e) (e .region) p w) W
@@ -258,7 +257,8 @@ module _ {h : Handle} (placed : Placed h) where
   edits-pages q k p e w bits area R room =
       let t : Tree = treeFrom h (w .state) 0 k in
       let W = own-pass 0 q k p e w (omega arith) bits area R in
-      let W′ = subst₂ (λ (x : Work) (v : Tree). Worked placed (w .state) (x .state) 0 k v 0) (modify-pages 3 h k e w (omega arith) (omega arith)) (pages-pass (e .set) (e .clear) (e .region) p t) W in
+      let W′ = subst₂ (λ (x : Work) (v : Tree). Worked placed (w .state) (x .state) 0 k v 0) (modify-pages 3 h k e w (omega arith) (omega arith))
+      (pages-pass (e .set) (e .clear) (e .region) p t) W in
       record { work = W′ .work; same-tables = W′ .same-tables; same-words = W′ .same-words; spare = omega (arith, W′ .spare) }
 
   edits-up : (left : ℕ) → suc left ≤ 3 → Edits left → Edits (suc left)

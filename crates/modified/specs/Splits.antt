@@ -6,17 +6,16 @@ use Prim.Native.Nat.{ℕ, zero, suc, _+_, _-_, _≤_, _<_}
 use native.Mathlib.Omega.{arith}
 use lib.Dec.{eqb}
 use Rattle.laws.specs.Test.{byBool}
-use Rattle.entry.specs.Word.{kindOf}
+use Rattle.entry.specs.Word.{kindOf, valid}
 use Rattle.entry.specs.Sub.{subOf, sub-leaf}
 use Rattle.entry.specs.declared.Kind.{Kind}
 use Rattle.entry.specs.declared.Kind.the-variants.{Table as table, Block, Page, Hole}
 use Rattle.entry.specs.declared.Sub.the-variants.{Table, Leaf}
-use Rattle.region.specs.Region.{entryIndex}
+use Rattle.region.specs.Region.{entryIndex, whole}
 use Rattle.region.specs.Chunks.{chunks}
 use Rattle.region.specs.declared.MemoryRegion.{MemoryRegion}
 use Rattle.pool.specs.State.{St, tables, wordAt}
 use Rattle.pool.specs.declared.Handle.{Handle}
-use Rattle.rules.specs.Rules.{whole}
 use Rattle.need.specs.Needed.{slot-below}
 use Rattle.edit.specs.declared.Edit.{Edit}
 use Rattle.edit.specs.Word.{editWord}
@@ -27,10 +26,9 @@ use Rattle.survey.specs.House.{mayChange}
 use Rattle.survey.specs.Find.{adding, splitsIn, breach, ifBlock, surveyPart, surveyWhole, surveyEntry, surveySub, surveyChunk, surveyRange, entry-whole, entry-part}
 use Rattle.forest.specs.Tree.{Tree, leaf, node, treeAt-node}
 use Rattle.sound.specs.Codec.{Placed, childOf, slotWord, treeFrom}
-use Rattle.tree.specs.Word.{valid, fillWord}
+use Rattle.tree.specs.Word.{fillWord}
 use Rattle.tree.specs.Visit.{opened, splits, counted, fillTree}
 use Rattle.tree.specs.Needed.{slotIn, tallied, needed, neededTable}
-use Rattle.tree.specs.Document.{wholeEntry}
 use Rattle.tree.specs.Modify.{editRule}
 use Rattle.tree.specs.DocumentModify.{documentModify}
 use Rattle.mapped.specs.Moves.{slotShows, Ready, entered-ready}
@@ -62,29 +60,24 @@ chunks-tally m f left count t each r p x = fold-tally m f left count t each (chu
 
 -- ---- an entry that is no table
 
--- the same test by either name
-pub whole-is : (level : ℕ) (c : MemoryRegion) → whole level c ≡ wholeEntry level c
-unfolding whole wholeEntry
-whole-is level c = refl
-
 module _ (set clear : ℕ) where
   edit-takes : (w n : ℕ) → counted (editRule set clear w) 0 n ≡ 0
   unfolding editRule counted
   edit-takes w n = byBool (valid w) (λ e. rw e) (λ e. rw e)
 
-  takes-whole : (left : ℕ) (c : MemoryRegion) (p w : ℕ) → wholeEntry (3 - suc left) c ≡ true → needed (documentModify set clear) (suc left) c p (leaf w) ≡ 0
+  takes-whole : (left : ℕ) (c : MemoryRegion) (p w : ℕ) → whole (3 - suc left) c ≡ true → needed (documentModify set clear) (suc left) c p (leaf w) ≡ 0
   unfolding needed documentModify
   takes-whole left c p w e = rw e (edit-takes w _)
 
-  splits-open : (left : ℕ) (c : MemoryRegion) → wholeEntry (3 - suc left) c ≡ false → splitsIn (suc left) c ≡ eachChunk (3 - left) (adding (splitsIn left)) c 1
+  splits-open : (left : ℕ) (c : MemoryRegion) → whole (3 - suc left) c ≡ false → splitsIn (suc left) c ≡ eachChunk (3 - left) (adding (splitsIn left)) c 1
   unfolding splitsIn
-  splits-open left c e = rw (whole-is (3 - suc left) c ∙ e)
+  splits-open left c e = rw e
 
-  splits-none : (left : ℕ) (c : MemoryRegion) → wholeEntry (3 - suc left) c ≡ true → splitsIn (suc left) c ≡ 0
+  splits-none : (left : ℕ) (c : MemoryRegion) → whole (3 - suc left) c ≡ true → splitsIn (suc left) c ≡ 0
   unfolding splitsIn
-  splits-none left c e = rw (whole-is (3 - suc left) c ∙ e)
+  splits-none left c e = rw e
 
-  takes-fill : (left : ℕ) (c : MemoryRegion) (p w : ℕ) → wholeEntry (3 - suc left) c ≡ false
+  takes-fill : (left : ℕ) (c : MemoryRegion) (p w : ℕ) → whole (3 - suc left) c ≡ false
       → needed (documentModify set clear) (suc left) c p (leaf w) ≡ 1 + neededTable (documentModify set clear) left c p (fillTree left w)
   unfolding splits opened
   takes-fill left c p w e = takes-part set clear left c p w e
@@ -92,7 +85,7 @@ module _ (set clear : ℕ) where
   pub leaf-takes : (left : ℕ) (c : MemoryRegion) (p w : ℕ) → left ≤ 3 → splitsIn left c ≡ needed (documentModify set clear) left c p (leaf w)
   unfolding splitsIn needed neededTable adding
   leaf-takes zero c p w low = refl
-  leaf-takes (suc left) c p w low = byBool (wholeEntry (3 - suc left) c)
+  leaf-takes (suc left) c p w low = byBool (whole (3 - suc left) c)
       (λ e. splits-none left c e ∙ sym (takes-whole left c p w e))
       (λ e. splits-open left c e
       ∙ chunks-tally (λ (n : ℕ). n) (adding (splitsIn left)) left (λ d y u. needed (documentModify set clear) left d y u) (fillTree left w)
@@ -106,7 +99,8 @@ pub takes-enter : (set clear left : ℕ) (c : MemoryRegion) (p : ℕ) (f : ℕ �
     → needed (documentModify set clear) (suc left) c p (node f) ≡ neededTable (documentModify set clear) left c p (node f)
 unfolding splits opened
 takes-enter set clear left c p f =
-    let e : needed (documentModify set clear) (suc left) c p (node f) ≡ 0 + neededTable (documentModify set clear) left c p (node f) = takes-into set clear left c p f in omega arith
+    let e : needed (documentModify set clear) (suc left) c p (node f) ≡ 0 + neededTable (documentModify set clear) left c p (node f) =
+    takes-into set clear left c p f in omega arith
 
 -- ---- what a survey of an entry adds
 
@@ -139,14 +133,16 @@ page-takes set clear c p t = refl
 entry-is-whole : (h : Handle) (level : ℕ) (e : Edit) (w : ℕ) (v : Survey) → whole level (e .region) ≡ true → surveyEntry h level e w v .splits ≡ surveyWhole h level e w v .splits
 entry-is-whole h level e w v q = ap (λ (x : Survey). x .splits) (sym (entry-whole h level e w v q))
 
-entry-is-part : (h : Handle) (level : ℕ) (e : Edit) (w : ℕ) (v : Survey) → whole level (e .region) ≡ false → surveyEntry h level e w v .splits ≡ surveyPart level (e .region) w v .splits
+entry-is-part : (h : Handle) (level : ℕ) (e : Edit) (w : ℕ) (v : Survey) → whole level (e .region) ≡ false
+    → surveyEntry h level e w v .splits ≡ surveyPart level (e .region) w v .splits
 entry-is-part h level e w v q = ap (λ (x : Survey). x .splits) (sym (entry-part h level e w v q))
 
 entry-splits : (h : Handle) (left : ℕ) (e : Edit) (c : MemoryRegion) (p w : ℕ) (v : Survey) → left ≤ 3
     → surveyEntry h (3 - left) (chunkEdit e c) w v .splits ≡ v .splits + needed (documentModify (e .set) (e .clear)) left c p (leaf w)
 entry-splits h left e c p w v low = go left low
   where
-    part : (left : ℕ) → left ≤ 3 → whole (3 - left) c ≡ false → surveyEntry h (3 - left) (chunkEdit e c) w v .splits ≡ v .splits + needed (documentModify (e .set) (e .clear)) left c p (leaf w)
+    part : (left : ℕ) → left ≤ 3 → whole (3 - left) c ≡ false
+        → surveyEntry h (3 - left) (chunkEdit e c) w v .splits ≡ v .splits + needed (documentModify (e .set) (e .clear)) left c p (leaf w)
     part left low q =
         let same : 3 - (3 - left) ≡ left = omega arith in
         entry-is-part h (3 - left) (chunkEdit e c) w v q ∙ part-splits (3 - left) c w v
@@ -154,7 +150,7 @@ entry-splits h left e c p w v low = go left low
 
     all : (left : ℕ) → left ≤ 3 → whole (3 - left) c ≡ true → needed (documentModify (e .set) (e .clear)) left c p (leaf w) ≡ 0
     all zero low q = page-takes (e .set) (e .clear) c p (leaf w)
-    all (suc left) low q = takes-whole (e .set) (e .clear) left c p w (sym (whole-is (3 - suc left) c) ∙ q)
+    all (suc left) low q = takes-whole (e .set) (e .clear) left c p w q
 
     go : (left : ℕ) → left ≤ 3 → surveyEntry h (3 - left) (chunkEdit e c) w v .splits ≡ v .splits + needed (documentModify (e .set) (e .clear)) left c p (leaf w)
     go left low = byBool (whole (3 - left) c)

@@ -1,16 +1,15 @@
 -- A valid entry that a modify covers as a whole stays at its level, with its word edited. On trees. Assumes nothing.
-use mathlib.Core.Path.{_≡_, refl, ap, _∙_}
+use mathlib.Core.Path.{_≡_, ap, _∙_}
 use mathlib.Core.Bool.{true, cond}
 use Prim.Native.Nat.{ℕ, zero, suc, _+_, _≤_, _<_}
 use native.Mathlib.Omega.{arith}
 use lib.Dec.{ltb}
 use borrow.Author.Tests.{le-leb, lt-ltb}
+use Rattle.entry.specs.Word.{valid, edited}
 use Rattle.forest.specs.Tree.{Tree, leaf, node, eachSlot}
 use Rattle.forest.specs.Walk.{Ends, walkTree}
 use Rattle.tree.specs.Page.{span, first, child, slotOf, slot-lt, In, in-from, in-rest, in-child}
-use Rattle.tree.specs.Word.{valid}
-use Rattle.tree.specs.Edit.{edited}
-use Rattle.tree.specs.Visit.{Rule, write, down, opened, visit, visitTable, visit-write, visit-down}
+use Rattle.tree.specs.Visit.{Rule, write, down, visit, visitTable, visit-write, visit-down, opens-node}
 use Rattle.tree.specs.Shown.{FineTree, FineTable}
 use Rattle.tree.specs.Rules.{Map, meets, whole, yes-meets}
 use Rattle.tree.specs.Modify.{Modify, pagesOf, editRule, modifyRule, modifyTree}
@@ -22,10 +21,6 @@ in-slot g u i l = rw (lt-ltb i 512 l)
 walk-each : (f : ℕ → ℕ) (left : ℕ) (g : ℕ → Tree → Tree) (u : ℕ → Tree) → f left < 512 → walkTree f (suc left) (eachSlot g (node u)) ≡ walkTree f left (g (f left) (u (f left)))
 unfolding eachSlot walkTree
 walk-each f left g u l = ap (walkTree f left) (in-slot g u (f left) l)
-
-opens-node : (left : ℕ) (f : ℕ → Tree) → opened left (node f) ≡ node f
-unfolding opened
-opens-node left f = refl
 
 module _ (set clear : ℕ) (m : Map) (y : ℕ) (from : m .from ≤ y) (below : y < m .upto) where
   abbrev rule : ℕ → ℕ → Tree → Rule
@@ -62,7 +57,8 @@ module _ (set clear : ℕ) (m : Map) (y : ℕ) (from : m .from ≤ y) (below : y
       → walkTree (slotOf y) left (visit rule left q t) ≡ after x
   unfolding walkTree
   visit-stays zero q (leaf w) fine at v W = ap (walkTree (slotOf y) zero) (visit-write rule zero q (leaf w) (edited set clear w) (rule-leaf zero q w at v W))
-  visit-stays (suc left) q (leaf w) fine at v W = ap (walkTree (slotOf y) (suc left)) (visit-write rule (suc left) q (leaf w) (edited set clear w) (rule-leaf (suc left) q w at v W))
+  visit-stays (suc left) q (leaf w) fine at v W =
+      ap (walkTree (slotOf y) (suc left)) (visit-write rule (suc left) q (leaf w) (edited set clear w) (rule-leaf (suc left) q w at v W))
   visit-stays zero q (node f) fine at v W = absurd fine
   visit-stays (suc left) q (node f) fine at v W =
       ap (walkTree (slotOf y) (suc left)) (visit-down rule left q (node f) (rule-node left q f at) ∙ ap (visitTable rule left q) (opens-node left f))

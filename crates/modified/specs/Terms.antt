@@ -1,24 +1,22 @@
 -- The words in which document 01's Modify is said of the call: the call and its answer, its region, the flags after it, the tree after it and the tables that it
 -- makes. Definitions alone; the walk and the root's span are those of `mapped`. Assumes nothing.
 use mathlib.Core.Path.{_≡_}
-use mathlib.Core.Bool.{Bool, true, false, cond}
+use mathlib.Core.Bool.{Bool, cond}
 use mathlib.Core.List.{List}
-use Prim.Native.Nat.{ℕ, _-_, _^_, _≤_, _<_}
-use lib.Bits.{bitAnd, bitOr}
+use Prim.Native.Nat.{ℕ}
+use Rattle.entry.specs.Word.{edited}
 use Rattle.region.specs.Region.{rounded}
-use lib.ListN.{length}
+use Rattle.region.specs.Chunks.{Holds}
 use Rattle.pool.specs.State.{St}
-use Rattle.pool.specs.Number.{free}
 use Rattle.pool.specs.Refuse.{Shaped}
 use Rattle.pool.specs.declared.Handle.{Handle}
 use Rattle.pool.specs.declared.Outcome.the-variants.{Accepted}
 use Rattle.edit.specs.declared.Edit.{Edit}
 use Rattle.survey.specs.declared.Survey.{Survey}
-use Rattle.survey.specs.Find.{surveyRange}
 use Rattle.modify.specs.declared.Modified.{Modified}
 use Rattle.modify.specs.declared.Modified.the-variants.{Tables, Live}
 use Rattle.modify.specs.Ask.{asked, verifyEdit}
-use Rattle.modify.specs.Call.{Modifying, modifying, modifyCall}
+use Rattle.modify.specs.Call.{Modifying, modifying, modifyCall, surveyOf}
 use Rattle.forest.specs.Tree.{Tree}
 use Rattle.sound.specs.Clauses.{SoundPool}
 use Rattle.sound.specs.Codec.{rootTree}
@@ -61,16 +59,15 @@ pub record Passed (h : Handle) (c : Call) (s : St) : Type 0 where
 
 -- what the call finds before anything is written
 abbrev pub surveyed : Handle → Call → St → Survey
-surveyed h c s = surveyRange (leftOf h) h s 0 (askedOf c) (record { splits = 0; numbers = 0; broken = false; word = 0 })
+surveyed h c s = surveyOf h (askedOf c) s
 
 -- the address lies in the call's region: "start is rounded down and end up to 4096"
-pub record InRegion (c : Call) (va : ℕ) : Type 0 where
-  pub from : rounded (c .start) (c .end) .start .0 ≤ va
-  pub below : va < rounded (c .start) (c .end) .end .0
+abbrev pub InRegion : Call → ℕ → Type 0
+InRegion c va = Holds (rounded (c .start) (c .end)) va
 
 -- the flags f after the edit: "bits to set and to clear"
-unfoldable pub flagsAfter : Call → ℕ → ℕ
-flagsAfter c f = bitAnd (bitOr f (c .set)) (2 ^ 64 - 1 - c .clear)
+abbrev pub flagsAfter : Call → ℕ → ℕ
+flagsAfter c f = edited (c .set) (c .clear) f
 
 -- ---- the root's tree
 
@@ -88,9 +85,3 @@ madeBy h c s = modifyMade (leftOf h) (rootIn h) (pagesOf c) (rootTree h s)
 -- the numbers of the entries whose words change: "a lower table's numbers when that table is finished, a table's own last, ascending"
 abbrev pub numbersOf : Handle → Call → St → List ℕ
 numbersOf h c s = let e = askedOf c in tableNumbers (e .set) (e .clear) (leftOf h) (e .region) (rootTree h s)
-
--- refusals 9 to 11 are not given
-pub record Fits (h : Handle) (c : Call) (s : St) (list : List ℕ) : Type 0 where
-  pub room : madeBy h c s ≤ free (s .ledger)
-  pub kept : c .live ≡ true → surveyed h c s .broken ≡ false
-  pub enough : c .live ≡ true → surveyed h c s .numbers ≤ length list

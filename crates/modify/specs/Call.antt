@@ -44,10 +44,10 @@ unfoldable pub editTables : Handle → Edit → St → List ℕ → Modifying
 editTables h e s list = let w = modifyRange (3 - h .level) h 0 e (work s list 0) in modifying (answerOf (e .live) w) (w .state) (w .list)
 
 -- what an edit of the root's tables would do
-unfoldable pub nothing : Survey
+abbrev pub nothing : Survey
 nothing = record { splits = 0; numbers = 0; broken = false; word = 0 }
 
-unfoldable pub surveyOf : Handle → Edit → St → Survey
+abbrev pub surveyOf : Handle → Edit → St → Survey
 surveyOf h e s = surveyRange (3 - h .level) h s 0 e nothing
 
 unfoldable pub orElse : Outcome → Modifying → St → List ℕ → Modifying
@@ -87,10 +87,8 @@ module _ (h : Handle) (e : Edit) (s : St) (list : List ℕ) where
   unfolding modifySound
   sound-not q = rw q
 
-  module _ (sound : soundb h s ≡ true) {room : ℕ} (left : room ≡ free (s .ledger)) {v : Survey} (found : v ≡ surveyRange (3 - h .level) h s 0 e (record { splits = 0; numbers = 0; broken = false; word = 0 }))
-      {x : Outcome} (is : x ≡ verifySurvey room (length list) (e .live) v) where
+  module _ (sound : soundb h s ≡ true) {room : ℕ} (left : room ≡ free (s .ledger)) {v : Survey} (found : v ≡ surveyOf h e s) {x : Outcome} (is : x ≡ verifySurvey room (length list) (e .live) v) where
     surveyed : x ≡ verifySurvey (free (s .ledger)) (length list) (e .live) (surveyOf h e s)
-    unfolding surveyOf nothing
     surveyed = is ∙ rw (left, found)
 
     by-survey : (y : Outcome) → x ≡ y → orElse y (editTables h e s list) s list ≡ modifySound h e s list

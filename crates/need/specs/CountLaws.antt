@@ -32,10 +32,6 @@ use Rattle.need.specs.Closed.{startOf, endOf, frameOf, lastPart, restAt,
 pub met-order : (level s e : ℕ) → s < e → s / sizeAt level ≤ (e - 1) / sizeAt level
 met-order level s e h = let d = div-add-mod' s (sizeAt level) in le-div-iff-mul-le (size-pos level) .1 (omega arith)
 
-pub met-is : (level s e : ℕ) → s < e → (e - 1) / sizeAt level - s / sizeAt level + 1 ≡ met level s e
-unfolding met
-met-is level s e h = rw (lt-ltb s e h)
-
 -- ---- count_at
 
 pub rest-all : (level : ℕ) (m : Map) → m .blocks ≡ false → met level (startOf m) (endOf m) ≡ restAt level m

@@ -8,7 +8,7 @@ use native.Mathlib.Omega.{arith}
 use lib.ListN.{getD}
 use Rattle.laws.specs.Size.{sizeAt, down}
 use Rattle.laws.specs.Test.{le-or}
-use Rattle.entry.specs.Word.{addressOf, flagsOf}
+use Rattle.entry.specs.Word.{addressOf, flagsOf, leafWord, flags-low}
 use Rattle.entry.specs.Sub.{subOf}
 use Rattle.entry.specs.declared.Sub.{Sub}
 use Rattle.entry.specs.declared.Sub.the-variants.{Table, Outside, Leaf}
@@ -21,7 +21,7 @@ use Rattle.pool.specs.declared.Handle.{Handle}
 use Rattle.rules.specs.declared.Map.{Map}
 use Rattle.rules.specs.declared.Rule.{Rule}
 use Rattle.rules.specs.declared.Rule.the-variants.{Write, Keep, Drop, Down}
-use Rattle.rules.specs.Rules.{leafWord, ruleOf, fillOf, chunkMap}
+use Rattle.rules.specs.Rules.{ruleOf, fillOf, chunkMap}
 use Rattle.rules.specs.Fit.{leaf-block}
 use Rattle.rules.specs.Laws.{fill-hole, fill-leaf}
 
@@ -141,11 +141,6 @@ child-part level w a e =
     let i = entryIndex (level + 1) a in
     ap (λ (t : List ℕ). getD t i 0) (sym (fill-leaf level w e))
     ∙ rising-at 512 (leafWord (level + 1) (down (addressOf w) (sizeAt level)) (flagsOf w)) (sizeAt (level + 1)) i (slot-below (level + 1) a)
-
--- the low bits are flags
-pub flags-low : (w : ℕ) → flagsOf w % 4 ≡ w % 4
-unfolding flagsOf
-flags-low w = omega arith
 
 -- above level 3 a part is a block
 pub child-block : (level w a : ℕ) → level + 1 < 3 → w % 2 ≡ 1

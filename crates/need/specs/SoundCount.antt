@@ -7,14 +7,14 @@ use native.Mathlib.Omega.{arith}
 use lib.Dec.{T, eqb, leb, ltb, eqb→eq, leb→le, ltb→lt, lt→ltb}
 use Rattle.laws.specs.Size.{sizeAt}
 use Rattle.laws.specs.Test.{and-l, and-r, and-i, or-e, cond-true, cond-false, eq→eqb, allBelow, all-to, allFrom, from-to}
-use Rattle.entry.specs.Word.{addressOf, linkOf, only}
+use Rattle.entry.specs.Word.{addressOf, linkOf, only, plainFlags}
 use Rattle.entry.specs.Sub.{subOf, sub-found}
 use Rattle.entry.specs.declared.Sub.{Sub}
 use Rattle.entry.specs.declared.Sub.the-variants.{Table, Outside, Leaf}
 use Rattle.pool.specs.State.{St, tables, wordAt, numberAt}
 use Rattle.pool.specs.Number.{rootNumber, levelOf, parentOf, slotOf}
 use Rattle.pool.specs.Refuse.{Shaped}
-use Rattle.pool.specs.Sound.{flagSet, plainFlags, fits, leafb, namesb, hangsb, tableb, linkb, refersb, slotb, soundb}
+use Rattle.pool.specs.Sound.{flagSet, fits, leafb, namesb, hangsb, tableb, linkb, refersb, slotb, soundb}
 use Rattle.pool.specs.declared.Handle.{Handle}
 use Rattle.rules.specs.declared.Map.{Map}
 use Rattle.entry.specs.Sub.{sub-some}

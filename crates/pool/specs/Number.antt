@@ -32,11 +32,11 @@ pub record Names (x : ℕ) : Type 0 where
   pub kind : 4 ≤ x % 8
   pub some : 1 ≤ x / 8
 
-module _ (level p i : ℕ) (low : level < 4) (slot : i < 512) where
-  pub level-back : levelOf (numberOf level p i) ≡ level
-  unfolding numberOf
-  level-back = omega arith
+pub level-back : (level p i : ℕ) → level < 4 → levelOf (numberOf level p i) ≡ level
+unfolding numberOf
+level-back level p i low = omega arith
 
+module _ (level p i : ℕ) (low : level < 4) (slot : i < 512) where
   pub parent-back : parentOf (numberOf level p i) ≡ p
   unfolding numberOf
   parent-back = omega arith

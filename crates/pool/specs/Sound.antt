@@ -1,23 +1,19 @@
 -- When a pool is sound (document 01, "Pool and ledger"), as a test that computes on the lists, clause by clause. Assumes nothing.
 use mathlib.Core.Bool.{Bool, true, false, not, cond, _&&_, _||_}
 use mathlib.Core.List.{List}
-use Prim.Native.Nat.{ℕ, zero, suc, _+_, _*_, _-_, _/_, _%_, _^_}
-use lib.Dec.{eqb, leb, ltb}
+use Prim.Native.Nat.{ℕ, zero, suc, _+_, _-_, _/_, _%_}
+use lib.Dec.{T, eqb, leb, leb→le, le→leb, ltb}
 use lib.ListN.{length, getD}
 use Rattle.laws.specs.Size.{sizeAt}
-use Rattle.laws.specs.Test.{allBelow, allFrom}
-use Rattle.entry.specs.Word.{addressOf, linkOf, only, el1Flags}
+use Rattle.laws.specs.Test.{and-l, and-r, and-i, allBelow, allFrom}
+use Rattle.entry.specs.Word.{addressOf, linkOf, only, el1Flags, plainFlags}
 use Rattle.pool.specs.State.{St, tables, wordAt, numberAt}
-use Rattle.pool.specs.Number.{rootNumber, levelOf, parentOf, slotOf}
+use Rattle.pool.specs.Number.{rootNumber, levelOf, parentOf, slotOf, Names}
 use Rattle.pool.specs.declared.Handle.{Handle}
 
 -- the flags that may stand in the tables of this handle
 unfoldable pub flagSet : Handle → ℕ
 flagSet h = el1Flags
-
--- flags without bit 1: bits 0, 2 to 11 and 48 to 63
-unfoldable pub plainFlags : ℕ → ℕ
-plainFlags w = w % 2 + w / 4 % 1024 * 4 + w / 2 ^ 48 * 2 ^ 48
 
 -- what a word that is no table must be at its level: at level 0 it isn't valid, bit 1 is clear and its address is 0; at levels 1 and 2 bit 1 is clear and
 -- the address is a multiple of the entry's size; at level 3 a valid word has bit 1
@@ -67,3 +63,13 @@ slotb h s k i w =
 -- the pool is sound
 unfoldable pub soundb : Handle → St → Bool
 soundb h s = allBelow (tables s) (tableb h s) && allFrom 0 (s .words) (λ x w. slotb h s (x / 512) (x % 512) w)
+
+-- the test of a number is what it says
+
+pub names-says : (x : ℕ) → T (namesb x) → Names x
+unfolding namesb
+names-says x t = record { kind = leb→le 4 (x % 8) (and-l (leb 4 (x % 8)) (leb 1 (x / 8)) t); some = leb→le 1 (x / 8) (and-r (leb 4 (x % 8)) (leb 1 (x / 8)) t) }
+
+pub says-names : (x : ℕ) → Names x → T (namesb x)
+unfolding namesb
+says-names x names = and-i (leb 4 (x % 8)) (leb 1 (x / 8)) (le→leb 4 (x % 8) (names .kind)) (le→leb 1 (x / 8) (names .some))

@@ -1,22 +1,22 @@
 -- The chunks of a region at a level, as a list: ascending, each in one entry, together the region and nothing else. Leans on `Region`.
 -- Assumes nothing.
-use mathlib.Core.Path.{_≡_, refl, sym, ap, _∙_}
-use mathlib.Core.Bool.{Bool, true, false, cond}
+use mathlib.Core.Path.{_≡_, refl, ap, _∙_}
+use mathlib.Core.Bool.{cond}
 use mathlib.Core.List.{List, [], _∷_}
-use mathlib.Core.Logic.{_⊎_, inl, inr, ⊎-elim}
+use mathlib.Core.Logic.{_⊎_, inl, inr}
 use Prim.Native.Nat.{ℕ, zero, suc, _+_, _*_, _-_, _/_, _%_, _≤_, _<_, min}
 use native.Mathlib.Nat.{div-eq-of-lt-le, mul-div-cancel, le-div-iff-mul-le, div-lt-iff-lt-mul, div-add-mod', mod-lt, mul-mod-left, add-mul, suc-mul, mul-le-mul-left, mul-le-mul-right}
 use native.Mathlib.Omega.{arith}
 use lib.Dec.{ltb}
 use lib.ListN.{length, getD}
-use borrow.Author.Tests.{lt-ltb, le-ltb, ltb-true, ltb-false}
+use borrow.Author.Tests.{lt-ltb, le-ltb}
 use Rattle.laws.specs.Size.{sizeAt, size-pos, down, down-rest, multiple-is, next-multiple}
-use Rattle.laws.specs.Test.{byBool, le-or}
+use Rattle.laws.specs.Test.{le-or}
 use Rattle.region.specs.declared.MemoryRegion.{MemoryRegion}
 use Rattle.region.specs.declared.ChunkedIterator.{ChunkedIterator}
 use Rattle.region.specs.declared.NextChunk.{NextChunk}
 use Rattle.region.specs.declared.NextChunk.the-variants.{Chunk, Done}
-use Rattle.region.specs.Region.{region, entryLast, chunkEnd, cutAt, nextChunk, next-done, next-cut}
+use Rattle.region.specs.Region.{region, entryLast, chunkEnd, nextChunk, next-done, next-cut}
 
 -- the entries of this level that the region meets
 unfoldable pub met : ℕ → ℕ → ℕ → ℕ
@@ -58,7 +58,7 @@ pub met-none : (level s e : ℕ) → e ≤ s → met level s e ≡ 0
 unfolding met
 met-none level s e h = rw (le-ltb s e h)
 
-met-some : (level s e : ℕ) → s < e → met level s e ≡ (e - 1) / sizeAt level - s / sizeAt level + 1
+pub met-some : (level s e : ℕ) → s < e → met level s e ≡ (e - 1) / sizeAt level - s / sizeAt level + 1
 unfolding met
 met-some level s e h = rw (lt-ltb s e h)
 

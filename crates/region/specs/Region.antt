@@ -1,8 +1,8 @@
 -- Regions and the next chunk, and a law for each way through the code. Assumes nothing.
-use mathlib.Core.Path.{_≡_, refl, sym, ap, _∙_}
-use mathlib.Core.Bool.{cond}
+use mathlib.Core.Path.{_≡_, ap}
+use mathlib.Core.Bool.{Bool, cond, _&&_}
 use Prim.Native.Nat.{ℕ, _+_, _-_, _/_, _%_, _≤_, _<_, min}
-use lib.Dec.{ltb}
+use lib.Dec.{eqb, ltb}
 use borrow.Author.Tests.{lt-ltb, le-ltb}
 use Rattle.laws.specs.Size.{sizeAt, down}
 use Rattle.address.specs.Address.{alignUp}
@@ -18,6 +18,10 @@ region s e = record { start = record { 0 = s }; end = record { 0 = e } }
 -- document 01, "Putting down a map": start is rounded down and end up to 4096
 unfoldable pub rounded : ℕ → ℕ → MemoryRegion
 rounded start end = region (down start 4096) (alignUp end 4096)
+
+-- the chunk is the whole entry
+unfoldable pub whole : ℕ → MemoryRegion → Bool
+whole level r = eqb (r .start .0 % sizeAt level) 0 && eqb (r .end .0 % sizeAt level) 0
 
 -- the last address of the entry that holds a
 unfoldable pub entryLast : ℕ → ℕ → ℕ

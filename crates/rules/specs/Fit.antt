@@ -2,23 +2,17 @@
 -- Assumes nothing.
 use mathlib.Core.Path.{_≡_, refl, ap, _∙_}
 use mathlib.Core.Bool.{Bool, true, false, cond}
-use Prim.Native.Nat.{ℕ, _+_, _*_, _-_, _/_, _%_, _^_, _≤_, _<_}
+use Prim.Native.Nat.{ℕ, _+_, _*_, _-_, _%_, _^_, _≤_, _<_}
 use native.Mathlib.Nat.{mul-mod-left}
 use native.Mathlib.Omega.{arith}
 use lib.Dec.{eqb, leb}
 use borrow.Author.Tests.{eq-eqb, ne-eqb, le-leb, lt-leb}
 use Rattle.laws.specs.Size.{sizeAt, size-pages, size-pos, down-paged}
-use Rattle.entry.specs.Word.{addressOf, flagsOf}
+use Rattle.entry.specs.Word.{addressOf, flagsOf, valid, leafWord, Plain}
 use Rattle.region.specs.Region.{region, entryLast, chunkEnd}
 use Rattle.region.specs.Chunks.{chunk-fits}
 use Rattle.rules.specs.declared.Map.{Map}
-use Rattle.rules.specs.Rules.{valid, leafWord, chunkMap}
-
--- flags without an address and without bit 1
-pub record Plain (f : ℕ) : Type 0 where
-  pub below : f < 2 ^ 64
-  pub alone : flagsOf f ≡ f
-  pub no-table : f / 2 % 2 ≡ 0
+use Rattle.rules.specs.Rules.{chunkMap}
 
 pub record Fit (m : Map) : Type 0 where
   pub from : m .region .start .0 % 4096 ≡ 0
@@ -31,25 +25,12 @@ pub record Fit (m : Map) : Type 0 where
 -- a frame and flags make a word: nothing carries
 pub word-fits : (frame f : ℕ) → frame % 4096 ≡ 0 → frame < 2 ^ 48 → Plain f → frame + f + 2 < 2 ^ 64
 unfolding flagsOf
-word-fits frame f p h q = omega (arith, q .below, q .alone, q .no-table)
+word-fits frame f p h q = omega (arith, q .wide, q .bits, q .clear)
 
 -- and so do the words of a split, in steps that stay below 2^48
 pub steps-fit : (frame f step : ℕ) → frame % 4096 ≡ 0 → frame + 512 * step ≤ 2 ^ 48 → 4096 ≤ step → Plain f → frame + f + 2 + 511 * step < 2 ^ 64
 unfolding flagsOf
-steps-fit frame f step p h l q = omega (arith, q .below, q .alone, q .no-table)
-
--- a low and a high part, read back
-parts : (low high : ℕ) → low < 4096 → high < 2 ^ 16 → low / 2 % 2 ≡ 0 → Plain (low + high * 2 ^ 48)
-unfolding flagsOf
-parts low high l h b =
-    let a : (low + high * 2 ^ 48) % 4096 ≡ low = omega arith in
-    let c : (low + high * 2 ^ 48) / 2 ^ 48 ≡ high = omega arith in
-    record { below = omega arith; alone = omega arith; no-table = omega arith }
-
--- the flags of a word that is no table
-pub flags-plain : (w : ℕ) → w < 2 ^ 64 → w % 2 ≡ 1 → (w % 4 ≡ 3 → ⊥) → Plain (flagsOf w)
-unfolding flagsOf
-flags-plain w h v n = let four : w % 4 ≡ 1 = omega arith in parts (w % 4096) (w / 2 ^ 48) (omega arith) (omega arith) (omega arith)
+steps-fit frame f step p h l q = omega (arith, q .wide, q .bits, q .clear)
 
 -- ---- the word that is written, by its three cases
 

@@ -8,12 +8,13 @@ use lib.Dec.{eqb}
 use borrow.Author.Tests.{eq-eqb, ne-eqb, le-leb, lt-leb}
 use Rattle.laws.specs.Size.{sizeAt, down}
 use Rattle.laws.specs.Test.{le-or}
-use Rattle.entry.specs.Word.{addressOf, flagsOf}
+use Rattle.entry.specs.Word.{addressOf, flagsOf, valid, leafWord}
+use Rattle.region.specs.Region.{whole}
 use Rattle.table.specs.Table.{rising}
 use Rattle.rules.specs.declared.Map.{Map}
 use Rattle.rules.specs.declared.Rule.{Rule}
 use Rattle.rules.specs.declared.Rule.the-variants.{Write, Keep, Drop, Down}
-use Rattle.rules.specs.Rules.{valid, tableWord, leafWord, whole, rule2, blockable, rule3, rule4, ruleOf, fillOf}
+use Rattle.rules.specs.Rules.{tableWord, rule2, blockable, rule3, rule4, ruleOf, fillOf}
 
 -- ---- rule 2
 

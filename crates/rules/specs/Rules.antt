@@ -4,28 +4,17 @@ use mathlib.Core.List.{List}
 use Prim.Native.Nat.{ℕ, _+_, _-_, _%_}
 use lib.Dec.{eqb, leb, ltb}
 use Rattle.laws.specs.Size.{sizeAt, down}
-use Rattle.entry.specs.Word.{addressOf, flagsOf}
+use Rattle.entry.specs.Word.{addressOf, flagsOf, valid, leafWord}
 use Rattle.region.specs.declared.MemoryRegion.{MemoryRegion}
+use Rattle.region.specs.Region.{whole}
 use Rattle.table.specs.Table.{rising}
 use Rattle.rules.specs.declared.Map.{Map}
 use Rattle.rules.specs.declared.Rule.{Rule}
 use Rattle.rules.specs.declared.Rule.the-variants.{Write, Keep, Drop, Down}
 
--- bit 0: VALID
-unfoldable pub valid : ℕ → Bool
-valid f = eqb (f % 2) 1
-
 -- both low bits set, which above level 3 is a table
 unfoldable pub tableWord : ℕ → Bool
 tableWord w = eqb (w % 4) 3
-
--- "a VALID map writes frame + flags + 2" at level 3, above it the block without bit 1; "otherwise the flags alone"
-unfoldable pub leafWord : ℕ → ℕ → ℕ → ℕ
-leafWord level frame flags = cond (valid flags) (cond (leb 3 level) (frame + flags + 2) (frame + flags)) flags
-
--- the chunk is the whole entry
-unfoldable pub whole : ℕ → MemoryRegion → Bool
-whole level r = eqb (r .start .0 % sizeAt level) 0 && eqb (r .end .0 % sizeAt level) 0
 
 -- rule 2: not a table, same flags, and frame at least the chunk's offset in the entry with difference equal to the entry's address
 unfoldable pub rule2 : ℕ → Map → ℕ → Bool

@@ -3,8 +3,9 @@ use address::PhysicalAddress;
 use region::MemoryRegion;
 ghost use mathlib.Core.Path.{_≡_};
 ghost use Prim.Native.Nat.{_%_, _^_, _<_};
-ghost use Rattle.rules.specs.Rules.{leafWord, rule2, blockable, ruleOf};
-ghost use Rattle.rules.specs.Fit.{Plain, Fit};
+ghost use Rattle.entry.specs.Word.{leafWord, Plain};
+ghost use Rattle.rules.specs.Rules.{rule2, blockable, ruleOf};
+ghost use Rattle.rules.specs.Fit.{Fit};
 
 // What to put down: the region, the frame of its first page, the flags, and whether blocks are allowed.
 pub struct Map {

@@ -17,9 +17,9 @@ use borrow.Author.Tests.{eq-eqb, ne-eqb, lt-ltb}
 use Rattle.laws.specs.Bit.{sub-or, sub-parts, and-assoc, and-swap, and-add, and-odd, or-none, or-assoc, or-aligned}
 use Rattle.laws.specs.Size.{sizeAt, down, down-rest, down-le, size-low}
 use Rattle.laws.specs.Test.{eqb-cases, same-test, and-l, and-r, and-i, eq→eqb}
-use Rattle.entry.specs.Word.{addressOf, only, el1Flags}
+use Rattle.entry.specs.Word.{addressOf, only, el1Flags, plainFlags, mask-plain}
 use Rattle.pool.specs.Number.{levelOf}
-use Rattle.pool.specs.Sound.{plainFlags, fits, leafb, refersb}
+use Rattle.pool.specs.Sound.{fits, leafb, refersb}
 use Rattle.scan.specs.Words.{passesb, passAll, linkCount, countAll, runOf, allowedAt, union, strays, leaves, links}
 use Rattle.scan.specs.declared.Run.the-variants.{Passed, Failed}
 
@@ -34,17 +34,6 @@ pub record PlainSet (set : ℕ) : Type 0 where
 pub el1-plain : PlainSet el1Flags
 unfolding el1Flags
 el1-plain = record { below = lit< tt; no-address = refl; no-table = refl }
-
--- flags without bit 1, by a mask
-pub mask-plain : (w : ℕ) → w < 2 ^ 64 → bitAnd w 0xFFFF_0000_0000_0FFD ≡ plainFlags w
-unfolding plainFlags
-mask-plain w h =
-    let all = and-add w (2 ^ 64 - 2 ^ 48 + (2 ^ 12 - 2 ^ 2)) 1 refl in
-    let two = and-add w (2 ^ 64 - 2 ^ 48) (2 ^ 12 - 2 ^ 2) refl in
-    let high = and-high w 16 48 ∙ ap (λ (x : ℕ). x * 2 ^ 48) (shr-mod {n = w} 16 48 h) in
-    let middle = and-high w 10 2 in
-    let low = and-mask w 1 in
-    omega arith
 
 -- addresses from the size on, by a mask
 mask-sizes : (w level : ℕ) → bitAnd w (2 ^ 48 - sizeAt level) ≡ down (addressOf w) (sizeAt level)

@@ -1,14 +1,13 @@
--- Counts off the ledger when a table is taken or freed, the count as a sum, and when a free table is found. Assumes nothing.
+-- Counts off the ledger when a table is taken, the count as a sum, and when a free table is found. Assumes nothing.
 use mathlib.Core.Path.{_≡_, refl, ap}
 use mathlib.Core.Bool.{cond}
 use mathlib.Core.List.{List, [], _∷_}
-use mathlib.Core.Logic.{_↔_}
 use Prim.Native.Nat.{ℕ, zero, suc, _<_}
 use native.Mathlib.Omega.{arith}
 use lib.Dec.{eqb, eqb·suc-zero}
 use lib.ListN.{length, getD, set, length-set}
 use Rattle.laws.specs.Sum.{sum, sum-shift}
-use Rattle.pool.specs.Number.{firstFrom, lowestFree, lowest-found, used, free, used-free}
+use Rattle.pool.specs.Number.{firstFrom, lowestFree, used, free, used-free}
 use Rattle.pool.specs.declared.Found.the-variants.{At}
 
 -- ---- a free table is entered
@@ -28,24 +27,6 @@ free-take l j x below none some =
     let b = used-free (set l j x) in
     let c = used-take l j x below none some in
     let d = length-set l j x in
-    omega arith
-
--- ---- a table is freed
-
-pub used-clear : (l : List ℕ) (j : ℕ) → 0 < getD l j 0 → suc (used (set l j 0)) ≡ used l
-unfolding used
-used-clear [] j some = absurd (omega arith)
-used-clear (zero ∷ l) zero some = absurd (omega arith)
-used-clear (suc y ∷ l) zero some = refl
-used-clear (zero ∷ l) (suc j) some = used-clear l j some
-used-clear (suc y ∷ l) (suc j) some = ap suc (used-clear l j some)
-
-pub free-clear : (l : List ℕ) (j : ℕ) → 0 < getD l j 0 → free (set l j 0) ≡ suc (free l)
-free-clear l j some =
-    let a = used-free l in
-    let b = used-free (set l j 0) in
-    let c = used-clear l j some in
-    let d = length-set l j 0 in
     omega arith
 
 -- ---- as a sum over the tables
@@ -68,19 +49,6 @@ first-some i [] some = absurd (omega arith)
 first-some i (zero ∷ l) some = (i, refl)
 first-some i (suc x ∷ l) some = first-some (suc i) l some
 
-some-free : (l : List ℕ) (j : ℕ) → j < length l → getD l j 0 ≡ 0 → 0 < free l
-unfolding free
-some-free [] j below none = absurd (omega arith)
-some-free (zero ∷ l) j below none = omega arith
-some-free (suc x ∷ l) zero below none = absurd (omega arith)
-some-free (suc x ∷ l) (suc j) below none = some-free l j (omega arith) none
-
-pub found-free : (l : List ℕ) (j : ℕ) → lowestFree l ≡ At j → 0 < free l
-found-free l j e = let low = lowest-found l j e in some-free l j (low .inside) (low .free)
-
 pub free-found : (l : List ℕ) → 0 < free l → (j : ℕ) × (lowestFree l ≡ At j)
 unfolding lowestFree
 free-found l some = first-some 0 l some
-
-pub found-exactly : (l : List ℕ) → (0 < free l) ↔ ((j : ℕ) × (lowestFree l ≡ At j))
-found-exactly l = (free-found l, λ found. found-free l (found .0) (found .1))

@@ -6,10 +6,10 @@ use Prim.Native.Nat.{ℕ, _+_, _*_, _/_, _%_, _≤_, _<_}
 use lib.ListN.{length}
 use Rattle.laws.specs.Bit.{Sub}
 use Rattle.laws.specs.Size.{sizeAt}
-use Rattle.entry.specs.Word.{addressOf, linkOf}
+use Rattle.entry.specs.Word.{addressOf, linkOf, plainFlags}
 use Rattle.pool.specs.State.{St, tables, wordAt, numberAt}
 use Rattle.pool.specs.Number.{rootNumber, numberOf, levelOf}
-use Rattle.pool.specs.Sound.{flagSet, plainFlags}
+use Rattle.pool.specs.Sound.{flagSet}
 use Rattle.pool.specs.declared.Handle.{Handle}
 use Rattle.forest.specs.Sound.{TableWord}
 

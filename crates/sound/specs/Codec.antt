@@ -6,15 +6,14 @@ use mathlib.Core.Logic.{_⊎_, inl, inr, _≢_}
 use Prim.Native.Nat.{ℕ, zero, suc, _-_, _/_, _%_, _≤_, _<_}
 use native.Mathlib.Omega.{arith}
 use lib.Dec.{T, eqb, ltb}
-use lib.ListN.{List·getD-eq-default}
 use borrow.Author.Tests.{lt-ltb, le-ltb}
 use Rattle.laws.specs.Size.{sizeAt}
 use Rattle.laws.specs.Test.{eqb-cases, le-or}
-use Rattle.entry.specs.Word.{only, linkOf, addressOf}
-use Rattle.pool.specs.State.{St, tables, wordAt, numberAt}
-use Rattle.pool.specs.Number.{rootNumber, numberOf, levelOf, parentOf, slotOf, Names, parent-back, slot-back, number-names}
+use Rattle.entry.specs.Word.{only, linkOf, addressOf, plainFlags}
+use Rattle.pool.specs.State.{St, wordAt, numberAt}
+use Rattle.pool.specs.Number.{rootNumber, numberOf, levelOf, parentOf, slotOf, Names, parent-back, slot-back, number-names, level-back}
 use Rattle.pool.specs.Refuse.{Shaped}
-use Rattle.pool.specs.Sound.{flagSet, plainFlags, fits, leafb}
+use Rattle.pool.specs.Sound.{flagSet, fits, leafb}
 use Rattle.pool.specs.declared.Handle.{Handle}
 use Rattle.forest.specs.Tree.{Tree, treeAt}
 use Rattle.forest.specs.Sound.{State, Codec}
@@ -48,10 +47,6 @@ over-names k x names = go (eqb-cases (x / 8) 0)
 pub number-pos : (level p i : ℕ) → 0 < numberOf level p i
 unfolding numberOf
 number-pos level p i = omega arith
-
-pub level-of : (level p i : ℕ) → level < 4 → levelOf (numberOf level p i) ≡ level
-unfolding numberOf
-level-of level p i low = omega arith
 
 -- ---- table words and leaves
 
@@ -111,7 +106,7 @@ codecOf h placed = record {
   child-link = λ c. child-link (h .base .0) c;
   number-used = λ x p i. number-pos (suc (levelOf x)) p i;
   number-well = λ x p i high small inside. number-names (suc (levelOf x)) p i (omega arith) inside;
-  number-level = λ x p i high. level-of (suc (levelOf x)) p i (omega arith);
+  number-level = λ x p i high. level-back (suc (levelOf x)) p i (omega arith);
   number-over = λ k x p i high small inside.
       over-names k (numberOf (suc (levelOf x)) p i) (number-names (suc (levelOf x)) p i (omega arith) inside)
       ∙ parent-back (suc (levelOf x)) p i (omega arith) inside;
@@ -134,14 +129,6 @@ word-in s k i inside = rw (lt-ltb i 512 inside)
 pub word-out : (s : St) (k i : ℕ) → 512 ≤ i → slotWord s k i ≡ 0
 unfolding slotWord
 word-out s k i past = rw (le-ltb i 512 past)
-
--- a table in use is one of the pool's
-pub used-in : (s : St) (k : ℕ) → 0 < numberAt s k → k < tables s
-used-in s k used = go (le-or (tables s) k)
-  where
-    go : (tables s ≤ k) ⊎ (k < tables s) → k < tables s
-    go (inl past) = absurd (omega (arith, used, List·getD-eq-default (s .ledger) 0 past))
-    go (inr inside) = inside
 
 -- a word with bits 0 and 1 set stands in one of the 512 slots
 pub table-in : (s : St) (k i : ℕ) → slotWord s k i % 4 ≡ 3 → i < 512

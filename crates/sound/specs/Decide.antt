@@ -4,29 +4,20 @@ use mathlib.Core.Bool.{Bool, cond, _&&_}
 use mathlib.Core.Logic.{_⊎_, inl, inr, _≢_, _↔_}
 use Prim.Native.Nat.{ℕ, zero, suc, _+_, _*_, _-_, _/_, _%_, _<_}
 use native.Mathlib.Omega.{arith}
-use lib.Dec.{T, eqb, eqb→eq, leb, leb→le, le→leb, ltb, ltb→lt, lt→ltb}
+use lib.Dec.{T, eqb, eqb→eq, ltb, ltb→lt, lt→ltb}
 use lib.ListN.{length, getD}
 use Rattle.laws.specs.Test.{eq-or, and-l, and-r, and-i, or-e, or-l, or-r, cond-true, cond-false, cond-of, eq→eqb, allBelow, all-to, all-of, allFrom, from-to, from-of}
 use Rattle.entry.specs.Word.{addressOf, linkOf, link-address}
-use Rattle.pool.specs.State.{St, tables, wordAt, numberAt}
-use Rattle.pool.specs.Number.{rootNumber, levelOf, parentOf, slotOf, Names}
+use Rattle.pool.specs.State.{St, tables, wordAt, numberAt, used-in}
+use Rattle.pool.specs.Number.{rootNumber, levelOf, parentOf, slotOf}
 use Rattle.pool.specs.Refuse.{Shaped}
-use Rattle.pool.specs.Sound.{flagSet, leafb, namesb, hangsb, tableb, linkb, refersb, slotb, soundb}
+use Rattle.pool.specs.Sound.{flagSet, leafb, namesb, hangsb, tableb, linkb, refersb, slotb, soundb, names-says, says-names}
 use Rattle.pool.specs.declared.Handle.{Handle}
 use Rattle.forest.specs.Sound.{TableWord}
-use Rattle.sound.specs.Codec.{used-in}
 use Rattle.sound.specs.Clauses.{InUse, levelAt, HangsIn, LinksTo, LeafWord, SoundPool}
 use Rattle.sound.specs.Generic.{leaf-says, says-leaf, slot-names, slot-parent, slot-slot, names-slot}
 
 -- ---- the tests, one by one, both ways
-
-names-says : (x : ℕ) → T (namesb x) → Names x
-unfolding namesb
-names-says x t = record { kind = leb→le 4 (x % 8) (and-l (leb 4 (x % 8)) (leb 1 (x / 8)) t); some = leb→le 1 (x / 8) (and-r (leb 4 (x % 8)) (leb 1 (x / 8)) t) }
-
-says-names : (x : ℕ) → Names x → T (namesb x)
-unfolding namesb
-says-names x names = and-i (leb 4 (x % 8)) (leb 1 (x / 8)) (le→leb 4 (x % 8) (names .kind)) (le→leb 1 (x / 8) (names .some))
 
 refers-says : (y w : ℕ) → T (refersb y w) → TableWord (levelOf y) w
 unfolding refersb

@@ -6,12 +6,12 @@ use lib.Dec.{T}
 use lib.ListN.{set, replicate}
 use Rattle.laws.specs.Size.{sizeAt}
 use Rattle.laws.specs.Test.{allBelow, allFrom}
-use Rattle.entry.specs.Word.{addressOf, linkOf, only, el1Flags}
+use Rattle.entry.specs.Word.{addressOf, linkOf, only, el1Flags, plainFlags}
 use Rattle.pool.specs.Number.{rootNumber, firstFrom, lowestFree}
 use Rattle.pool.specs.State.{St, st, wordAt}
 use Rattle.table.specs.Table.{zeros, takeAt, length-zeros, zeros-at}
 use Rattle.pool.specs.Refuse.{maxTables, shaped, Shaped, shaped-says}
-use Rattle.pool.specs.Sound.{flagSet, plainFlags, fits, leafb, namesb, hangsb, tableb, linkb, refersb, slotb, soundb}
+use Rattle.pool.specs.Sound.{flagSet, fits, leafb, namesb, hangsb, tableb, linkb, refersb, slotb, soundb}
 use Rattle.pool.specs.declared.Handle.{Handle}
 use Rattle.pool.specs.declared.Found.the-variants.{At}
 use Rattle.pool.specs.declared.VaRange.the-variants.{Lower}

@@ -8,7 +8,7 @@ use lib.Dec.{eqb}
 use lib.ListN.{length-set}
 use borrow.Author.Tests.{ne-eqb}
 use Rattle.laws.specs.Sum.{sum, sum-ext, sum-add}
-use Rattle.pool.specs.State.{storeAt, St, tables, numberAt}
+use Rattle.pool.specs.State.{storeAt, St, tables, numberAt, used-in}
 use Rattle.pool.specs.Number.{used, free, used-free}
 use Rattle.pool.specs.Refuse.{Shaped}
 use Rattle.table.specs.Table.{freeTree}
@@ -20,7 +20,7 @@ use Rattle.forest.specs.Free.{Frees}
 use Rattle.forest.specs.Nodes.{nodes, lies, lies-yes, lies-no, under-nodes}
 use Rattle.forest.specs.Move.{move-free}
 use Rattle.sound.specs.Alloc.{used-sum}
-use Rattle.sound.specs.Codec.{shaped-placed, codecOf, view, used-in, treeFrom}
+use Rattle.sound.specs.Codec.{shaped-placed, codecOf, view, treeFrom}
 use Rattle.sound.specs.Clauses.{InUse, levelAt, SoundPool}
 use Rattle.sound.specs.Generic.{pool-sound}
 use Rattle.sound.specs.Lists.{store-here, store-other}

@@ -8,13 +8,13 @@ use lib.ListN.{length}
 use Rattle.laws.specs.Slot.{iter}
 use Rattle.laws.specs.Test.{eq-or}
 use Rattle.entry.specs.Sub.{sub-leaf, sub-link}
-use Rattle.pool.specs.State.{St, tables, wordAt, numberAt}
+use Rattle.pool.specs.State.{St, tables, wordAt, numberAt, used-in}
 use Rattle.pool.specs.Refuse.{Shaped}
 use Rattle.table.specs.Table.{clear, freeSlot, freeTree, slot-table, slot-leaf}
 use Rattle.pool.specs.declared.Handle.{Handle}
 use Rattle.forest.specs.Sound.{Codec, Refers, Sound}
 use Rattle.forest.specs.Under.{Under, NotUnder, LevelsLeft, under-self, under-zero, under-via, refers-level, refers-table, refers-child, refers-under, refers-over, refers-one}
-use Rattle.sound.specs.Codec.{shaped-placed, codecOf, slotWord, view, word-in, used-in}
+use Rattle.sound.specs.Codec.{shaped-placed, codecOf, slotWord, view, word-in}
 use Rattle.sound.specs.Clauses.{InUse, levelAt}
 use Rattle.sound.specs.Lists.{Inside, clear-tables, clear-words, clear-number, clear-number-other, clear-word, clear-word-other}
 
@@ -103,9 +103,6 @@ module _ {h : Handle} {s : St} (shape : Shaped h s) (S : Sound (codecOf h (shape
       (done : Done d n q q₁) (below : Below left) where
     abbrev step : St
     step = freeSlot (λ j t. freeTree left h j t) h (3 - suc left) d n q₁
-
-    level : 3 - suc left ≡ levelAt s d
-    level = omega (arith, low)
 
     size : SameSize s q₁
     size = size-trans (start .size) (done .size)

@@ -9,13 +9,13 @@ use lib.ListN.{length, List·getD-eq-default}
 use Rattle.laws.specs.Bit.{Sub}
 use Rattle.laws.specs.Size.{sizeAt}
 use Rattle.laws.specs.Test.{le-or, and-l, and-r, and-i, eq→eqb}
-use Rattle.entry.specs.Word.{addressOf, only}
-use Rattle.pool.specs.State.{St, tables, wordAt, numberAt}
+use Rattle.entry.specs.Word.{addressOf, only, plainFlags}
+use Rattle.pool.specs.State.{St, tables, wordAt, numberAt, used-in}
 use Rattle.pool.specs.Number.{rootNumber, numberOf, levelOf, parentOf, slotOf, Names, number-whole}
-use Rattle.pool.specs.Sound.{flagSet, plainFlags, fits, leafb}
+use Rattle.pool.specs.Sound.{flagSet, fits, leafb}
 use Rattle.pool.specs.declared.Handle.{Handle}
 use Rattle.forest.specs.Sound.{IsTable, Hangs, Refers, Sound}
-use Rattle.sound.specs.Codec.{Placed, overOf, over-names, root-unnamed, codecOf, slotWord, view, word-in, word-out, used-in, table-in}
+use Rattle.sound.specs.Codec.{Placed, overOf, over-names, root-unnamed, codecOf, slotWord, view, word-in, word-out, table-in}
 use Rattle.sound.specs.Clauses.{InUse, levelAt, NamesSlot, HangsIn, LinksTo, LeafWord, SoundPool}
 
 -- ---- a leaf

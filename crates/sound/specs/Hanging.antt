@@ -6,10 +6,10 @@ use mathlib.Core.Logic.{_⊎_, inl, inr, _≢_}
 use Prim.Native.Nat.{ℕ, _+_, _-_, _%_, _<_}
 use native.Mathlib.Omega.{arith}
 use Rattle.entry.specs.Word.{addressOf, linkOf, link-address}
-use Rattle.entry.specs.Sub.{subOf, sub-leaf, sub-found, sub-link}
+use Rattle.entry.specs.Sub.{subOf, sub-found, sub-link}
 use Rattle.entry.specs.declared.Sub.{Sub}
-use Rattle.entry.specs.declared.Sub.the-variants.{Table, Outside, Leaf}
-use Rattle.pool.specs.State.{St, tables, wordAt, numberAt}
+use Rattle.entry.specs.declared.Sub.the-variants.{Table}
+use Rattle.pool.specs.State.{St, tables, wordAt, numberAt, used-in}
 use Rattle.pool.specs.Number.{rootNumber, used}
 use Rattle.pool.specs.Refuse.{Shaped}
 use Rattle.pool.specs.declared.Handle.{Handle}
@@ -18,7 +18,7 @@ use Rattle.forest.specs.Under.{Under, hangs-refers, refers-table}
 use Rattle.forest.specs.Hang.{here as at-last, down as by, Points, Reaches, grounded, reached, path, once, root-free, one-path as one-way}
 use Rattle.forest.specs.Nodes.{nodes, inUse as countInUse, used-nodes}
 use Rattle.sound.specs.Alloc.{used-sum}
-use Rattle.sound.specs.Codec.{Placed, shaped-placed, childOf, child-link, codecOf, view, word-in, used-in, table-in, rootTree}
+use Rattle.sound.specs.Codec.{Placed, shaped-placed, childOf, child-link, codecOf, view, word-in, table-in, rootTree}
 use Rattle.sound.specs.Clauses.{InUse, levelAt, SoundPool}
 use Rattle.sound.specs.Generic.{pool-sound}
 
@@ -91,25 +91,6 @@ module _ {h : Handle} {s : St} (shape : Shaped h s) (P : SoundPool h s) where
   table-leads k i inUse inside table =
       let to = pool-sound (shaped-placed shape) P .names k i inUse (table .0, ap (λ (w : ℕ). w % 4) (word-in s k i inside) ∙ table .1) in
       (to .0, refers-leads inUse (to .1))
-
-  pub leaf-plain : (k i : ℕ) → InUse s k → i < 512 → subAt h s k i ≡ Leaf → ¬ (TableWord (levelAt s k) (wordAt s k i))
-  leaf-plain k i inUse inside leaf table =
-      let to = table-leads k i inUse inside table in
-      let z : _≡_ {A = ℕ} 0 1 = cc (leaf, to .1 .leads) in
-      omega arith
-
-  -- no word of a used table points outside the pool
-  pub never-outside : (k i : ℕ) → InUse s k → i < 512 → ¬ (subAt h s k i ≡ Outside)
-  never-outside k i inUse inside out = other (λ table.
-      let to = table-leads k i inUse inside table in
-      let z : _≡_ {A = ℕ} 0 1 = cc (out, to .1 .leads) in
-      omega arith)
-    where
-      other : ¬ (¬ (TableWord (levelAt s k) (wordAt s k i)))
-      other none =
-          let leaf = sub-leaf (h .base .0) (tables s) (levelAt s k) (wordAt s k i) none in
-          let z : _≡_ {A = ℕ} 0 1 = cc (out, leaf) in
-          omega arith
 
   -- ---- every used table is reached from the root by following slots
 

@@ -1,11 +1,11 @@
 -- A pool that was made is sound, whatever was lent. Leans on `Clauses`. Assumes nothing.
-use mathlib.Core.Path.{_≡_, refl, sym, ap, _∙_}
+use mathlib.Core.Path.{_≡_, _∙_}
 use mathlib.Core.Logic.{_⊎_, inl, inr, _≢_}
 use Prim.Native.Nat.{ℕ, _+_, _*_, _≤_, _<_}
 use native.Mathlib.Omega.{arith}
-use lib.ListN.{length, getD, set, replicate, length-replicate, getD-replicate, length-set, List·getD-eq-default}
+use lib.ListN.{length, getD, replicate, length-replicate, getD-replicate, length-set, List·getD-eq-default}
 use lib.Seq.{getD-set-same, getD-set-other}
-use Rattle.laws.specs.Test.{le-or, eq-or}
+use Rattle.laws.specs.Test.{le-or}
 use Rattle.pool.specs.State.{St, tables, wordAt, numberAt}
 use Rattle.pool.specs.Number.{rootNumber}
 use Rattle.pool.specs.Refuse.{Shaped}
@@ -13,7 +13,7 @@ use Rattle.pool.specs.Sound.{flagSet}
 use Rattle.pool.specs.Make.{fresh}
 use Rattle.pool.specs.declared.Handle.{Handle}
 use Rattle.sound.specs.Codec.{zero-leaf}
-use Rattle.sound.specs.Clauses.{InUse, levelAt, SoundPool}
+use Rattle.sound.specs.Clauses.{levelAt, SoundPool}
 use Rattle.sound.specs.Generic.{leaf-says}
 
 zero-at : (n i : ℕ) → _≡_ {A = ℕ} (getD (replicate n 0) i 0) 0

@@ -1,28 +1,23 @@
--- One step on a sound pool's lists: a move of the forest that keeps the lists' lengths. The pool is sound again, the root's tree has the new tree
--- put in at the slot, and all else stays. Assumes nothing.
+-- One step on a sound pool's lists: a move of the forest that keeps the lists' lengths. The pool is sound again, and table
+-- numbers stay. Assumes nothing.
 use mathlib.Core.Path.{_≡_, sym, ap, _∙_}
-use mathlib.Core.List.{[], _∷_}
-use mathlib.Core.Logic.{_≢_}
-use Prim.Native.Nat.{ℕ, _+_, _-_, _%_, _≤_, _<_}
+use Prim.Native.Nat.{ℕ, _%_, _≤_, _<_}
 use native.Mathlib.Omega.{arith}
 use lib.ListN.{length}
-use Rattle.pool.specs.State.{St, tables, wordAt, numberAt}
+use Rattle.pool.specs.State.{St, tables, wordAt, numberAt, used-in}
 use Rattle.pool.specs.Number.{levelOf}
 use Rattle.pool.specs.Refuse.{Shaped}
 use Rattle.pool.specs.Sound.{flagSet}
 use Rattle.pool.specs.declared.Handle.{Handle}
-use Rattle.forest.specs.Tree.{Tree, put}
+use Rattle.forest.specs.Tree.{Tree}
 use Rattle.forest.specs.Sound.{TableWord, IsTable}
-use Rattle.forest.specs.Under.{Under}
-use Rattle.forest.specs.Hang.{path}
-use Rattle.forest.specs.Frame.{NotUnderSlot, change-over}
+use Rattle.forest.specs.Frame.{NotUnderSlot}
 use Rattle.forest.specs.Keep.{Fits}
 use Rattle.forest.specs.Place.{slot-self}
 use Rattle.forest.specs.Move.{Move}
-use Rattle.sound.specs.Codec.{Placed, zero-leaf, codecOf, view, word-in, used-in, rootTree}
+use Rattle.sound.specs.Codec.{Placed, codecOf, view, word-in, zero-leaf}
 use Rattle.sound.specs.Clauses.{InUse, levelAt, LeafWord, SoundPool}
-use Rattle.sound.specs.Generic.{leaf-says, says-leaf, pool-sound, sound-pool}
-use Rattle.sound.specs.Hanging.{root-left}
+use Rattle.sound.specs.Generic.{says-leaf, sound-pool, leaf-says}
 use Rattle.sound.specs.Lists.{Inside}
 
 -- the word v may stand as a leaf in a table of this level
@@ -36,11 +31,6 @@ module _ (h : Handle) where
 
   pub zero-stands : (level : ℕ) → level ≤ 3 → Stands h level 0
   zero-stands level low = record { plain = λ table. omega (arith, table .1); leaf = leaf-says (flagSet h) level 0 low (zero-leaf (flagSet h) level) }
-
--- a word of a sound pool that is no table word may stand where it stands
-pub old-stands : {h : Handle} {s : St} → SoundPool h s → (k i : ℕ) → i < 512 → InUse s k → ¬ (TableWord (levelAt s k) (wordAt s k i))
-    → Stands h (levelAt s k) (wordAt s k i)
-old-stands P k i inside used old = record { plain = old; leaf = P .leaves k i inside used old }
 
 -- a word that is no table word is none for the forest
 pub not-table : {h : Handle} (placed : Placed h) (s : St) (k i : ℕ) → i < 512 → ¬ (TableWord (levelAt s k) (wordAt s k i))
@@ -71,20 +61,6 @@ module _ {h : Handle} {placed : Placed h} {s s′ : St} {left p i : ℕ} {t : Tr
     ended = omega (arith, shape .ended, step .same-tables);
     level = shape .level;
   }
-
-  -- EFFECT: the root's tree has t put in at the slot, and is otherwise as before
-  pub step-effect : {d : ℕ} → Under (codecOf h placed) (view s) 0 d p → levelAt s p + left ≡ 3
-      → rootTree h s′ ≡ put (path (codecOf h placed) (view s) d p (i ∷ [])) t (rootTree h s)
-  step-effect {d} under low =
-      change-over (pool-sound placed P) (view s′) left (3 - h .level) (step .move .at .words) under low (root-left placed P)
-      ∙ ap (λ (u : Tree). put (path (codecOf h placed) (view s) d p (i ∷ [])) u (rootTree h s)) (step .move .tree)
-
-  -- WHAT STAYS: the other slots of table p, and every used table that does not lie under the slot, with its number
-  pub step-slots : (j : ℕ) → j < 512 → j ≢ i → wordAt s′ p j ≡ wordAt s p j
-  step-slots j inside other = sym (word-in s′ p j inside) ∙ step .move .at .words .slots j other ∙ word-in s p j inside
-
-  pub step-others : (k : ℕ) → InUse s k → k ≢ p → NotUnderSlot (codecOf h placed) (view s) p i k → (j : ℕ) → j < 512 → wordAt s′ k j ≡ wordAt s k j
-  step-others k used other off j inside = sym (word-in s′ k j inside) ∙ step .move .at .words .others k used other off j ∙ word-in s k j inside
 
   pub step-numbers : (k : ℕ) → InUse s k → NotUnderSlot (codecOf h placed) (view s) p i k → numberAt s′ k ≡ numberAt s k
   step-numbers k used off = step .move .at .ledger k used off

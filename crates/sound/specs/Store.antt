@@ -2,12 +2,12 @@
 -- Assumes nothing.
 use mathlib.Core.Path.{_≡_, refl, ap, _∙_}
 use mathlib.Core.Logic.{_⊎_, inl, inr, _≢_}
-use Prim.Native.Nat.{ℕ, suc, _+_, _*_, _≤_, _<_}
+use Prim.Native.Nat.{ℕ, _+_, _*_, _≤_, _<_}
 use native.Mathlib.Omega.{arith}
 use lib.ListN.{length-set}
 use Rattle.laws.specs.Test.{le-or}
 use Rattle.pool.specs.State.{storeAt, St, wordAt, numberAt}
-use Rattle.pool.specs.Number.{used, free}
+use Rattle.pool.specs.Number.{used}
 use Rattle.table.specs.Table.{clear}
 use Rattle.pool.specs.declared.Handle.{Handle}
 use Rattle.forest.specs.Tree.{leaf}
@@ -16,7 +16,6 @@ use Rattle.forest.specs.Under.{refers-level}
 use Rattle.forest.specs.Store.{Stored}
 use Rattle.forest.specs.Free.{Clears, free-empty-frees}
 use Rattle.forest.specs.Move.{move-store, move-free}
-use Rattle.sound.specs.Alloc.{used-clear, free-clear}
 use Rattle.sound.specs.Codec.{Placed, codecOf, slotWord, view, word-in, word-out}
 use Rattle.sound.specs.Clauses.{InUse, levelAt, SoundPool}
 use Rattle.sound.specs.Generic.{pool-sound}
@@ -76,11 +75,3 @@ module _ {h : Handle} (placed : Placed h) {s : St} (P : SoundPool h s) (p i v : 
         empty j (inr below) = word-in s e j below ∙ zeros j below
 
 -- one table less is in use, one more is free
-module _ (e : ℕ) (s : St) (inUse : InUse s e) where
-  pub clear-used : suc (used (clear e s .ledger)) ≡ used (s .ledger)
-  unfolding clear
-  clear-used = used-clear (s .ledger) e inUse
-
-  pub clear-free : free (clear e s .ledger) ≡ suc (free (s .ledger))
-  unfolding clear
-  clear-free = free-clear (s .ledger) e inUse

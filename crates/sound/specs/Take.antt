@@ -9,7 +9,7 @@ use lib.ListN.{length, getD, set, length-set, List·getD-eq-default}
 use lib.Seq.{getD-set-same, getD-set-other}
 use Rattle.entry.specs.Word.{linkOf}
 use Rattle.pool.specs.State.{St, st, tables, wordAt, numberAt}
-use Rattle.pool.specs.Number.{levelOf, numberOf, Names, parent-back, slot-back, number-names, lowestFree, Lowest, lowest-found, used, free}
+use Rattle.pool.specs.Number.{levelOf, numberOf, Names, parent-back, slot-back, number-names, lowestFree, Lowest, lowest-found, used, free, level-back}
 use Rattle.table.specs.Table.{putTable, length-table, takeAt, taken, takeTable, take-some}
 use Rattle.pool.specs.declared.Handle.{Handle}
 use Rattle.pool.specs.declared.Found.the-variants.{At}
@@ -17,8 +17,8 @@ use Rattle.forest.specs.Tree.{leaf, node}
 use Rattle.forest.specs.Sound.{TableWord}
 use Rattle.forest.specs.Split.{Splits, Fit, new-tree}
 use Rattle.forest.specs.Move.{work-skip, split-at, move-split}
-use Rattle.sound.specs.Alloc.{used-take, free-take}
-use Rattle.sound.specs.Codec.{Placed, over-names, number-pos, level-of, codecOf, view}
+use Rattle.sound.specs.Alloc.{free-take}
+use Rattle.sound.specs.Codec.{Placed, over-names, number-pos, codecOf, view}
 use Rattle.sound.specs.Clauses.{InUse, levelAt, SoundPool}
 use Rattle.sound.specs.Generic.{pool-sound}
 use Rattle.sound.specs.Lists.{Inside, store-here, store-other, put-here, put-other}
@@ -33,11 +33,6 @@ module _ (h : Handle) (level p i : ℕ) (t : List ℕ) (s : St) (f : ℕ) (found
   -- the lowest free table
   pub take-lowest : Lowest (s .ledger) f
   take-lowest = lowest-found (s .ledger) f found
-
-  -- one table more is in use, one less is free
-  pub take-used : used (takeAt h level p i t f s .ledger) ≡ suc (used (s .ledger))
-  unfolding takeAt
-  take-used = used-take (s .ledger) f (numberOf level p i) (take-lowest .inside) (take-lowest .free) (number-pos level p i)
 
   pub take-free : suc (free (takeAt h level p i t f s .ledger)) ≡ free (s .ledger)
   unfolding takeAt
@@ -97,7 +92,7 @@ module _ {h : Handle} (placed : Placed h) {s : St} (P : SoundPool h s) (level p 
         names = number-names level p i (omega arith) inside
 
         own : levelOf (numberOf level p i) ≡ level
-        own = level-of level p i (omega arith)
+        own = level-back level p i (omega arith)
 
     -- TAKE: the slot now shows a table of the leaves t
     pub take-step : (left : ℕ) → level + left ≡ 3 → ¬ (TableWord (levelAt s p) (wordAt s p i))
@@ -105,7 +100,7 @@ module _ {h : Handle} (placed : Placed h) {s : St} (P : SoundPool h s) (level p 
     take-step left low old =
         let S = pool-sound placed P in
         let none = not-table placed s p i inside old in
-        let low′ : levelOf (numberOf level p i) + left ≡ 3 = rw (level-of level p i (omega arith)) low in
+        let low′ : levelOf (numberOf level p i) + left ≡ 3 = rw (level-back level p i (omega arith)) low in
         let S′ = split-at S take-splits take-fit inUse inside none (lowest .free) .sound in
         record {
           move = move-split S take-splits take-fit inUse inside none (lowest .free) left

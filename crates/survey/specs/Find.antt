@@ -14,11 +14,10 @@ use Rattle.entry.specs.declared.Kind.{Kind}
 use Rattle.entry.specs.declared.Kind.the-variants.{Table as table, Block, Page, Hole}
 use Rattle.entry.specs.declared.Sub.{Sub}
 use Rattle.entry.specs.declared.Sub.the-variants.{Table, Outside, Leaf}
-use Rattle.region.specs.Region.{entryIndex}
+use Rattle.region.specs.Region.{entryIndex, whole}
 use Rattle.region.specs.declared.MemoryRegion.{MemoryRegion}
 use Rattle.pool.specs.State.{St, tables, wordAt}
 use Rattle.pool.specs.declared.Handle.{Handle}
-use Rattle.rules.specs.Rules.{whole}
 use Rattle.edit.specs.declared.Edit.{Edit}
 use Rattle.edit.specs.Word.{editWord}
 use Rattle.edit.specs.Each.{eachChunk}

@@ -7,13 +7,15 @@ use native.Mathlib.Omega.{arith}
 use lib.Dec.{leb, ltb}
 use borrow.Author.Tests.{leb-true, le-leb, ltb-true, lt-ltb}
 use Rattle.laws.specs.Test.{byBool, both}
+use Rattle.entry.specs.Word.{valid, plainFlags, flags-valid}
 use Rattle.forest.specs.Tree.{Tree, leaf, node}
 use Rattle.tree.specs.Page.{span, span-zero, span-pos, first, In, in-from, in-rest}
-use Rattle.tree.specs.Word.{valid, frameOf, plain, leafWord, leaf-hole, flags-valid, plain-flags}
+use Rattle.tree.specs.Word.{frameOf, leafWord, leaf-hole, plain-flags}
 use Rattle.tree.specs.Fine.{Fine, fine-flags, fine-leaf}
 use Rattle.tree.specs.Walk.{Seen, mapped, hole, seen, seenIn, seen-leaf, seen-fine, seen-leaf-word, seen-flags}
 use Rattle.tree.specs.Shown.{FineTree, Good, Right, Shows}
-use Rattle.tree.specs.Rules.{Map, Given, meets, whole, frameAt, same, fits, drops, mapRule, yes-meets, whole-yes, drops-yes, fits-yes, same-yes, page-in, rule-off, rule-page, rule-same, rule-block, rule-drop, rule-split, rule-down}
+use Rattle.tree.specs.Rules.{Map, Given, meets, whole, frameAt, same, fits, drops, mapRule, yes-meets, whole-yes, drops-yes, fits-yes, same-yes, page-in, rule-off, rule-page}
+use Rattle.tree.specs.Rules.{rule-same, rule-block, rule-drop, rule-split, rule-down}
 
 -- the page is one of the region
 unfoldable pub covers : Map → ℕ → Bool
@@ -131,7 +133,7 @@ module _ (m : Map) (G : Given m) where
       let x = same-yes (first (suc left) q) m w s in
       let y = covers-yes m page c in
       let r = in-rest (suc left) q page at in
-      let flags : plain w ≡ m .flags = plain-flags w (fine .clear (omega arith)) ∙ x .0 in
+      let flags : plainFlags w ≡ m .flags = plain-flags w (fine .clear (omega arith)) ∙ x .0 in
       let odd : valid w ≡ valid (m .flags) = sym (flags-valid w) ∙ ap valid (x .0) in
       let frame : frameOf w + page % span (suc left) ≡ m .frame + (page - m .from) = omega arith in
       seen-fine (suc left) w page fine ∙ rw (flags, odd, frame)

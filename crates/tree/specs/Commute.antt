@@ -5,15 +5,16 @@ use Prim.Native.Nat.{ℕ, zero, suc, _+_, _*_, _-_, _≤_, _<_, max}
 use native.Mathlib.Nat.{add-zero}
 use native.Mathlib.Omega.{arith}
 use Rattle.laws.specs.Test.{byBool}
-use Rattle.entry.specs.Word.{flagsOf}
+use Rattle.entry.specs.Word.{flagsOf, valid, flags-valid}
 use Rattle.forest.specs.Tree.{Tree, leaf, node, eachSlot}
 use Rattle.tree.specs.Page.{span, span-pos, first, child, child-first}
-use Rattle.tree.specs.Word.{valid, frameOf, leafWord, fillWord, pageBit, flags-valid, leaf-frame, leaf-flags}
+use Rattle.tree.specs.Word.{frameOf, leafWord, fillWord, pageBit, leaf-frame, leaf-flags}
 use Rattle.tree.specs.Fine.{Fine, fill-flags, fill-is, fill-below}
 use Rattle.tree.specs.Visit.{opened, visit, visitTable, visit-keep, visit-write, visit-down}
 use Rattle.tree.specs.Slots.{slotAfter, each-node, each-same, each-both, fillSlot, fill-node, fill-slot}
 use Rattle.tree.specs.Shown.{FineTree, FineTable, fine-fill-slots}
-use Rattle.tree.specs.Rules.{Map, meets, whole, frameAt, same, mapRule, meets-yes, whole-yes, drops-no, fits-no, same-yes, yes-same, page-in, rule-off, rule-page, rule-same, rule-split, rule-down}
+use Rattle.tree.specs.Rules.{Map, meets, whole, frameAt, same, mapRule, meets-yes, whole-yes, drops-no, fits-no, same-yes, yes-same, page-in, rule-off, rule-page, rule-same}
+use Rattle.tree.specs.Rules.{rule-split, rule-down}
 
 -- the regions share no page
 abbrev pub Apart : Map → Map → Type 0

@@ -1,23 +1,16 @@
--- Compact on trees: each page shows what it showed, no empty table is left below the root, a second compact does nothing, and the tables that go are
--- counted. Leans on `compactTree` of `forest`. Assumes nothing.
+-- Compact on trees: no empty table is left below the root, and the tables that go are counted. Leans on `compactTree` of `forest`. Assumes nothing.
 use mathlib.Core.Path.{_≡_, refl, sym, ap, subst, _∙_}
 use mathlib.Core.Bool.{true, false, true≢false}
 use Prim.Native.Nat.{ℕ, zero, suc, _+_, _<_}
 use native.Mathlib.Omega.{arith}
 use Rattle.laws.specs.Sum.{sum-none, tally}
 use Rattle.laws.specs.Test.{byBool}
-use Rattle.entry.specs.Word.{kindOf}
 use Rattle.forest.specs.Tree.{Tree, leaf, node, eachSlot}
 use Rattle.forest.specs.Compact.{emptyTree, squash, compactTree}
-use Rattle.forest.specs.CompactWalk.{empty-slot, not-empty, squash-leaf, squash-drops, squash-stays, compact-walk}
+use Rattle.forest.specs.CompactWalk.{empty-slot, not-empty, squash-leaf, squash-drops, squash-stays}
 use Rattle.forest.specs.Nodes.{nodes}
-use Rattle.tree.specs.Page.{slotOf, slot-lt}
-use Rattle.tree.specs.Word.{plain}
-use Rattle.tree.specs.Walk.{hole, seen, seenIn, framed, walk}
-use Rattle.tree.specs.Fine.{fine-zero}
 use Rattle.tree.specs.Visit.{total}
-use Rattle.tree.specs.Slots.{each-node, each-none, slot-after}
-use Rattle.tree.specs.Shown.{FineTree, FineTable, table-fine}
+use Rattle.tree.specs.Slots.{each-node, slot-after}
 use Rattle.tree.specs.Count.{nodes-leaf, nodes-node, total-none, table-balance}
 
 -- ---- definitions
@@ -48,17 +41,6 @@ squashed left u = squash (λ v. compactTree left v) u
 empty-nodes : (c : Tree) → emptyTree c ≡ true → nodes c ≡ 1
 empty-nodes (leaf w) e = absurd (true≢false (sym e ∙ not-empty w))
 empty-nodes (node f) e = nodes-node f ∙ ap suc (sum-none 512 (λ i. nodes (f i)) (λ i l. ap nodes (empty-slot f e i l) ∙ nodes-leaf 0))
-
--- ---- EACH PAGE SHOWS WHAT IT SHOWED
-
--- a word of 0 shows the same at every level
-zero-seen : (left page : ℕ) → seenIn left 0 page ≡ hole 0
-unfolding seenIn framed kindOf plain
-zero-seen left page = refl
-
-pub compact-seen : (left : ℕ) (t : Tree) (page : ℕ) → seen (suc left) (compactTree left t) page ≡ seen (suc left) t page
-unfolding walk
-compact-seen left t page = compact-walk (slotOf page) (slot-lt page) (λ e. seenIn (e .left) (e .word) page) (hole 0) (λ l. zero-seen l page) left t
 
 -- ---- TABLES: as many as before, fewer by those that go
 
@@ -91,7 +73,8 @@ tight-leaf zero w = tt
 tight-leaf (suc left) w = tt
 
 slot-tight : (left : ℕ) (u : Tree) → ((f : ℕ → Tree) → Tight left (compactTree left (node f))) → (emptyTree (squashed left u) ≡ false) × Tight left (squashed left u)
-slot-tight left (leaf w) ih = (ap emptyTree (squash-leaf (λ v. compactTree left v) w) ∙ not-empty w, subst (Tight left) (sym (squash-leaf (λ v. compactTree left v) w)) (tight-leaf left w))
+slot-tight left (leaf w) ih =
+    (ap emptyTree (squash-leaf (λ v. compactTree left v) w) ∙ not-empty w, subst (Tight left) (sym (squash-leaf (λ v. compactTree left v) w)) (tight-leaf left w))
 slot-tight left (node f) ih = byBool (emptyTree (compactTree left (node f)))
     (λ e. (ap emptyTree (squash-drops (λ v. compactTree left v) f e) ∙ not-empty 0, subst (Tight left) (sym (squash-drops (λ v. compactTree left v) f e)) (tight-leaf left 0)))
     (λ e. (ap emptyTree (squash-stays (λ v. compactTree left v) f e) ∙ e, subst (Tight left) (sym (squash-stays (λ v. compactTree left v) f e)) (ih f)))
@@ -104,37 +87,3 @@ compact-tight (suc left) (node f) =
     subst (Tight (suc left)) (sym (each-node (λ i u. squashed left u) f))
     (λ i l. subst (λ (v : Tree). (emptyTree v ≡ false) × Tight left v) (sym (slot-after (λ i u. squashed left u) f i l))
     (slot-tight left (f i) (λ g. compact-tight left (node g))))
-
--- ---- A SECOND COMPACT DOES NOTHING
-
-tight-slot : (left : ℕ) (u : Tree) → (Tight left u → compactTree left u ≡ u) → emptyTree u ≡ false → Tight left u → squashed left u ≡ u
-tight-slot left (leaf w) ih e tight = squash-leaf (λ v. compactTree left v) w
-tight-slot left (node f) ih e tight = squash-stays (λ v. compactTree left v) f (ap emptyTree (ih tight) ∙ e) ∙ ih tight
-
-pub tight-same : (left : ℕ) (t : Tree) → Tight left t → compactTree left t ≡ t
-unfolding compactTree eachSlot
-tight-same zero t tight = refl
-tight-same (suc left) (leaf w) tight = refl
-tight-same (suc left) (node f) tight =
-    each-none (λ i u. squashed left u) f (λ i l. tight-slot left (f i) (λ h. tight-same left (f i) h) (tight i l .0) (tight i l .1))
-
-pub compact-again : (left : ℕ) (t : Tree) → compactTree left (compactTree left t) ≡ compactTree left t
-compact-again left t = tight-same left (compactTree left t) (compact-tight left t)
-
--- ---- fine words stay fine
-
-slot-fine : (left : ℕ) (u : Tree) → ((f : ℕ → Tree) → FineTable left (node f) → FineTable left (compactTree left (node f))) → FineTree (suc left) u
-    → FineTree (suc left) (squashed left u)
-slot-fine left (leaf w) ih fine = subst (FineTree (suc left)) (sym (squash-leaf (λ v. compactTree left v) w)) fine
-slot-fine left (node f) ih fine = byBool (emptyTree (compactTree left (node f)))
-    (λ e. subst (FineTree (suc left)) (sym (squash-drops (λ v. compactTree left v) f e)) (fine-zero (suc left)))
-    (λ e. subst (FineTree (suc left)) (sym (squash-stays (λ v. compactTree left v) f e)) (table-fine left (compactTree left (node f)) (ih f fine)))
-
-pub compact-fine : (left : ℕ) (t : Tree) → FineTable left t → FineTable left (compactTree left t)
-unfolding compactTree eachSlot
-compact-fine zero t fine = fine
-compact-fine (suc left) (leaf w) fine = absurd fine
-compact-fine (suc left) (node f) fine =
-    subst (FineTable (suc left)) (sym (each-node (λ i u. squashed left u) f))
-    (λ i l. subst (FineTree (suc left)) (sym (slot-after (λ i u. squashed left u) f i l))
-    (slot-fine left (f i) (λ g h. compact-fine left (node g) h) (fine i l)))

@@ -1,29 +1,26 @@
 -- THE DEMANDS, over the tree t that a sound pool's root shows: its entries have `left` = 3 - (root level) levels below, the root is the r-th table of
 -- its span (`Root`). Pages and frames are addresses / 4096; `In (suc left) r page` says that the root spans the page. `seen` is what a walk
 -- shows of a page, "as before" in the document's sense; `walk` has the level too. `FineTable` says that each word is fine where it stands: `Forest`
--- gives it for the trees of a sound pool, and each call keeps it (`map-fine`, `modify-fine`, `compact-fine`). Assumes nothing.
-use mathlib.Core.Path.{_≡_, refl, sym, ap, _∙_}
+-- gives it for the trees of a sound pool, and a map keeps it (`map-fine`). Assumes nothing.
+use mathlib.Core.Path.{_≡_, sym, ap, _∙_}
 use mathlib.Core.Bool.{true, false, cond}
-use mathlib.Core.List.{List, [], _∷_, List·Permᴰ·swap, Permᴰ·symm}
+use mathlib.Core.List.{List, Permᴰ·symm}
 use mathlib.Core.Logic.{_↔_}
 use Prim.Native.Nat.{ℕ, suc, _+_, _-_, _≤_, _<_}
-use native.Mathlib.Omega.{arith}
 use Rattle.laws.specs.Test.{byBool}
+use Rattle.entry.specs.Word.{valid, edited}
 use Rattle.forest.specs.Tree.{Tree}
 use Rattle.forest.specs.Nodes.{nodes}
-use Rattle.forest.specs.Compact.{compactTree}
 use Rattle.tree.specs.Page.{In}
-use Rattle.tree.specs.Word.{valid}
 use Rattle.tree.specs.Walk.{mapped, hole, walk, seen}
 use Rattle.tree.specs.Shown.{FineTable}
 use Rattle.tree.specs.Rules.{Map, Given}
-use Rattle.tree.specs.After.{covers, after, yes-covers, covers-yes, after-in, after-out, asked-valid, asked-hole}
-use Rattle.tree.specs.Commute.{Apart, apart-flip}
-use Rattle.tree.specs.Root.{mapTree, mapMade, mapFreed, map-fine, map-seen, map-count, valid-frees-none, valid-grows, map-commute}
-use Rattle.tree.specs.Order.{Reorders, Each, Pairwise, ValidMap, run, Room, madeAll, each-reorders, pairwise-reorders, run-reorders, room-reorders, seen-reorders, room-enough}
-use Rattle.tree.specs.Edit.{edited}
+use Rattle.tree.specs.After.{covers, yes-covers, covers-yes, after-in, after-out, asked-valid, asked-hole}
+use Rattle.tree.specs.Commute.{Apart}
+use Rattle.tree.specs.Root.{mapTree, mapMade, mapFreed, map-seen, map-count, valid-frees-none, map-commute}
+use Rattle.tree.specs.Order.{Reorders, Each, Pairwise, ValidMap, run, Room, madeAll, each-reorders, pairwise-reorders, run-reorders, room-reorders, seen-reorders}
+use Rattle.tree.specs.Order.{room-enough}
 use Rattle.tree.specs.Modify.{Modify, GivenModify, pagesOf, changed, afterModify, modifyTree, modifyMade, modify-seen, modify-count}
-use Rattle.tree.specs.Compact.{Tight, emptied, compact-seen, compact-count, compact-tight, compact-again}
 
 -- the page is one of the region
 pub record OfRegion (start end page : ℕ) : Type 0 where
@@ -56,44 +53,9 @@ module _ (left r : ℕ) (t : Tree) (fine : FineTable left t) where
   -- ---- DEMAND 3: two VALID maps that share no page
 
   module _ (m n : Map) (apart : Apart m n) (vm : valid (m .flags) ≡ true) (vn : valid (n .flags) ≡ true) where
-    -- one tree in either order,
+    -- one tree in either order
     pub either-order : mapTree left r n (mapTree left r m t) ≡ mapTree left r m (mapTree left r n t)
     either-order = sym (map-commute left r m n apart vm vn t fine)
-
-    -- so the same walk answer, level included,
-    pub same-walk : (page : ℕ) → walk (suc left) (mapTree left r n (mapTree left r m t)) page ≡ walk (suc left) (mapTree left r m (mapTree left r n t)) page
-    same-walk page = ap (λ (u : Tree). walk (suc left) u page) either-order
-
-    -- and equally many tables in use,
-    pub same-tables : nodes (mapTree left r n (mapTree left r m t)) ≡ nodes (mapTree left r m (mapTree left r n t))
-    same-tables = ap nodes either-order
-
-    -- equally many made in all;
-    pub same-made : mapMade left r m t + mapMade left r n (mapTree left r m t) ≡ mapMade left r n t + mapMade left r m (mapTree left r n t)
-    same-made =
-        omega (
-          arith,
-          same-tables,
-          valid-grows left r m vm t,
-          valid-grows left r n vn t,
-          valid-grows left r n vn (mapTree left r m t),
-          valid-grows left r m vm (mapTree left r n t),
-        )
-
-    -- it is the one that demand 2 gives, map by map;
-    pub both-seen : Given m → Given n → (page : ℕ) → In (suc left) r page
-        → seen (suc left) (mapTree left r n (mapTree left r m t)) page ≡ after n page (after m page (seen (suc left) t page))
-    both-seen gm gn page spans =
-        map-seen left r n gn (mapTree left r m t) (map-fine left r m gm t fine) page spans ∙ ap (after n page) (map-seen left r m gm t fine page spans)
-
-    -- both are accepted in one order exactly when in the other, in a pool of k tables
-    pub same-room : Given m → Given n → (k : ℕ) → nodes t ≤ k → Room left r k (m ∷ n ∷ []) t ↔ Room left r k (n ∷ m ∷ []) t
-    same-room gm gn k room =
-        let one : ValidMap m = record { given = gm; valid = vm } in
-        let two : ValidMap n = record { given = gn; valid = vn } in (
-          room-reorders left r k {ms = m ∷ n ∷ []} {ns = n ∷ m ∷ []} (List·Permᴰ·swap refl refl) ((apart, tt), (tt, tt)) (one, (two, tt)) t fine room,
-          room-reorders left r k {ms = n ∷ m ∷ []} {ns = m ∷ n ∷ []} (List·Permᴰ·swap refl refl) ((apart-flip m n apart, tt), (tt, tt)) (two, (one, tt)) t fine room,
-        )
 
   -- ---- Q-13: any list of maps whose regions share no page pairwise, in any order
 
@@ -163,25 +125,3 @@ module _ (left r : ℕ) (t : Tree) where
   -- a list of maps whose new tables are all free at entry is not refused 9 (Q-13, with and without VALID)
   pub enough-room : (k : ℕ) (ms : List Map) → nodes t + madeAll left r ms t ≤ k → Room left r k ms t
   enough-room k ms room = room-enough left r k ms t room
-
--- ---- COMPACT, of any tree
-
-module _ (left : ℕ) (t : Tree) where
-  -- every page shows what it showed,
-  pub compact-as-before : (page : ℕ) → seen (suc left) (compactTree left t) page ≡ seen (suc left) t page
-  compact-as-before page = compact-seen left t page
-
-  -- no table below the root is empty,
-  pub none-empty : Tight left (compactTree left t)
-  none-empty = compact-tight left t
-
-  -- a second compact does nothing,
-  pub compact-twice : compactTree left (compactTree left t) ≡ compactTree left t
-  compact-twice = compact-again left t
-
-  -- tables after + freed = tables before, so never more than before
-  pub compact-tables : nodes (compactTree left t) + emptied left t ≡ nodes t
-  compact-tables = compact-count left t
-
-  pub never-more : nodes (compactTree left t) ≤ nodes t
-  never-more = omega (arith, compact-count left t)

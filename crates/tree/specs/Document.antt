@@ -9,26 +9,18 @@ use lib.Dec.{eqb, eqb→eq, leb, leb→le, le→leb, ltb, ltb→lt, lt→ltb}
 use borrow.Author.Tests.{lt-leb}
 use Rattle.laws.specs.Size.{sizeAt}
 use Rattle.laws.specs.Test.{byBool, same-test, eq→eqb, and-l, and-r, and-i, le-or}
-use Rattle.entry.specs.Word.{addressOf, flagsOf}
-use Rattle.region.specs.Region.{region}
+use Rattle.entry.specs.Word.{addressOf, flagsOf, valid, leafWord as written}
+use Rattle.region.specs.Region.{region, whole as wholeEntry}
 use Rattle.region.specs.declared.MemoryRegion.{MemoryRegion}
 use Rattle.forest.specs.Tree.{Tree, leaf, node}
 use Rattle.tree.specs.Page.{span, span-zero, first, In, in-of, in-rest, entry-rest, end-rest}
-use Rattle.tree.specs.Word.{valid, frameOf, leafWord, pageBit, address-frame}
+use Rattle.tree.specs.Word.{frameOf, leafWord, pageBit, address-frame}
 use Rattle.tree.specs.Visit.{Rule, keep, write, down}
 use Rattle.tree.specs.Rules.{Map, meets, whole, frameAt, same, fits, drops, mapRule, yes-meets, whole-yes, fits-yes}
 use Rattle.tree.specs.Local.{map-local}
 use Rattle.tree.specs.Chunks.{inPages, Inside, chunkedTable}
 use Rattle.tree.specs.Sweep.{Says, table-is}
 use Rattle.tree.specs.Root.{mapTree}
-
--- "a VALID map writes frame + flags + 2" at level 3, above it the block without bit 1; "otherwise the flags alone"
-unfoldable pub written : ℕ → ℕ → ℕ → ℕ
-written level frame flags = cond (valid flags) (cond (leb 3 level) (frame + flags + 2) (frame + flags)) flags
-
--- the chunk is the whole entry
-unfoldable pub wholeEntry : ℕ → MemoryRegion → Bool
-wholeEntry level c = eqb (c .start .0 % sizeAt level) 0 && eqb (c .end .0 % sizeAt level) 0
 
 -- rule 2's test of the word w: "same flags, and frame at least the chunk's offset in the entry with difference equal to the entry's address"
 unfoldable pub already : ℕ → MemoryRegion → ℕ → ℕ → ℕ → Bool

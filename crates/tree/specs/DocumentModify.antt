@@ -3,14 +3,14 @@
 use mathlib.Core.Path.{_≡_, refl}
 use mathlib.Core.Bool.{false, cond}
 use Prim.Native.Nat.{ℕ, zero, suc, _-_, _/_, _≤_}
-use Rattle.region.specs.Region.{region}
+use Rattle.region.specs.Region.{region, whole}
 use Rattle.region.specs.declared.MemoryRegion.{MemoryRegion}
 use Rattle.forest.specs.Tree.{Tree, leaf, node}
 use Rattle.tree.specs.Page.{span, first}
 use Rattle.tree.specs.Visit.{Rule, keep, down}
 use Rattle.tree.specs.Chunks.{Inside, chunkedTable}
 use Rattle.tree.specs.Sweep.{Says, table-is}
-use Rattle.tree.specs.Document.{wholeEntry, meets-is, whole-is}
+use Rattle.tree.specs.Document.{meets-is, whole-is}
 use Rattle.tree.specs.Needed.{neededTable, table-needed}
 use Rattle.tree.specs.Modify.{Modify, editRule, modifyRule, modify-local, modifyTree, modifyMade}
 
@@ -19,7 +19,7 @@ module _ (set clear : ℕ) where
   unfoldable pub documentModify : ℕ → MemoryRegion → ℕ → Tree → Rule
   documentModify zero c frame (leaf w) = editRule set clear w
   documentModify zero c frame (node f) = keep
-  documentModify (suc left) c frame (leaf w) = cond (wholeEntry (3 - suc left) c) (editRule set clear w) down
+  documentModify (suc left) c frame (leaf w) = cond (whole (3 - suc left) c) (editRule set clear w) down
   documentModify (suc left) c frame (node f) = down
 
   modify-says : Says (modify-local set clear) documentModify 0 false

@@ -1,31 +1,15 @@
 -- An edit of a word by bits to set and bits to clear, both flags that a call may give: the frame and bit 1 stay, the flags are edited.
 -- Assumes nothing.
-use mathlib.Core.Path.{_≡_, refl, sym, ap, ap₂, _∙_}
+use mathlib.Core.Path.{_≡_, sym, ap, ap₂, _∙_}
 use mathlib.Core.Bool.{true}
-use Prim.Native.Nat.{ℕ, _+_, _*_, _-_, _/_, _%_, _^_, _<_}
+use Prim.Native.Nat.{ℕ, _*_, _-_, _/_, _%_, _^_, _<_}
 use native.Mathlib.Omega.{arith}
-use lib.Bits.{bitAnd, bitOr, and-comm, and-high, and-mask, and-le-r, and-zero-r, or-zero-r}
-use Rattle.laws.specs.Bit.{and-assoc, and-or, and-swap, and-add, sub-not}
-use Rattle.entry.specs.Word.{mask-address}
+use lib.Bits.{bitAnd, bitOr, and-comm, and-high, and-le-r, and-zero-r, or-zero-r}
+use Rattle.laws.specs.Bit.{and-assoc, and-or, and-swap, sub-not}
+use Rattle.entry.specs.Word.{mask-address, valid, plainFlags, Plain, valid-same, valid-yes, edited, mask-plain}
 use Rattle.tree.specs.Page.{span}
-use Rattle.tree.specs.Word.{valid, frameOf, plain, Plain, address-frame, flags-frame, flags-shown, valid-same, valid-yes}
+use Rattle.tree.specs.Word.{frameOf, address-frame, flags-frame, flags-shown}
 use Rattle.tree.specs.Fine.{Fine}
-
--- document 01, Modify: the bits to set are set, the bits to clear cleared
-unfoldable pub edited : ℕ → ℕ → ℕ → ℕ
-edited set clear w = bitAnd (bitOr w set) (2 ^ 64 - 1 - clear)
-
--- the flags without bit 1, by a mask
-plain-mask : (w : ℕ) → w < 2 ^ 64 → bitAnd w 0xFFFF_0000_0000_0FFD ≡ plain w
-unfolding plain
-plain-mask w wide =
-    let a : bitAnd w 0xFFFF_0000_0000_0FFD ≡ bitAnd w 0xFFFF_0000_0000_0000 + bitAnd w 0xFFD = and-add w 0xFFFF_0000_0000_0000 0xFFD refl in
-    let b : bitAnd w 0xFFD ≡ bitAnd w 0xFFC + bitAnd w 1 = and-add w 0xFFC 1 refl in
-    let c : bitAnd w 0xFFFF_0000_0000_0000 ≡ w / 2 ^ 48 % 2 ^ 16 * 2 ^ 48 = and-high w 16 48 in
-    let d : bitAnd w 0xFFC ≡ w / 4 % 1024 * 4 = and-high w 10 2 in
-    let e : bitAnd w 1 ≡ w % 2 = and-mask w 1 in
-    let h : w / 2 ^ 48 % 2 ^ 16 ≡ w / 2 ^ 48 = omega arith in
-    omega arith
 
 bit-mask : (w : ℕ) → bitAnd w 2 ≡ w / 2 % 2 * 2
 bit-mask w = and-high w 1 1
@@ -62,20 +46,20 @@ module _ (set clear : ℕ) (S : Plain set) (C : Plain clear) where
       omega (arith, bit-mask (edited set clear w), bit-mask w)
 
   -- the flags of the edited word are the word's flags, edited
-  pub edited-plain : (w : ℕ) → w < 2 ^ 64 → plain (edited set clear w) ≡ edited set clear (plain w)
+  pub edited-plain : (w : ℕ) → w < 2 ^ 64 → plainFlags (edited set clear w) ≡ edited set clear (plainFlags w)
   unfolding edited
   edited-plain w wide =
-      sym (plain-mask (bitAnd (bitOr w set) (2 ^ 64 - 1 - clear)) (edited-wide w))
+      sym (mask-plain (bitAnd (bitOr w set) (2 ^ 64 - 1 - clear)) (edited-wide w))
       ∙ and-swap (bitOr w set) (2 ^ 64 - 1 - clear) 0xFFFF_0000_0000_0FFD
-      ∙ ap (λ (x : ℕ). bitAnd x (2 ^ 64 - 1 - clear)) (and-or w set 0xFFFF_0000_0000_0FFD ∙ ap₂ bitOr (plain-mask w wide) (plain-mask set (S .wide) ∙ flags-shown set S))
+      ∙ ap (λ (x : ℕ). bitAnd x (2 ^ 64 - 1 - clear)) (and-or w set 0xFFFF_0000_0000_0FFD ∙ ap₂ bitOr (mask-plain w wide) (mask-plain set (S .wide) ∙ flags-shown set S))
 
-  plain-odd : (w : ℕ) → plain w % 2 ≡ w % 2
-  unfolding plain
+  plain-odd : (w : ℕ) → plainFlags w % 2 ≡ w % 2
+  unfolding plainFlags
   plain-odd w = omega arith
 
-  pub edited-valid : (w : ℕ) → w < 2 ^ 64 → valid (edited set clear (plain w)) ≡ valid (edited set clear w)
+  pub edited-valid : (w : ℕ) → w < 2 ^ 64 → valid (edited set clear (plainFlags w)) ≡ valid (edited set clear w)
   edited-valid w wide =
-      valid-same (edited set clear (plain w)) (edited set clear w) (ap (λ (x : ℕ). x % 2) (sym (edited-plain w wide)) ∙ plain-odd (edited set clear w))
+      valid-same (edited set clear (plainFlags w)) (edited set clear w) (ap (λ (x : ℕ). x % 2) (sym (edited-plain w wide)) ∙ plain-odd (edited set clear w))
 
   -- an edited word is fine where the word was
   pub fine-edited : (left w : ℕ) → Fine left w → valid w ≡ true → Fine left (edited set clear w)

@@ -9,9 +9,9 @@ use lib.Bits.{and-le-r}
 use Rattle.laws.specs.Bit.{Sub}
 use Rattle.laws.specs.Size.{sizeAt}
 use Rattle.laws.specs.Test.{byBool, eq-or, le-or}
-use Rattle.entry.specs.Word.{flagsOf, addressOf}
+use Rattle.entry.specs.Word.{flagsOf, addressOf, valid, Plain, valid-yes, valid-no, flags-valid, flags-plain, plainFlags}
 use Rattle.tree.specs.Page.{span, span-pos, span-suc, span-zero, entry-rest, multiple-child, block-end}
-use Rattle.tree.specs.Word.{valid, frameOf, pageBit, leafWord, fillWord, Plain, valid-yes, valid-no, frame-below, flags-valid, flags-plain, flags-frame, leaf-hole, leaf-frame, leaf-bit, leaf-wide, flags-none, valid-none, plain, address-frame}
+use Rattle.tree.specs.Word.{frameOf, pageBit, leafWord, fillWord, frame-below, flags-frame, leaf-hole, leaf-frame, leaf-bit, leaf-wide, address-frame}
 
 -- A word, no table word, as it may stand in an entry with `left` levels below (document 01, "A pool is sound when", its third clause without the
 -- set of flags).
@@ -39,9 +39,6 @@ fine-flags left f F v =
       top = λ h. (o, z);
       page = λ h k. absurd (omega arith);
     }
-
-pub fine-zero : (left : ℕ) → Fine left 0
-fine-zero left = fine-flags left 0 (record { bits = flags-none; clear = omega arith; wide = omega arith }) (valid-none 0 (omega arith))
 
 -- a frame that is aligned to an entry of levels 1 to 3
 pub fine-leaf : (left p f : ℕ) → Plain f → p < 2 ^ 36 → p % span left ≡ 0 → left < 3 → Fine left (leafWord left p f)
@@ -99,19 +96,19 @@ module _ (left w : ℕ) (fine : Fine (suc left) w) where
       (λ v. fine-leaf left (frameOf w + i * span left) (flagsOf w) fill-flags (fill-below i h v) (fill-aligned i) (let l = fine-low v in omega arith))
       (λ v. let o = flags-valid w ∙ v in rw (leaf-hole (flagsOf w) fill-flags left (frameOf w + i * span left) o) (fine-flags left (flagsOf w) fill-flags o)))
 
-plain-wide : (w : ℕ) → plain w < 2 ^ 64 → w < 2 ^ 64
-unfolding plain
+plain-wide : (w : ℕ) → plainFlags w < 2 ^ 64 → w < 2 ^ 64
+unfolding plainFlags
 plain-wide w h = omega arith
 
 -- ---- what a sound pool's leaf is, clause by clause (document 01, "A pool is sound when"): flags only from the set (bit 1 apart), below 2^64; at
 -- levels 0 to 2 bit 1 is clear; at levels 1 and 2 the address is a multiple of the entry's size; at level 0 the word isn't valid and its address is 0;
 -- at level 3 a valid word has bit 1
-pub sound-fine : (set level w : ℕ) → level ≤ 3 → set < 2 ^ 64 → Sub (plain w) set → (level < 3 → w / 2 % 2 ≡ 0)
+pub sound-fine : (set level w : ℕ) → level ≤ 3 → set < 2 ^ 64 → Sub (plainFlags w) set → (level < 3 → w / 2 % 2 ≡ 0)
     → (1 ≤ level → level < 3 → addressOf w % sizeAt level ≡ 0) → (level ≡ 0 → (w % 2 ≡ 0) × (addressOf w ≡ 0)) → (level ≡ 3 → w % 2 ≡ 1 → w / 2 % 2 ≡ 1)
     → Fine (3 - level) w
 sound-fine set level w low small flags clear aligned top page =
     record {
-      wide = plain-wide w (omega (arith, and-le-r (plain w) set));
+      wide = plain-wide w (omega (arith, and-le-r (plainFlags w) set));
       clear = λ h. clear (omega arith);
       aligned = multiple (eq-or level 0) (eq-or level 3);
       top = λ h. let x = top (omega arith) in let f = address-frame w in (x .0, omega arith);

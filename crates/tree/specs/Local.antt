@@ -2,15 +2,15 @@
 -- Assumes nothing.
 use mathlib.Core.Path.{_≡_, refl, sym, ap, ap₂, _∙_}
 use mathlib.Core.Bool.{Bool, false, not, _&&_}
-use Prim.Native.Nat.{ℕ, zero, suc, _+_, _-_, _≤_, _<_, min, max}
+use Prim.Native.Nat.{ℕ, zero, suc, _+_, _≤_, _<_, min, max}
 use native.Mathlib.Omega.{arith}
 use lib.Dec.{eqb, eqb→eq, leb, ltb}
 use borrow.Author.Tests.{le-ltb, leb-true, leb-false, le-leb, lt-leb}
 use Rattle.laws.specs.Test.{byBool, same-test, eq→eqb}
-use Rattle.entry.specs.Word.{flagsOf}
+use Rattle.entry.specs.Word.{flagsOf, valid}
 use Rattle.forest.specs.Tree.{Tree, leaf, node, eachSlot}
 use Rattle.tree.specs.Page.{span, first, child, child-in}
-use Rattle.tree.specs.Word.{valid, frameOf, leafWord}
+use Rattle.tree.specs.Word.{frameOf, leafWord}
 use Rattle.tree.specs.Visit.{Rule, keep, opened, obey, visit, visit-keep}
 use Rattle.tree.specs.Slots.{each-same, fill-node, fillSlot}
 use Rattle.tree.specs.Rules.{Map, meets, whole, frameAt, same, fits, drops, mapRule, whole-yes, page-in, fits-yes, rule-off}

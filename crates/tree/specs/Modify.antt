@@ -5,19 +5,19 @@ use mathlib.Core.Bool.{true, false, cond}
 use Prim.Native.Nat.{ℕ, zero, suc, _+_}
 use native.Mathlib.Omega.{arith}
 use Rattle.laws.specs.Test.{byBool}
+use Rattle.entry.specs.Word.{valid, Plain, edited}
 use Rattle.forest.specs.Tree.{Tree, leaf, node}
 use Rattle.forest.specs.Nodes.{nodes}
 use Rattle.tree.specs.Page.{span-zero, first, In, in-from}
-use Rattle.tree.specs.Word.{valid, Plain}
 use Rattle.tree.specs.Fine.{Fine}
 use Rattle.tree.specs.Walk.{Seen, mapped, hole, seen, seenIn, seen-leaf, seen-fine}
 use Rattle.tree.specs.Visit.{Rule, keep, write, down, no-write, visitTable, madeTable}
 use Rattle.tree.specs.Count.{table-count, table-frees-none}
-use Rattle.tree.specs.Shown.{FineTree, FineTable, Good, Right, Shows, fine-table, seen-table}
+use Rattle.tree.specs.Shown.{FineTree, FineTable, Good, Right, Shows, seen-table}
 use Rattle.tree.specs.Rules.{Map, meets, whole, page-in}
 use Rattle.tree.specs.After.{covers, yes-covers, off-out, whole-in}
 use Rattle.tree.specs.Local.{Agree, Local, agree-meets, agree-whole}
-use Rattle.tree.specs.Edit.{edited, edited-frame, edited-plain, edited-valid, fine-edited}
+use Rattle.tree.specs.Edit.{edited-frame, edited-plain, edited-valid, fine-edited}
 
 -- a call of modify: the pages from `from` up to `upto`, the bits to set and to clear
 pub record Modify : Type 0 where
@@ -161,10 +161,6 @@ module _ (left r : ℕ) where
   -- the tables that it takes
   unfoldable pub modifyMade : Modify → Tree → ℕ
   modifyMade e t = madeTable (modifyRule (e .set) (e .clear) (pagesOf e)) left r t
-
-  pub modify-fine : (e : Modify) → GivenModify e → (t : Tree) → FineTable left t → FineTable left (modifyTree e t)
-  unfolding modifyTree
-  modify-fine e G t fine = fine-table (modify-shows (e .set) (e .clear) (G .set) (G .clear) (pagesOf e)) left r t fine
 
   pub modify-seen : (e : Modify) → GivenModify e → (t : Tree) → FineTable left t → (page : ℕ) → In (suc left) r page
       → seen (suc left) (modifyTree e t) page ≡ afterModify (e .set) (e .clear) (pagesOf e) page (seen (suc left) t page)

@@ -1,5 +1,5 @@
 -- The new tables that the document's loop takes, chunk by chunk (refusal 9's count), are those that the visit takes. Assumes nothing.
-use mathlib.Core.Path.{_≡_, refl, sym, ap, ap₂, _∙_}
+use mathlib.Core.Path.{_≡_, refl, sym, ap, ap₂, subst, _∙_}
 use mathlib.Core.Bool.{Bool, false, cond}
 use mathlib.Core.List.{List, [], _∷_}
 use mathlib.Core.Logic.{_⊎_, inl, inr, _≢_}
@@ -8,18 +8,18 @@ use native.Mathlib.Omega.{arith}
 use lib.Dec.{eqb}
 use borrow.Author.Tests.{eq-eqb, ne-eqb}
 use Rattle.laws.specs.Sum.{sum, sum-ext, sum-none, sum-add, sum-only}
-use Rattle.laws.specs.Test.{eq-or, le-or}
+use Rattle.laws.specs.Test.{le-or}
 use Rattle.region.specs.Region.{region, entryIndex, chunkEnd}
 use Rattle.region.specs.Chunks.{chunks, met, met-step, chunks-none, chunks-step}
 use Rattle.region.specs.declared.MemoryRegion.{MemoryRegion}
 use Rattle.forest.specs.Tree.{Tree, leaf, node}
-use Rattle.tree.specs.Page.{span, first, child, slotOf, slot-lt, child-order}
+use Rattle.tree.specs.Page.{span, first, child, slotOf, slot-lt}
 use Rattle.tree.specs.Visit.{Rule, fillTree, opened, splits, total, counted, made, madeTable}
 use Rattle.tree.specs.Slots.{fillSlot, fill-node}
 use Rattle.tree.specs.Rules.{Map, meets}
 use Rattle.tree.specs.Local.{Agree, Local, meets-no, agree-child, map-local}
 use Rattle.tree.specs.Chunks.{inPages, Inside, index-slot, Cut, cut}
-use Rattle.tree.specs.Sweep.{Says}
+use Rattle.tree.specs.Sweep.{Shares, nothing, chunk, rest, shares, Says}
 use Rattle.tree.specs.Document.{documentRule, document-says}
 use Rattle.tree.specs.Root.{mapMade}
 
@@ -93,56 +93,25 @@ module _ {rule : Map → ℕ → ℕ → Tree → Rule} (L : Local rule) (rules 
     none : (j : ℕ) → j ≢ i → only j ≡ 0
     none j other = rw (ne-eqb j i other)
 
-    before : (j : ℕ) → j < i → Slot j
-    before j l =
-        let b : ℕ = first left (child q j) in
-        let o = child-order left q j i l in
-        let k = c .chunk .low in
-        let m = c .more in
-        omega (
-          arith,
-          none j (λ h. omega arith),
-          made-off L (call z e (p + (z - s))) left (child q j) (f j) (meets-no left b (call z e (p + (z - s))) (omega arith)),
-          made-off L (call s e p) left (child q j) (f j) (meets-no left b (call s e p) (omega arith)),
-        )
-
-    here : Slot i
-    here =
-        let b : ℕ = first left (child q i) in
-        let n = c .ends in
-        let w = c .within in
+    here : meets left (first left (child q i)) (call z e (p + (z - s))) ≡ false → Agree left (first left (child q i)) (call s z p) (call s e p) → Slot i
+    here past same =
         let one : only i ≡ needed rules left (region s z) p (f i) = rw (eq-eqb i i refl) in
         omega (
           arith,
           one,
           counts (child q i) s z p (f i) low (c .more) (c .chunk),
-          made-off L (call z e (p + (z - s))) left (child q i) (f i) (meets-no left b (call z e (p + (z - s))) (omega arith)),
-          made-agree L (call s z p) (call s e p) left (child q i) (f i)
-              (record { starts = refl; stops = omega arith; frames = refl; sameFlags = refl; sameBlocks = refl }),
-        )
-
-    later : (j : ℕ) → i < j → Slot j
-    later j l =
-        let o = child-order left q i j l in
-        let n = c .ends in
-        let m = c .more in
-        let k = c .chunk .startPage in
-        let k′ = c .chunk .endPage in
-        let k″ = c .chunk .framePage in
-        omega (
-          arith,
-          none j (λ h. omega arith),
-          made-agree L (call z e (p + (z - s))) (call s e p) left (child q j) (f j)
-              (record { starts = omega arith; stops = refl; frames = omega arith; sameFlags = refl; sameBlocks = refl }),
+          made-off L (call z e (p + (z - s))) left (child q i) (f i) past,
+          made-agree L (call s z p) (call s e p) left (child q i) (f i) same,
         )
 
     slot : (j : ℕ) → Slot j
-    slot j = go (eq-or j i) (le-or i j)
+    slot j = go (shares flags blocks left q s e p z i c j)
       where
-        go : (j ≡ i) ⊎ (j ≢ i) → (i ≤ j) ⊎ (j < i) → Slot j
-        go (inl same) k = rw same here
-        go (inr other) (inl k) = later j (omega arith)
-        go (inr other) (inr k) = before j k
+        go : Shares flags blocks left q s e p z i j → Slot j
+        go (nothing other off past) =
+            omega (arith, none j other, made-off L (call z e (p + (z - s))) left (child q j) (f j) past, made-off L (call s e p) left (child q j) (f j) off)
+        go (chunk at past same) = subst Slot (sym at) (here past same)
+        go (rest other same) = omega (arith, none j other, made-agree L (call z e (p + (z - s))) (call s e p) left (child q j) (f j) same)
 
     table : i < 512 → madeTable (rule (call s e p)) left q (node f) ≡ needed rules left (region s z) p (f i) + madeTable (rule (call z e (p + (z - s)))) left q (node f)
     unfolding madeTable total

@@ -6,10 +6,10 @@ use mathlib.Core.Logic.{_↔_}
 use Prim.Native.Nat.{ℕ, suc, _+_, _-_, _≤_}
 use native.Mathlib.Omega.{arith}
 use Rattle.laws.specs.Test.{byBool}
+use Rattle.entry.specs.Word.{valid}
 use Rattle.forest.specs.Tree.{Tree}
 use Rattle.forest.specs.Nodes.{nodes}
 use Rattle.tree.specs.Page.{In}
-use Rattle.tree.specs.Word.{valid}
 use Rattle.tree.specs.Walk.{Seen, seen}
 use Rattle.tree.specs.Shown.{FineTable}
 use Rattle.tree.specs.Rules.{Map, Given}

@@ -5,11 +5,11 @@ use mathlib.Core.Bool.{true}
 use Prim.Native.Nat.{ℕ, zero, suc, _+_, _*_, _-_, _/_, _^_, _≤_, _<_}
 use native.Mathlib.Nat.{div-eq-of-lt}
 use native.Mathlib.Omega.{arith}
+use Rattle.entry.specs.Word.{valid}
 use Rattle.forest.specs.Tree.{Tree}
 use Rattle.forest.specs.Nodes.{nodes}
 use Rattle.laws.specs.Size.{sizeAt}
 use Rattle.tree.specs.Page.{span, span-size, span-suc, In}
-use Rattle.tree.specs.Word.{valid}
 use Rattle.tree.specs.Walk.{seen}
 use Rattle.tree.specs.Visit.{visitTable, madeTable, freedTable}
 use Rattle.tree.specs.Count.{table-count, table-frees-none}

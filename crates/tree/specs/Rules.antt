@@ -7,10 +7,10 @@ use native.Mathlib.Omega.{arith}
 use lib.Dec.{eqb, leb, ltb}
 use borrow.Author.Tests.{ltb-true, lt-ltb, leb-true, le-leb, eqb-true, eq-eqb, not-true}
 use Rattle.laws.specs.Test.{byBool, both}
-use Rattle.entry.specs.Word.{flagsOf}
+use Rattle.entry.specs.Word.{flagsOf, valid, Plain}
 use Rattle.forest.specs.Tree.{Tree, leaf, node}
 use Rattle.tree.specs.Page.{span, span-zero}
-use Rattle.tree.specs.Word.{valid, frameOf, leafWord, Plain}
+use Rattle.tree.specs.Word.{frameOf, leafWord}
 use Rattle.tree.specs.Visit.{Rule, keep, write, down, no-write}
 
 -- A call of map: the pages from `from` up to `upto`, to the frames from `frame` on, with the flags; `blocks` says that NO_BLOCK_MAPPINGS is unset.

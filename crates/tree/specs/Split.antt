@@ -9,17 +9,17 @@ use native.Mathlib.Omega.{arith}
 use borrow.Author.Tests.{lt-ltb}
 use Rattle.laws.specs.Size.{sizeAt, down}
 use Rattle.laws.specs.Test.{byBool, le-or}
-use Rattle.entry.specs.Word.{addressOf, flagsOf, address-pages}
+use Rattle.entry.specs.Word.{addressOf, flagsOf, address-pages, valid, valid-none, flags-valid, leafWord as written}
 use Rattle.region.specs.Region.{region}
 use Rattle.forest.specs.Tree.{Tree, leaf, node, node-ext}
 use Rattle.tree.specs.Page.{span, span-size, span-pos, first, child, child-in, child-first, entry-start}
-use Rattle.tree.specs.Word.{valid, frameOf, leafWord, fillWord, pageBit, address-frame, leaf-hole, valid-none, flags-none, flags-valid}
+use Rattle.tree.specs.Word.{frameOf, leafWord, fillWord, pageBit, address-frame, leaf-hole, flags-none}
 use Rattle.tree.specs.Fine.{Fine, fill-flags, fill-is, fill-aligned}
 use Rattle.tree.specs.Visit.{fillTree, visit, visitTable, visit-keep, visit-write}
 use Rattle.tree.specs.Slots.{slotAfter, each-node, slot-after, slot-past, fillSlot, fill-node, fill-slot, fill-past}
 use Rattle.tree.specs.Rules.{Map, meets, frameAt, same, fits, mapRule, yes-meets, yes-whole, same-yes, rule-page, rule-same, rule-block}
 use Rattle.tree.specs.Chunks.{Inside, chunkedTable}
-use Rattle.tree.specs.Document.{written, word-frames, documentRule, document-is}
+use Rattle.tree.specs.Document.{word-frames, documentRule, document-is}
 use Rattle.tree.specs.Root.{mapTree}
 
 -- the map that the split of the q-th entry runs, in pages

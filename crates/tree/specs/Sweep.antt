@@ -1,6 +1,6 @@
 -- The document's loop over chunks is a visit, for any rule that looks at an entry's own part of the region alone. Assumes nothing.
 use mathlib.Core.Path.{_≡_, refl, sym, ap, ap₂, subst, _∙_}
-use mathlib.Core.Bool.{Bool, cond}
+use mathlib.Core.Bool.{Bool, false, cond}
 use mathlib.Core.List.{List}
 use mathlib.Core.Logic.{_⊎_, inl, inr, _≢_}
 use Prim.Native.Nat.{ℕ, zero, suc, _+_, _-_, _/_, _≤_, _<_}
@@ -15,9 +15,40 @@ use Rattle.forest.specs.Tree.{Tree, leaf, node, node-ext, eachSlot}
 use Rattle.tree.specs.Page.{span, first, child, slotOf, slot-lt, child-order}
 use Rattle.tree.specs.Visit.{Rule, fillTree, opened, obey, visit, visitTable}
 use Rattle.tree.specs.Slots.{slotAfter, each-node, each-none, slot-after, slot-past, fillSlot, fill-node}
-use Rattle.tree.specs.Rules.{Map}
-use Rattle.tree.specs.Local.{Local, meets-no, visit-off, visit-agree}
+use Rattle.tree.specs.Rules.{Map, meets}
+use Rattle.tree.specs.Local.{Agree, Local, meets-no, visit-off, visit-agree}
 use Rattle.tree.specs.Chunks.{atSlot, sweep, chunked, chunkedTable, inPages, Inside, index-slot, Cut, cut}
+
+-- ---- a region of table q, cut into its first chunk, from s to z in slot i, and the rest
+
+-- what slot j has of it: nothing, the first chunk, or a part of the rest
+pub data Shares (flags : ℕ) (blocks : Bool) (left q s e p z i j : ℕ) : Type 0 where
+  nothing : j ≢ i → meets left (first left (child q j)) (inPages flags blocks s e p) ≡ false
+      → meets left (first left (child q j)) (inPages flags blocks z e (p + (z - s))) ≡ false → Shares flags blocks left q s e p z i j
+  chunk : j ≡ i → meets left (first left (child q i)) (inPages flags blocks z e (p + (z - s))) ≡ false
+      → Agree left (first left (child q i)) (inPages flags blocks s z p) (inPages flags blocks s e p) → Shares flags blocks left q s e p z i j
+  rest : j ≢ i → Agree left (first left (child q j)) (inPages flags blocks z e (p + (z - s))) (inPages flags blocks s e p) → Shares flags blocks left q s e p z i j
+
+pub shares : (flags : ℕ) (blocks : Bool) (left q s e p z i : ℕ) → Cut left q s e p z i → (j : ℕ) → Shares flags blocks left q s e p z i j
+shares flags blocks left q s e p z i c j = go (eq-or j i) (le-or i j)
+  where
+    go : (j ≡ i) ⊎ (j ≢ i) → (i ≤ j) ⊎ (j < i) → Shares flags blocks left q s e p z i j
+    go (inl at) k =
+        chunk at (meets-no left (first left (child q i)) (inPages flags blocks z e (p + (z - s))) (omega (arith, c .ends, c .within)))
+        (record { starts = refl; stops = omega (arith, c .ends); frames = refl; sameFlags = refl; sameBlocks = refl })
+    go (inr other) (inl k) =
+        let o = child-order left q i j (omega arith) in
+        rest other (record {
+          starts = omega (arith, c .ends, c .more);
+          stops = refl;
+          frames = omega (arith, c .more, c .chunk .startPage, c .chunk .endPage, c .chunk .framePage);
+          sameFlags = refl;
+          sameBlocks = refl;
+        })
+    go (inr other) (inr k) =
+        let o = child-order left q j i k in
+        nothing other (meets-no left (first left (child q j)) (inPages flags blocks s e p) (omega (arith, c .chunk .low)))
+        (meets-no left (first left (child q j)) (inPages flags blocks z e (p + (z - s))) (omega (arith, c .chunk .low, c .more)))
 
 module _ {rule : Map → ℕ → ℕ → Tree → Rule} (L : Local rule) (rules : ℕ → MemoryRegion → ℕ → Tree → Rule) (flags : ℕ) (blocks : Bool) where
   abbrev call : ℕ → ℕ → ℕ → Map
@@ -45,47 +76,25 @@ module _ {rule : Map → ℕ → ℕ → Tree → Rule} (L : Local rule) (rules 
     g-other : (j : ℕ) → j ≢ i → g j ≡ f j
     g-other j other = rw (ne-eqb j i other)
 
-    before : (j : ℕ) → j < i → Slot j
-    before j l =
-        let b : ℕ = first left (child q j) in
-        let o = child-order left q j i l in
-        let k = c .chunk .low in
-        let m = c .more in
-        ap (visit (rule (call z e (p + (z - s)))) left (child q j)) (g-other j (λ h. omega arith))
-        ∙ visit-off L (call z e (p + (z - s))) left (child q j) (f j) (meets-no left b (call z e (p + (z - s))) (omega arith))
-        ∙ sym (visit-off L (call s e p) left (child q j) (f j) (meets-no left b (call s e p) (omega arith)))
-
-    here : Slot i
-    here =
-        let b : ℕ = first left (child q i) in
-        let n = c .ends in
-        let w = c .within in
+    here : meets left (first left (child q i)) (call z e (p + (z - s))) ≡ false → Agree left (first left (child q i)) (call s z p) (call s e p) → Slot i
+    here past same =
         ap (visit (rule (call z e (p + (z - s)))) left (child q i)) (let h : g i ≡ chunked rules left (region s z) p (f i) = rw (eq-eqb i i refl) in h)
-        ∙ visit-off L (call z e (p + (z - s))) left (child q i) _ (meets-no left b (call z e (p + (z - s))) (omega arith))
+        ∙ visit-off L (call z e (p + (z - s))) left (child q i) _ past
         ∙ does (child q i) s z p (f i) low (c .more) (c .chunk)
-        ∙ visit-agree L (call s z p) (call s e p) left (child q i) (f i)
-        (record { starts = refl; stops = omega arith; frames = refl; sameFlags = refl; sameBlocks = refl })
-
-    later : (j : ℕ) → i < j → Slot j
-    later j l =
-        let b : ℕ = first left (child q j) in
-        let o = child-order left q i j l in
-        let n = c .ends in
-        let m = c .more in
-        let k = c .chunk .startPage in
-        let k′ = c .chunk .endPage in
-        let k″ = c .chunk .framePage in
-        ap (visit (rule (call z e (p + (z - s)))) left (child q j)) (g-other j (λ h. omega arith))
-        ∙ visit-agree L (call z e (p + (z - s))) (call s e p) left (child q j) (f j)
-        (record { starts = omega arith; stops = refl; frames = omega arith; sameFlags = refl; sameBlocks = refl })
+        ∙ visit-agree L (call s z p) (call s e p) left (child q i) (f i) same
 
     slot : (j : ℕ) → Slot j
-    slot j = go (eq-or j i) (le-or i j)
+    slot j = go (shares flags blocks left q s e p z i c j)
       where
-        go : (j ≡ i) ⊎ (j ≢ i) → (i ≤ j) ⊎ (j < i) → Slot j
-        go (inl same) k = subst Slot (sym same) here
-        go (inr other) (inl k) = later j (omega arith)
-        go (inr other) (inr k) = before j k
+        go : Shares flags blocks left q s e p z i j → Slot j
+        go (nothing other off past) =
+            ap (visit (rule (call z e (p + (z - s)))) left (child q j)) (g-other j other)
+            ∙ visit-off L (call z e (p + (z - s))) left (child q j) (f j) past
+            ∙ sym (visit-off L (call s e p) left (child q j) (f j) off)
+        go (chunk at past same) = subst Slot (sym at) (here past same)
+        go (rest other same) =
+            ap (visit (rule (call z e (p + (z - s)))) left (child q j)) (g-other j other)
+            ∙ visit-agree L (call z e (p + (z - s))) (call s e p) left (child q j) (f j) same
 
     -- the whole table
     table : i < 512 → visitTable (rule (call z e (p + (z - s)))) left q (node g) ≡ visitTable (rule (call s e p)) left q (node f)

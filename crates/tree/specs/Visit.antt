@@ -1,6 +1,6 @@
 -- A visit of a tree: a rule says for each entry that it meets whether the entry is kept, written, or gone down into, where a split comes first if there
 -- is no table. Map and modify are visits. Assumes nothing.
-use mathlib.Core.Path.{_≡_}
+use mathlib.Core.Path.{_≡_, refl}
 use mathlib.Core.Bool.{Bool, true, false, cond}
 use Prim.Native.Nat.{ℕ, zero, suc, _+_}
 use native.Mathlib.Omega.{arith}
@@ -32,6 +32,14 @@ fillTree left w = node (λ i. cond (ltb i 512) (leaf (fillWord left w i)) (leaf 
 unfoldable pub opened : ℕ → Tree → Tree
 opened left (leaf w) = fillTree left w
 opened left (node f) = node f
+
+pub opens-leaf : (left w : ℕ) → opened left (leaf w) ≡ fillTree left w
+unfolding opened
+opens-leaf left w = refl
+
+pub opens-node : (left : ℕ) (f : ℕ → Tree) → opened left (node f) ≡ node f
+unfolding opened
+opens-node left f = refl
 
 -- the tables that opening makes
 unfoldable pub splits : Tree → ℕ

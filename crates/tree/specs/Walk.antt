@@ -7,13 +7,13 @@ use Prim.Native.Nat.{ℕ, zero, suc, _+_, _*_, _-_, _/_, _%_, _^_, _<_}
 use native.Mathlib.Nat.{div-add-mod'}
 use native.Mathlib.Omega.{arith}
 use Rattle.laws.specs.Test.{byBool, eq-or}
-use Rattle.entry.specs.Word.{kindOf, flagsOf, kind-page, kind-block, kind-clear}
+use Rattle.entry.specs.Word.{kindOf, flagsOf, kind-page, kind-block, kind-clear, valid, plainFlags, Plain, flags-valid, valid-of, valid-none}
 use Rattle.entry.specs.declared.Kind.{Kind}
 use Rattle.entry.specs.declared.Kind.the-variants.{Table, Block, Page, Hole}
 use Rattle.forest.specs.Tree.{Tree, leaf, node}
 use Rattle.forest.specs.Walk.{walkTree}
 use Rattle.tree.specs.Page.{span, slotOf, slot-lt, rest-child}
-use Rattle.tree.specs.Word.{valid, frameOf, plain, leafWord, fillWord, Plain, flags-valid, flags-shown, plain-flags, leaf-hole, leaf-frame, leaf-plain, leaf-true, valid-of, valid-none}
+use Rattle.tree.specs.Word.{frameOf, leafWord, fillWord, flags-shown, plain-flags, leaf-hole, leaf-frame, leaf-plain, leaf-true}
 use Rattle.tree.specs.Fine.{Fine, fine-flags, fine-leaf, fine-low, fill-flags, fill-is, fill-below, fill-aligned}
 
 -- what a page shows, which is what "as before" compares: flags without bit 1 and frame (its address / 4096), or a hole with its flags
@@ -35,7 +35,7 @@ framed Hole = false
 -- a word in an entry with `left` levels below, read for a page: "the entry's address, cleared below the entry's size, plus the page's offset"
 unfoldable pub seenIn : ℕ → ℕ → ℕ → Seen
 seenIn left w page =
-    cond (framed (kindOf (3 - left) w)) (mapped (plain w) (frameOf w / span left * span left + page % span left)) (hole (plain w))
+    cond (framed (kindOf (3 - left) w)) (mapped (plainFlags w) (frameOf w / span left * span left + page % span left)) (hole (plainFlags w))
 
 -- the walk to a page, from a tree that stands in an entry with `left` levels below
 unfoldable pub walk : ℕ → Tree → ℕ → Answer
@@ -84,7 +84,7 @@ fine-framed left w fine = go (eq-or (w % 4) 3) (eq-or (w % 4) 1)
     go (inr a) (inr b) = rw (kind-clear (3 - left) w a b) (sym (valid-none w (omega arith)))
 
 pub seen-fine : (left w page : ℕ) → Fine left w
-    → seenIn left w page ≡ cond (valid w) (mapped (plain w) (frameOf w + page % span left)) (hole (plain w))
+    → seenIn left w page ≡ cond (valid w) (mapped (plainFlags w) (frameOf w + page % span left)) (hole (plainFlags w))
 unfolding seenIn
 seen-fine left w page fine =
     let whole : frameOf w / span left * span left ≡ frameOf w = omega (arith, div-add-mod' (frameOf w) (span left), fine .aligned) in

@@ -1,26 +1,16 @@
 -- Words in the entries of a tree: frame, flags, what a map writes, what a split fills.
 -- Assumes nothing.
 use mathlib.Core.Path.{_≡_, refl, ap, _∙_}
-use mathlib.Core.Bool.{Bool, true, false, cond}
-use Prim.Native.Nat.{ℕ, zero, suc, _+_, _*_, _-_, _/_, _%_, _^_, _<_}
+use mathlib.Core.Bool.{true, false, cond}
+use Prim.Native.Nat.{ℕ, zero, suc, _+_, _*_, _/_, _%_, _^_, _<_}
 use native.Mathlib.Nat.{add-zero}
 use native.Mathlib.Omega.{arith}
-use lib.Dec.{eqb}
-use borrow.Author.Tests.{eqb-true, eqb-false, eq-eqb}
-use Rattle.entry.specs.Word.{flagsOf, addressOf, address-back, flags-back}
+use Rattle.entry.specs.Word.{flagsOf, addressOf, address-back, flags-back, Plain, valid, plainFlags, valid-same, flags-low}
 use Rattle.tree.specs.Page.{span}
-
--- bit 0: VALID
-unfoldable pub valid : ℕ → Bool
-valid f = eqb (f % 2) 1
 
 -- the frame that a word names: bits 12 to 47, the address / 4096
 unfoldable pub frameOf : ℕ → ℕ
 frameOf w = w / 4096 % 2 ^ 36
-
--- the flags without bit 1
-unfoldable pub plain : ℕ → ℕ
-plain w = w % 2 + w / 4 % 1024 * 4 + w / 2 ^ 48 * 2 ^ 48
 
 -- a page has bit 1, a block hasn't
 unfoldable pub pageBit : ℕ → ℕ
@@ -34,34 +24,6 @@ leafWord left frame flags = cond (valid flags) (frame * 4096 + flags + pageBit l
 -- rule 5: what a split of the word w writes in slot i of the new table, whose entries have `left` levels below
 unfoldable pub fillWord : ℕ → ℕ → ℕ → ℕ
 fillWord left w i = leafWord left (frameOf w / span (suc left) * span (suc left) + i * span left) (flagsOf w)
-
--- flags that a call may give (refusals 3 and 4): no bit of the address, bit 1 clear
-pub record Plain (f : ℕ) : Type 0 where
-  pub bits : flagsOf f ≡ f
-  pub clear : f / 2 % 2 ≡ 0
-  pub wide : f < 2 ^ 64
-
--- ---- tests
-
-pub valid-yes : (f : ℕ) → valid f ≡ true → f % 2 ≡ 1
-unfolding valid
-valid-yes f e = eqb-true (f % 2) 1 e
-
-pub valid-no : (f : ℕ) → valid f ≡ false → f % 2 ≡ 0
-unfolding valid
-valid-no f e = let n = eqb-false (f % 2) 1 e in omega arith
-
-pub valid-of : (f : ℕ) → f % 2 ≡ 1 → valid f ≡ true
-unfolding valid
-valid-of f e = eq-eqb (f % 2) 1 e
-
-pub valid-none : (f : ℕ) → f % 2 ≡ 0 → valid f ≡ false
-unfolding valid
-valid-none f e = rw e
-
-pub valid-same : (f g : ℕ) → f % 2 ≡ g % 2 → valid f ≡ valid g
-unfolding valid
-valid-same f g e = ap (λ (x : ℕ). eqb x 1) e
 
 -- ---- frames and flags of a word
 
@@ -81,36 +43,19 @@ frame-address : (w p : ℕ) → addressOf w ≡ p * 4096 → frameOf w ≡ p
 unfolding addressOf frameOf
 frame-address w p e = omega arith
 
--- a word is its frame and its flags
-pub same-word : (w x : ℕ) → frameOf w ≡ frameOf x → flagsOf w ≡ flagsOf x → w ≡ x
-same-word w x f g = let a = frame-and-flags w in let b = frame-and-flags x in omega arith
-
 pub flags-none : flagsOf 0 ≡ 0
 unfolding flagsOf
 flags-none = refl
 
-pub flags-valid : (w : ℕ) → valid (flagsOf w) ≡ valid w
-unfolding flagsOf
-flags-valid w = valid-same (flagsOf w) w (omega arith)
-
--- the flags of a word without bit 1 are flags that a call may give
-pub flags-plain : (w : ℕ) → w < 2 ^ 64 → w / 2 % 2 ≡ 0 → Plain (flagsOf w)
-unfolding flagsOf
-flags-plain w wide clear = record { bits = omega arith; clear = omega arith; wide = omega arith }
-
-pub flags-low : (w : ℕ) → flagsOf w % 4 ≡ w % 4
-unfolding flagsOf
-flags-low w = omega arith
-
-plain-bit : (w : ℕ) → plain w + w / 2 % 2 * 2 ≡ flagsOf w
-unfolding plain flagsOf
+plain-bit : (w : ℕ) → plainFlags w + w / 2 % 2 * 2 ≡ flagsOf w
+unfolding plainFlags flagsOf
 plain-bit w =
     let a : w % 4096 ≡ w / 4 % 1024 * 4 + w % 4 = omega arith in
     let b : w % 4 ≡ w / 2 % 2 * 2 + w % 2 = omega arith in
     omega arith
 
-pub plain-flags : (w : ℕ) → w / 2 % 2 ≡ 0 → plain w ≡ flagsOf w
-unfolding plain flagsOf
+pub plain-flags : (w : ℕ) → w / 2 % 2 ≡ 0 → plainFlags w ≡ flagsOf w
+unfolding plainFlags flagsOf
 plain-flags w clear = omega arith
 
 -- flags with bit 1 set are flags still
@@ -136,7 +81,7 @@ module _ (f : ℕ) (F : Plain f) where
   pub flags-frame : frameOf f ≡ 0
   flags-frame = omega (arith, F .bits, frame-and-flags f)
 
-  pub flags-shown : plain f ≡ f
+  pub flags-shown : plainFlags f ≡ f
   flags-shown = plain-flags f (F .clear) ∙ F .bits
 
   pub leaf-hole : (left p : ℕ) → valid f ≡ false → leafWord left p f ≡ f
@@ -177,7 +122,7 @@ module _ (f : ℕ) (F : Plain f) where
         go zero w g l = omega (arith, F .clear)
         go (suc k) w g l = omega (arith, F .clear)
 
-    pub leaf-plain : plain (leafWord left p f) ≡ f
+    pub leaf-plain : plainFlags (leafWord left p f) ≡ f
     leaf-plain = omega (arith, plain-bit (leafWord left p f), leaf-flags, leaf-bit, bit-even left)
 
     -- it is valid

@@ -7,10 +7,10 @@ use lib.Dec.{eqb, eqb→eq}
 use lib.ListN.{getD}
 use Rattle.laws.specs.Test.{is-false, same-test, eq→eqb}
 use Rattle.entry.specs.Word.{linkOf, link-fits}
-use Rattle.pool.specs.State.{St, st, numberAt, wordAt}
+use Rattle.pool.specs.State.{St, st, numberAt, wordAt, used-in}
 use Rattle.pool.specs.Number.{parentOf, slotOf}
-use Rattle.pool.specs.Sound.{hangsb}
-use Rattle.checker.specs.Named.{Hangs, hangs-to, hangs-of, names-to, names-of, used-in}
+use Rattle.pool.specs.Sound.{hangsb, names-says, says-names}
+use Rattle.checker.specs.Named.{Hangs, hangs-to, hangs-of}
 use Rattle.checker.proofs.hangs.Statement.{statement}
 use Rattle.checker.proofs.hangs.Tie as tie
 use Rattle.checker.proofs.hangs.Reads as reads
@@ -54,13 +54,13 @@ cast-number c = omega (arith, c .shared-slice-known3 .given (c .before .before .
 returns : tie.Need-returns
 returns c =
     let a = c .before .before .before .before .args in
-    no-hang (a .handle .base .0) (st (a .words .now) (a .ledger .now)) (a .k) (λ p. omega (arith, names-to _ (p .named) .kind))
+    no-hang (a .handle .base .0) (st (a .words .now) (a .ledger .now)) (a .k) (λ p. omega (arith, names-says _ (p .named) .kind))
 
 -- src/check.rt:127:9
 returns-2 : tie.Need-returns-2
 returns-2 c =
     let a = c .before .before .before .before .before .args in
-    no-hang (a .handle .base .0) (st (a .words .now) (a .ledger .now)) (a .k) (λ p. omega (arith, names-to _ (p .named) .some))
+    no-hang (a .handle .base .0) (st (a .words .now) (a .ledger .now)) (a .k) (λ p. omega (arith, names-says _ (p .named) .some))
 
 -- src/check.rt:129:14
 sub-at : tie.Need-sub-at
@@ -121,7 +121,7 @@ returns-6 c =
     let at : 512 * parentOf x + slotOf x ≡ x / 8 - 1 = omega arith in
     last-part (a .handle .base .0) s (a .k) (getD (a .words .now) (x / 8 - 1) 0) (c .link .result)
     (λ e. record {
-      named = names-of x (record { kind = omega arith; some = omega arith });
+      named = says-names x (record { kind = omega arith; some = omega arith });
       deeper = c .before .before .if5 .left ∙ add-one _;
       parent = pos (c .before .before .before .if4 .left);
       says = ap (λ (j : ℕ). getD (a .words .now) j 0) at ∙ e ∙ linked c;

@@ -2,8 +2,8 @@ use mathlib.Core.Path.{_≡_, sym, _∙_}
 use Prim.Native.Nat.{ℕ, _-_, _/_}
 use native.Mathlib.Omega.{arith}
 use Rattle.laws.specs.Size.{sizeAt}
-use Rattle.region.specs.Chunks.{met-none, met-most}
-use Rattle.need.specs.CountLaws.{met-order, met-is}
+use Rattle.region.specs.Chunks.{met-none, met-most, met-some}
+use Rattle.need.specs.CountLaws.{met-order}
 use Rattle.need.proofs.entries_met.Statement.{statement}
 use Rattle.need.proofs.entries_met.Tie as tie
 use Rattle.need.proofs.entries_met.Reads as reads
@@ -32,11 +32,11 @@ sub-result c = let a = c .before .before .before .args in omega (arith, met-orde
 
 -- src/lib.rt:39:5
 add-result : tie.Need-add-result
-add-result c = let a = c .before .before .before .args in omega (arith, met-is (a .level) (a .start) (a .end) (omega arith), met-most (a .level) (a .start) (a .end), c .before .entry-number .ensures, c .entry-number2 .ensures)
+add-result c = let a = c .before .before .before .args in omega (arith, met-some (a .level) (a .start) (a .end) (omega arith), met-most (a .level) (a .start) (a .end), c .before .entry-number .ensures, c .entry-number2 .ensures)
 
 -- src/lib.rt:33:1
 returns-2 : tie.Need-returns-2
-returns-2 c = let a = c .before .before .before .args in omega (arith, met-is (a .level) (a .start) (a .end) (omega arith), c .before .entry-number .ensures, c .entry-number2 .ensures)
+returns-2 c = let a = c .before .before .before .args in omega (arith, met-some (a .level) (a .start) (a .end) (omega arith), c .before .entry-number .ensures, c .entry-number2 .ensures)
 
 pub entries-met-spec : {M : Type 1} → statement M
 entries-met-spec =

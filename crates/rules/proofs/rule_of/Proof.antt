@@ -2,9 +2,9 @@ use mathlib.Core.Path.{_≡_, sym, ap, _∙_}
 use Prim.Native.Nat.{_%_, _^_, _<_}
 use native.Mathlib.Omega.{arith}
 use borrow.Author.Tests.{not-true, not-false}
+use Rattle.entry.specs.Word.{Plain}
+use Rattle.region.specs.Region.{whole}
 use Rattle.rules.specs.declared.Rule.the-variants.{Write}
-use Rattle.rules.specs.Rules.{whole}
-use Rattle.rules.specs.Fit.{Plain}
 use Rattle.rules.specs.Laws.{rule-page, rule-keep, rule-part, rule-drop, rule-into, rule-block, rule-split}
 use borrow.Author.Needs.{needs}
 use Rattle.rules.proofs.rule_of.Statement.{statement}

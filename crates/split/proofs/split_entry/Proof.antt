@@ -4,11 +4,10 @@ use native.Mathlib.Omega.{arith}
 use lib.Bits.{bitAnd}
 use lib.ListN.{getD}
 use Rattle.laws.specs.Size.{sizeAt, size-pos, size-low, size-step, size-room, size-down, down, down-paged}
-use Rattle.entry.specs.Word.{addressOf, flagsOf, address-below, mask-address}
+use Rattle.entry.specs.Word.{addressOf, flagsOf, address-below, mask-address, leafWord, Plain, flags-plain}
 use Rattle.pool.specs.State.{st, wordAt}
 use Rattle.table.specs.Table.{rising}
-use Rattle.rules.specs.Rules.{leafWord}
-use Rattle.rules.specs.Fit.{Plain, flags-plain, leaf-most, steps-fit}
+use Rattle.rules.specs.Fit.{leaf-most, steps-fit}
 use Rattle.rules.specs.Laws.{fill-hole, fill-leaf}
 use Rattle.split.specs.Split.{split-is}
 use Rattle.split.proofs.split_entry.Statement.{statement}
@@ -52,7 +51,7 @@ cleared c =
 
 -- its flags
 plain : (c : tie.After-granularity-at-level) → Plain (flagsOf (word c))
-plain c = let a = c .before .before .before .before .before .before .args in flags-plain (word c) (c .before .before .before .slice-known3 .given (512 * a .k + a .i) .fits) (c .before .if1 .left) (c .before .before .before .before .before .before .pre .4)
+plain c = let a = c .before .before .before .before .before .before .args in flags-plain (word c) (c .before .before .before .slice-known3 .given (512 * a .k + a .i) .fits) (omega (arith, c .before .if1 .left, c .before .before .before .before .before .before .pre .4))
 
 -- the new table's first word
 first : (c : tie.After-leaf-word) → let w = word (c .before) in let level = c .before .before .before .before .before .before .before .args .level in c .leaf-word .result ≡ leafWord (level + 1) (down (addressOf w) (sizeAt level)) (flagsOf w)

@@ -1,10 +1,9 @@
 use mathlib.Core.Path.{_≡_, refl, sym, ap, _∙_}
 use Prim.Native.Nat.{_+_, _*_, _-_, _^_, _≤_}
 use native.Mathlib.Omega.{arith}
-use Rattle.region.specs.Region.{region}
+use Rattle.region.specs.Region.{region, whole}
 use Rattle.region.specs.Chunks.{chunk-fits}
 use Rattle.edit.specs.Each.{eachChunk, each-done, each-step}
-use Rattle.rules.specs.Rules.{whole}
 use Rattle.survey.specs.Find.{adding, adding-is, splitsIn, splits-page, splits-whole, splits-part, whole-is}
 use Rattle.survey.specs.Room.{splits-most}
 use Prim.Native.Nat.{ℕ, _<_}

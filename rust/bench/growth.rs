@@ -1,5 +1,5 @@
-// What check, look up, list and map cost as the pool grows: a table for n = 8, 64, 512 and 4,096, and a plot of it, log-log, as SVG, in the file that the argument names.
-// Every table is in use: a root of level 1, as few level 2 tables as the others need, and all others of level 3 and full of pages. Run it by growth.sh.
+// What check, look up, list, map, modify and compact cost as the pool grows: a table for n = 8, 64, 512 and 4,096, and a plot of it, log-log, as SVG, in the file that the
+// argument names. Every table is in use: a root of level 1, as few level 2 tables as the others need, and all others of level 3 and full of pages. Run it by growth.sh.
 mod clock;
 mod pool;
 
@@ -10,7 +10,8 @@ use std::hint::black_box;
 
 const SIZES: [usize; 4] = [8, 64, 512, 4096];
 const PAGE: u64 = 4096;
-const KINDS: usize = 6;
+const KINDS: usize = 8;
+const READ_ONLY: u64 = 0x80;
 
 // Name, colour, width and dashes in the plot: where lines lie on each other, all are seen.
 const LINES: [(&str, &str, f64, &str); KINDS] = [
@@ -20,6 +21,8 @@ const LINES: [(&str, &str, f64, &str); KINDS] = [
     ("list of one page", "#9467bd", 3.0, "6 6"),
     ("list of all", "#d62728", 2.0, "none"),
     ("map of one page", "#000000", 1.0, "none"),
+    ("modify of one page", "#ff7f0e", 3.0, "3 9"),
+    ("compact, nothing empty", "#8c564b", 2.0, "8 3"),
 ];
 
 // Seconds of each kind of call, by medians of runs that take turns, and the lines of the list of all.
@@ -34,6 +37,8 @@ fn measure(n: usize) -> ([f64; KINDS], usize) {
     // The page of the last of them; its frame changes at every turn.
     let page = *pages.last().unwrap();
     let mut map = Map { start: page, end: page + PAGE, frame: 0, flags: FLAGS, constraints: 0 };
+    // Another page's; one modify sets this bit, the next one clears it.
+    let (edited, mut bit) = (pages[0], 0);
     let (runs, turns) = if n > 512 { (31, 1) } else { (101, 8) };
     let times = in_turns(runs, |which| {
         // Each comes after a check, which brings the pool near.
@@ -44,10 +49,15 @@ fn measure(n: usize) -> ([f64; KINDS], usize) {
             2 => timed(turns, || pages.iter().fold(0, |sum, &va| sum ^ black_box(&pool).look_up(black_box(va)).1[3])) / pages.len() as f64,
             3 => timed(turns, || assert_eq!(black_box(&pool).list(page, page + PAGE, &mut lines[..4]), (0, [1, !0, !0, !0]))),
             4 => timed(1, || assert_eq!(black_box(&pool).list(0, pool.span(), &mut lines).0, 0)),
-            _ => timed(turns, || {
+            5 => timed(turns, || {
                 map.frame ^= PAGE;
                 assert_eq!(black_box(&mut pool).map(&map), (0, [n as u64, !0, !0, !0]));
             }),
+            6 => timed(turns, || {
+                bit ^= READ_ONLY;
+                assert_eq!(black_box(&mut pool).modify(edited, edited + PAGE, bit, bit ^ READ_ONLY), (0, [n as u64, !0, !0, !0]));
+            }),
+            _ => timed(turns, || assert_eq!(black_box(&mut pool).compact(), (0, [n as u64, !0, !0, !0]))),
         }
     });
     (times, lines.len() / 4)

@@ -148,8 +148,19 @@ pub struct Pool {
     pub lost_fill: bool,
     // Not written by any hand but the model's since it was made, so that it need not be looked through again.
     pub trusted: bool,
+    pub met: Met,
+}
+
+// What accepted calls met, for those who count it, by the level where it was.
+#[derive(Clone, Copy, Default)]
+pub struct Met {
     // Chunks that the maps put down, by the rule that fits.
-    pub by_rule: [u64; 5],
+    pub chunks: [[u64; 5]; 4],
+    // Entries that were split: those with nothing in them, with flags or an address alone, blocks.
+    pub splits: [[u64; 3]; 4],
+    pub freed: [u64; 4],
+    // Words that a modify changed.
+    pub changed: [u64; 4],
 }
 
 fn round_down(address: u64) -> u64 {
@@ -184,7 +195,7 @@ fn bad_region(handle: Handle, start: u64, end: u64) -> Option<Answer> {
 
 impl Pool {
     pub fn of(words: Vec<u64>, ledger: Vec<u32>, handle: Handle) -> Pool {
-        Pool { words, ledger, handle, lost_fill: false, trusted: false, by_rule: [0; 5] }
+        Pool { words, ledger, handle, lost_fill: false, trusted: false, met: Met::default() }
     }
 
     pub fn make(n: usize, handle: Handle) -> Pool {
@@ -325,6 +336,7 @@ impl Pool {
     fn split(&mut self, place: usize, level: u64, to: u64) -> usize {
         let word = self.words[place];
         self.lost_fill |= word != 0 && to | (size(level) - 1) == u64::MAX;
+        self.met.splits[level as usize][if is_leaf(level, word) { 2 } else { (word != 0) as usize }] += 1;
         let k = self.ledger.iter().position(|&number| number == 0).expect("counted before");
         for slot in 0..SLOTS as u64 {
             let inside = at(k, slot);
@@ -345,6 +357,7 @@ impl Pool {
         }
         self.words[SLOTS * table..SLOTS * (table + 1)].fill(0);
         self.ledger[table] = 0;
+        self.met.freed[level as usize] += 1;
     }
 
     // Tables that a map needs below one entry.
@@ -372,20 +385,20 @@ impl Pool {
             let place = at(table, slot_of(level, first));
             let word = self.words[place];
             if level == 3 {
-                self.by_rule[0] += 1;
+                self.met.chunks[level as usize][0] += 1;
                 self.words[place] = if map.valid() { frame + map.flags + BIT_1 } else { map.flags };
             } else if map.already(level, word, first, frame) {
-                self.by_rule[1] += 1;
+                self.met.chunks[level as usize][1] += 1;
             } else if map.block(level, word, first, last, frame) {
-                self.by_rule[2] += 1;
+                self.met.chunks[level as usize][2] += 1;
                 self.words[place] = if map.valid() { frame + map.flags } else { map.flags };
             } else if map.unhang(level, word, first, last) {
-                self.by_rule[3] += 1;
+                self.met.chunks[level as usize][3] += 1;
                 let below = self.table_of(word).unwrap();
                 self.words[place] = map.flags;
                 self.free(below, level + 1);
             } else {
-                self.by_rule[4] += 1;
+                self.met.chunks[level as usize][4] += 1;
                 let below = if is_table(level, word) { self.table_of(word).unwrap() } else { self.split(place, level, last) };
                 self.put(map, below, level + 1, first, last, frame);
             }
@@ -546,6 +559,7 @@ impl Pool {
                 let below = if is_table(level, word) { self.table_of(word).unwrap() } else { self.split(place, level, last) };
                 self.change(modify, below, level + 1, first, last, list);
             } else if is_leaf(level, word) && modify.word(word) != word {
+                self.met.changed[level as usize] += 1;
                 self.words[place] = modify.word(word);
                 own.push(first / PAGE % (1 << 44));
             }
@@ -619,6 +633,7 @@ impl Pool {
                 if self.squeeze(below, level + 1) {
                     self.words[place] = 0;
                     self.ledger[below] = 0;
+                    self.met.freed[level as usize + 1] += 1;
                 }
             }
         }

@@ -166,8 +166,8 @@ impl Run {
         }
         let expected = on_both(&mut self.ours, &mut self.model, call)?;
         counts.answers[kind(call)][expected.0 as usize] += 1;
-        for (sum, chunks) in counts.by_rule.iter_mut().zip(std::mem::take(&mut self.model.by_rule)) {
-            *sum += chunks;
+        for by_level in std::mem::take(&mut self.model.met).chunks {
+            counts.by_rule.iter_mut().zip(by_level).for_each(|(sum, chunks)| *sum += chunks);
         }
         same("ledger against the words", &self.model.ledger, &self.model.ledger_of_words()?)?;
         same("check", face::check(&mut self.ours), answer(0, &[]))?;

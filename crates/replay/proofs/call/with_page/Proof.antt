@@ -1,0 +1,59 @@
+-- `with_page`: the part that it lends lies within the page. Assumes nothing.
+use native.Mathlib.Omega.{arith}
+use lib.ListN.{length-take}
+use Rattle.replay.proofs.call.with_page.Statement.{statement}
+use Rattle.replay.proofs.call.with_page.Tie as tie
+use Rattle.replay.proofs.call.with_page.Reads as reads
+use Rattle.replay.proofs.call.with_page.Lts as lts
+use Rattle.replay.proofs.call.image.Reads as image-reads
+use Rattle.replay.proofs.call.plain.Reads as plain-reads
+
+-- src/call.rt:159:18
+element-copy-out-length : tie.Need-element-copy-out-length
+element-copy-out-length c = omega arith
+
+-- src/call.rt:161:9
+plain-requires : tie.Need-plain-requires
+plain-requires c κs = tt
+
+-- src/call.rt:161:9
+returns : tie.Need-returns
+returns c = tt
+
+-- src/call.rt:163:32
+element-copy-out-image : tie.Need-element-copy-out-image
+element-copy-out-image c = omega arith
+
+-- src/call.rt:163:44
+slice-relend-prefix-image : tie.Need-slice-relend-prefix-image
+slice-relend-prefix-image c = omega arith
+
+-- src/call.rt:163:44
+slice-aggregate-image : tie.Need-slice-aggregate-image
+slice-aggregate-image c = simp length-take (omega arith)
+
+-- src/call.rt:163:5
+image-requires : tie.Need-image-requires
+image-requires c κs = tt
+
+-- src/call.rt:151:1
+same-length : tie.Need-same-length
+same-length c = omega arith
+
+-- src/call.rt:151:1
+returns-2 : tie.Need-returns-2
+returns-2 c = tt
+
+pub with-page-spec : {M : Type 1} → statement M
+with-page-spec =
+    tie.close
+    (tie.spec
+    element-copy-out-length
+    plain-requires
+    returns
+    element-copy-out-image
+    slice-relend-prefix-image
+    slice-aggregate-image
+    image-requires
+    same-length
+    returns-2)

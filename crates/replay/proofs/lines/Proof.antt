@@ -1,0 +1,94 @@
+-- `lines` ends: it counts the lines that it reads. The words and the ledger keep their lengths. Assumes nothing.
+use mathlib.Core.Path.{_≡_}
+use Prim.Native.Nat.{_-_}
+use lib.ListN.{length}
+use native.Mathlib.Omega.{arith}
+use Rattle.replay.proofs.lines.Statement.{statement}
+use Rattle.replay.proofs.lines.Tie as tie
+use Rattle.replay.proofs.lines.Reads as reads
+use Rattle.replay.proofs.lines.Lts as lts
+use Rattle.replay.proofs.read.Reads as read-reads
+use Rattle.script.proofs.read_line.Reads as read-line-reads
+
+abbrev Inv-loop : tie.InvT-loop
+Inv-loop words₀ ledger₀ tallies₀ text₀ pool₀ number₀ words ledger tallies text pool number = (length words ≡ length words₀) × (length ledger ≡ length ledger₀)
+
+abbrev μ-loop : tie.MeasureT-loop
+μ-loop words₀ ledger₀ tallies₀ text₀ pool₀ number₀ words ledger tallies text pool number = 4294967295 - number
+
+-- src/main.rt:288:5
+loop-holds : tie.Need-loop-holds Inv-loop μ-loop
+loop-holds c = omega arith
+
+-- src/main.rt:289:9
+add-number : tie.Need-add-number Inv-loop μ-loop
+add-number c = omega arith
+
+-- src/main.rt:290:36
+read-line-requires : tie.Need-read-line-requires Inv-loop μ-loop
+read-line-requires c κs = tt
+
+-- src/main.rt:290:26
+enum-known-length : tie.Need-enum-known-length Inv-loop μ-loop
+enum-known-length c = omega arith
+
+-- src/main.rt:291:13
+enum-told : tie.Need-enum-told Inv-loop μ-loop
+enum-told c = omega arith
+
+-- src/main.rt:291:13
+same-length : tie.Need-same-length Inv-loop μ-loop
+same-length c = omega arith
+
+-- src/main.rt:291:13
+same-length-2 : tie.Need-same-length-2 Inv-loop μ-loop
+same-length-2 c = omega arith
+
+-- src/main.rt:291:13
+returns : tie.Need-returns Inv-loop μ-loop
+returns c = tt
+
+-- src/main.rt:293:9
+read-requires : tie.Need-read-requires Inv-loop μ-loop
+read-requires c κs = tt
+
+-- src/main.rt:288:5
+loop-less : tie.Need-loop-less Inv-loop μ-loop
+loop-less c = omega arith
+
+-- src/main.rt:288:5
+loop-again : tie.Need-loop-again Inv-loop μ-loop
+loop-again c = omega arith
+
+-- src/main.rt:278:1
+same-length-3 : tie.Need-same-length-3 Inv-loop μ-loop
+same-length-3 c = omega arith
+
+-- src/main.rt:278:1
+same-length-4 : tie.Need-same-length-4 Inv-loop μ-loop
+same-length-4 c = omega arith
+
+-- src/main.rt:278:1
+returns-2 : tie.Need-returns-2 Inv-loop μ-loop
+returns-2 c = tt
+
+pub lines-spec : {M : Type 1} → statement M
+lines-spec =
+    tie.close
+    (tie.spec
+    Inv-loop
+    μ-loop
+    loop-holds
+    add-number
+    read-line-requires
+    enum-known-length
+    enum-told
+    same-length
+    same-length-2
+    returns
+    read-requires
+    loop-less
+    loop-again
+    same-length-3
+    same-length-4
+    returns-2)

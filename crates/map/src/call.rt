@@ -18,7 +18,7 @@ ghost use Rattle.pool.specs.Refuse.{Shaped, out};
 ghost use Rattle.rules.specs.Fit.{Fit};
 ghost use Rattle.map.specs.Call.{mapSound, mapCall};
 
-// Refusals 8 and 9, then the map.
+// Refusals 8 and 9, then the map. The tables in use are counted again only where one was taken or freed.
 fn map_sound(words: &mut [u64], ledger: &mut [u32], handle: Handle, map: Map) -> Counted
     requires { ⌜ Shaped handle (st (now words) (now ledger)) × Fit map ⌝ }
     ensures { λ r. ⌜ out r (st (now (words .exit)) (now (ledger .exit))) ≡ mapSound handle map (st (now (words .entry)) (now (ledger .entry))) ⌝ }
@@ -32,8 +32,10 @@ fn map_sound(words: &mut [u64], ledger: &mut [u32], handle: Handle, map: Map) ->
     if free < needed {
         return Counted::Refused(Refusal::WantOfRoom(needed, free));
     }
-    put::map_range(words, ledger, handle, 0, handle.level, map);
-    Counted::Tables(ledger::count_used(ledger))
+    if put::map_range(words, ledger, handle, 0, handle.level, map) {
+        return Counted::Tables(ledger::count_used(ledger));
+    }
+    Counted::Tables(used)
 }
 
 // Puts a map down: each page of the region to its frame, ascending, with these flags.

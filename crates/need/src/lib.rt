@@ -1,9 +1,6 @@
 // Refusal 9's count: the new tables that a map needs, without a walk of its region. An entry that is no table is counted from its chunk's two ends.
-use address::PhysicalAddress;
-use address::VirtualAddress;
 use entry::Sub;
 use pool::Handle;
-use region::MemoryRegion;
 use rules::Map;
 use rules::Rule;
 ghost use mathlib.Core.Path.{_≡_};
@@ -123,24 +120,8 @@ fn count_leaf(level: usize, map: Map, word: u64) -> u64
     let end = map.region.end.0;
     let frame = map.frame.0;
     let stop = region::chunk_end(start, end, level + 1);
-    let first = Map {
-        region: MemoryRegion {
-            start: VirtualAddress(start),
-            end: VirtualAddress(stop),
-        },
-        frame: PhysicalAddress(frame),
-        flags: map.flags,
-        blocks: map.blocks,
-    };
-    let rest = Map {
-        region: MemoryRegion {
-            start: VirtualAddress(stop),
-            end: VirtualAddress(end),
-        },
-        frame: PhysicalAddress(frame + (stop - start)),
-        flags: map.flags,
-        blocks: map.blocks,
-    };
+    let first = rules::chunk_of(map, start, stop, frame);
+    let rest = rules::chunk_of(map, stop, end, frame + (stop - start));
     let part = part_of(level, word, start);
     1 + count_leaf(level + 1, first, part) + count_rest(level + 1, rest)
 }
@@ -174,15 +155,7 @@ fn count_entry(level: usize, map: Map, start: u64, end: u64, frame: u64, word: u
     requires { ⌜ Fit (chunkMap map (region start end) frame) × Chunk level (chunkMap map (region start end) frame) × (level < 2) ⌝ }
     ensures { λ r. ⌜ r ≡ closedLeaf (3 - level) (chunkMap map (region start end) frame) word ⌝ }
 {
-    let chunk = Map {
-        region: MemoryRegion {
-            start: VirtualAddress(start),
-            end: VirtualAddress(end),
-        },
-        frame: PhysicalAddress(frame),
-        flags: map.flags,
-        blocks: map.blocks,
-    };
+    let chunk = rules::chunk_of(map, start, end, frame);
     let rule = rules::rule_of(level, chunk, word);
     let Rule::Down = rule else {
         return 0;
@@ -190,15 +163,7 @@ fn count_entry(level: usize, map: Map, start: u64, end: u64, frame: u64, word: u
     if is_missed(level, chunk, word) {
         return 1 + count_rest(level + 1, chunk);
     }
-    let looked = Map {
-        region: MemoryRegion {
-            start: VirtualAddress(start),
-            end: VirtualAddress(end),
-        },
-        frame: PhysicalAddress(frame),
-        flags: map.flags,
-        blocks: map.blocks,
-    };
+    let looked = rules::chunk_of(map, start, end, frame);
     count_leaf(level, looked, word)
 }
 
@@ -213,16 +178,8 @@ fn count_last(words: &[u64], ledger: &[u32], handle: Handle, k: usize, map: Map)
     let mut count = 0;
     while at < end {
         let stop = region::chunk_end(at, end, 2);
-        let chunk = Map {
-            region: MemoryRegion {
-                start: VirtualAddress(at),
-                end: VirtualAddress(stop),
-            },
-            frame: PhysicalAddress(frame),
-            flags: map.flags,
-            blocks: map.blocks,
-        };
         let i = region::entry_index(at, 2);
+        let chunk = rules::chunk_of(map, at, stop, frame);
         frame += stop - at;
         at = stop;
         let word = words[512 * k + i];
@@ -240,14 +197,7 @@ fn count_last(words: &[u64], ledger: &[u32], handle: Handle, k: usize, map: Map)
 }
 
 // The new tables for every chunk of the map in table k: only entries that exist are visited.
-pub fn count_needed(
-    words: &[u64],
-    ledger: &[u32],
-    handle: Handle,
-    k: usize,
-    level: usize,
-    map: Map,
-) -> u64
+fn count_new(words: &[u64], ledger: &[u32], handle: Handle, k: usize, level: usize, map: Map) -> u64
     requires { ⌜ (length (now words) ≡ 512 * length (now ledger)) × (k < length (now ledger)) × (level ≤ 3) × Fit map ⌝ }
     ensures { λ r. ⌜ r ≡ closed (3 - level) handle (st (now (words .entry)) (now (ledger .entry))) k map ⌝ }
 {
@@ -277,20 +227,12 @@ pub fn count_needed(
             count += count_entry(level, map, start, stop, first, word);
             continue;
         };
-        let chunk = Map {
-            region: MemoryRegion {
-                start: VirtualAddress(start),
-                end: VirtualAddress(stop),
-            },
-            frame: PhysicalAddress(first),
-            flags: map.flags,
-            blocks: map.blocks,
-        };
+        let chunk = rules::chunk_of(map, start, stop, first);
         let rule = rules::rule_of(level, chunk, word);
         let Rule::Down = rule else {
             continue;
         };
-        count += count_needed(words, ledger, handle, j, level + 1, chunk);
+        count += count_new(words, ledger, handle, j, level + 1, chunk);
     }
     count
 }
@@ -303,7 +245,7 @@ pub fn count_over(words: &[u64], ledger: &[u32], handle: Handle, map: Map, free:
     if count_most(map.region.start.0, map.region.end.0, handle.level) <= free {
         return 0;
     }
-    let needed = count_needed(words, ledger, handle, 0, handle.level, map);
+    let needed = count_new(words, ledger, handle, 0, handle.level, map);
     if needed <= free {
         return 0;
     }

@@ -1,5 +1,5 @@
 -- The loop over a table's chunks: one step after the other, and what each step needs. Leans on `Put`. Assumes nothing.
-use mathlib.Core.Path.{_≡_, sym, ap, _∙_}
+use mathlib.Core.Path.{_≡_, refl, sym, ap, _∙_}
 use mathlib.Core.Bool.{cond}
 use mathlib.Core.Logic.{_⊎_, ⊎-elim}
 use Prim.Native.Nat.{ℕ, suc, _+_, _-_, _≤_, _<_}
@@ -20,6 +20,7 @@ use Rattle.rules.specs.declared.Rule.the-variants.{Write, Keep, Drop, Down}
 use Rattle.rules.specs.Rules.{ruleOf, chunkMap}
 use Rattle.split.specs.Split.{below, inFound, into}
 use Rattle.put.specs.Put.{dropEntry, byRule, mapChunk, eachOf, eachChunk, mapRange}
+use Rattle.put.specs.Laws.{put-here}
 
 -- ---- one level down
 
@@ -81,6 +82,10 @@ module _ (h : Handle) (level k : ℕ) (m : Map) (s : St) {i : ℕ} (index : i �
   pub chunk-drop : (x : ℕ) → r ≡ Drop x → dropEntry h level (wordAt s k i) (storeAt k i x s) ≡ stepAt level h k m s
   unfolding byRule
   chunk-drop x e = chosen (Drop x) e
+
+  -- any rule that goes no lower
+  pub chunk-here : (r ≡ Down → ⊥) → byRule (λ j t. t) h level k i r s ≡ stepAt level h k m s
+  chunk-here n = put-here (λ j t. t) (λ j t. recAt level h j m t) h level k i s r n ∙ chosen r refl
 
   module _ (e : r ≡ Down) {f : Found} {t : St} (found : taken f t ≡ below h level k i s) where
     gone-down : inFound (λ j u. recAt level h j m u) f t ≡ stepAt level h k m s

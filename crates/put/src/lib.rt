@@ -1,18 +1,17 @@
 // Putting a map down in one table and the tables below it: map_range of PageTableWithLevel.
-use address::PhysicalAddress;
-use address::VirtualAddress;
 use entry::Sub;
 use pool::Found;
 use pool::Handle;
-use region::MemoryRegion;
 use rules::Map;
 use rules::Rule;
+ghost use mathlib.Core.Bool.{false};
 ghost use mathlib.Core.Path.{_≡_};
-ghost use Prim.Native.Nat.{_*_, _-_, _≤_, _<_};
+ghost use Prim.Native.Nat.{_*_, _-_, _%_, _≤_, _<_};
 ghost use lib.ListN.{length};
 ghost use Rattle.pool.specs.State.{st};
 ghost use Rattle.pool.specs.Refuse.{Shaped};
-ghost use Rattle.put.specs.Put.{dropEntry, mapRange};
+ghost use Rattle.put.specs.Put.{dropEntry, byRule, mapRange};
+ghost use Rattle.put.specs.Laws.{Stays};
 ghost use Rattle.rules.specs.Fit.{Fit};
 
 // The subtree that a word referred to is freed.
@@ -27,7 +26,51 @@ fn drop_entry(words: &mut [u64], ledger: &mut [u32], handle: Handle, level: usiz
     table::free(words, ledger, handle, j, level + 1);
 }
 
-// Every chunk of the map in table k, ascending.
+// A rule that goes no lower, carried out on slot i of table k. Whether a table was freed, now or before.
+fn put_entry(
+    words: &mut [u64],
+    ledger: &mut [u32],
+    handle: Handle,
+    level: usize,
+    k: usize,
+    i: usize,
+    rule: Rule,
+    stirred: bool,
+) -> bool
+    requires { ⌜ Shaped handle (st (now words) (now ledger)) × (k < length (now ledger)) × (i < 512) × Stays level rule ⌝ }
+    ensures { λ r. ⌜ (st (now (words .exit)) (now (ledger .exit)) ≡ byRule (λ j t. t) handle level k i rule (st (now (words .entry)) (now (ledger .entry))))
+        × (r ≡ false → (stirred ≡ false) × (now (ledger .exit) ≡ now (ledger .entry))) ⌝ }
+{
+    match rule {
+        Rule::Write(x) => {
+            words[512 * k + i] = x;
+            stirred
+        }
+        Rule::Drop(x) => {
+            let word = words[512 * k + i];
+            words[512 * k + i] = x;
+            drop_entry(words, ledger, handle, level, word);
+            true
+        }
+        Rule::Keep => stirred,
+        Rule::Down => stirred,
+    }
+}
+
+// Whether a table was taken or freed: before, for a word that was none, or in the tables below.
+fn is_stirred(stirred: bool, word: u64, below: bool) -> bool
+    ensures { λ r. ⌜ (r ≡ false → (stirred ≡ false) × (word % 4 ≡ 3) × (below ≡ false)) ⌝ }
+{
+    if stirred {
+        return true;
+    }
+    if word % 4 != 3 {
+        return true;
+    }
+    below
+}
+
+// Every chunk of the map in table k, ascending. Whether a table was taken or freed.
 pub fn map_range(
     words: &mut [u64],
     ledger: &mut [u32],
@@ -35,45 +78,33 @@ pub fn map_range(
     k: usize,
     level: usize,
     map: Map,
-)
+) -> bool
     requires { ⌜ Shaped handle (st (now words) (now ledger)) × (k < length (now ledger)) × (level ≤ 3) × Fit map ⌝ }
-    ensures { λ _. ⌜ st (now (words .exit)) (now (ledger .exit)) ≡ mapRange (3 - level) handle k map (st (now (words .entry)) (now (ledger .entry))) ⌝ }
+    ensures { λ r. ⌜ (st (now (words .exit)) (now (ledger .exit)) ≡ mapRange (3 - level) handle k map (st (now (words .entry)) (now (ledger .entry))))
+        × (r ≡ false → now (ledger .exit) ≡ now (ledger .entry)) ⌝ }
 {
     let end = map.region.end.0;
     let mut at = map.region.start.0;
     let mut frame = map.frame.0;
+    let mut stirred = false;
     while at < end {
         let stop = region::chunk_end(at, end, level);
-        let chunk = Map {
-            region: MemoryRegion {
-                start: VirtualAddress(at),
-                end: VirtualAddress(stop),
-            },
-            frame: PhysicalAddress(frame),
-            flags: map.flags,
-            blocks: map.blocks,
-        };
         let i = region::entry_index(at, level);
+        let chunk = rules::chunk_of(map, at, stop, frame);
         frame += stop - at;
         at = stop;
         let word = words[512 * k + i];
         let rule = rules::rule_of(level, chunk, word);
-        match rule {
-            Rule::Write(x) => {
-                words[512 * k + i] = x;
-            }
-            Rule::Keep => {}
-            Rule::Drop(x) => {
-                words[512 * k + i] = x;
-                drop_entry(words, ledger, handle, level, word);
-            }
-            Rule::Down => {
-                let under = split::descend(words, ledger, handle, level, k, i);
-                let Found::At(j) = under else {
-                    continue;
-                };
-                map_range(words, ledger, handle, j, level + 1, chunk);
-            }
-        }
+        let Rule::Down = rule else {
+            stirred = put_entry(words, ledger, handle, level, k, i, rule, stirred);
+            continue;
+        };
+        let under = split::descend(words, ledger, handle, level, k, i);
+        let Found::At(j) = under else {
+            continue;
+        };
+        let below = map_range(words, ledger, handle, j, level + 1, chunk);
+        stirred = is_stirred(stirred, word, below);
     }
+    stirred
 }

@@ -12,6 +12,10 @@ use Rattle.rules.specs.declared.Map.{Map}
 use Rattle.rules.specs.declared.Rule.{Rule}
 use Rattle.rules.specs.declared.Rule.the-variants.{Write, Keep, Drop, Down}
 
+-- the map of one chunk, with its frame
+abbrev pub chunkMap : Map → MemoryRegion → ℕ → Map
+chunkMap m c frame = record { region = c; frame = record { 0 = frame }; flags = m .flags; blocks = m .blocks }
+
 -- both low bits set, which above level 3 is a table
 unfoldable pub tableWord : ℕ → Bool
 tableWord w = eqb (w % 4) 3
@@ -47,7 +51,3 @@ ruleOf level m w =
 unfoldable pub fillOf : ℕ → ℕ → List ℕ
 fillOf level w =
     cond (valid w) (rising 512 (leafWord (level + 1) (down (addressOf w) (sizeAt level)) (flagsOf w)) (sizeAt (level + 1))) (rising 512 (flagsOf w) 0)
-
--- the map of one chunk, with its frame
-abbrev pub chunkMap : Map → MemoryRegion → ℕ → Map
-chunkMap m c frame = record { region = c; frame = record { 0 = frame }; flags = m .flags; blocks = m .blocks }

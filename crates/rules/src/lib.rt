@@ -1,10 +1,12 @@
 // Which of the five rules fits a chunk of a map, and the word that it writes: the tests of map_range of paging.rs (aarch64-paging 0.12.3).
 use address::PhysicalAddress;
+use address::VirtualAddress;
 use region::MemoryRegion;
 ghost use mathlib.Core.Path.{_≡_};
 ghost use Prim.Native.Nat.{_%_, _^_, _<_};
+ghost use Rattle.region.specs.Region.{region};
 ghost use Rattle.entry.specs.Word.{leafWord, Plain};
-ghost use Rattle.rules.specs.Rules.{rule2, blockable, ruleOf};
+ghost use Rattle.rules.specs.Rules.{chunkMap, rule2, blockable, ruleOf};
 ghost use Rattle.rules.specs.Fit.{Fit};
 
 // What to put down: the region, the frame of its first page, the flags, and whether blocks are allowed.
@@ -21,6 +23,21 @@ pub enum Rule {
     Keep,
     Drop(u64),
     Down,
+}
+
+// The map of one chunk, with its frame.
+pub fn chunk_of(map: Map, start: u64, stop: u64, frame: u64) -> Map
+    ensures { λ r. ⌜ r ≡ chunkMap map (region start stop) frame ⌝ }
+{
+    Map {
+        region: MemoryRegion {
+            start: VirtualAddress(start),
+            end: VirtualAddress(stop),
+        },
+        frame: PhysicalAddress(frame),
+        flags: map.flags,
+        blocks: map.blocks,
+    }
 }
 
 // A page or block with these flags, or the flags alone where they are not VALID.

@@ -18,6 +18,7 @@ use Rattle.need.proofs.count_last.Lts as lts
 use Rattle.entry.proofs.subtable.Reads as subtable-reads
 use Rattle.region.proofs.chunk_end.Reads as chunk-end-reads
 use Rattle.region.proofs.entry_index.Reads as entry-index-reads
+use Rattle.rules.proofs.chunk_of.Reads as chunk-of-reads
 use Rattle.rules.proofs.rule_of.Reads as rule-of-reads
 
 abbrev Inv-loop : tie.InvT-loop
@@ -28,167 +29,158 @@ Inv-loop words ledger handle k map end at₀ frame₀ count₀ at frame count =
 abbrev μ-loop : tie.MeasureT-loop
 μ-loop words ledger handle k map end at₀ frame₀ count₀ at frame count = map .region .end .0 - at
 
--- a chunk, once its end and its slot are known
+-- a chunk, once its end, its slot and its map are known
 abbrev Place : Type 0
-Place = tie.After-entry-index Inv-loop μ-loop
+Place = tie.After-chunk-of Inv-loop μ-loop
 
 -- the chunk's own map, and what remains after it
 abbrev chunkOf : Place → Map
-chunkOf c = chunkMap (c .before .before .before .before .before .before .args .map) (region (c .before .before .before .loop .at) (c .before .chunk-end .result)) (c .before .before .before .loop .frame)
+chunkOf c = c .chunk-of .result
 
 abbrev leftOf : Place → Map
 leftOf c =
-    let m = c .before .before .before .before .before .before .args .map in
-    chunkMap m (region (c .before .chunk-end .result) (m .region .end .0)) (c .before .before .before .loop .frame + (c .before .chunk-end .result - c .before .before .before .loop .at))
+    let m = c .before .before .before .before .before .before .before .args .map in
+    chunkMap m (region (c .before .before .chunk-end .result) (m .region .end .0)) (c .before .before .before .before .loop .frame + (c .before .before .chunk-end .result - c .before .before .before .before .loop .at))
 
 -- what one chunk counts
 abbrev counts : Place → Map → ℕ
-counts c = let a = c .before .before .before .before .before .before .args in countAt 2 (a .handle) (st (a .words .now) (a .ledger .now)) (a .k)
+counts c = let a = c .before .before .before .before .before .before .before .args in countAt 2 (a .handle) (st (a .words .now) (a .ledger .now)) (a .k)
 
 record Facts (c : Place) : Type 0 where
-  above : c .before .before .before .loop .at < c .before .chunk-end .result
-  under : c .before .chunk-end .result ≤ c .before .before .before .before .before .before .args .map .region .end .0
-  paged : c .before .chunk-end .result % 4096 ≡ 0
+  above : c .before .before .before .before .loop .at < c .before .before .chunk-end .result
+  under : c .before .before .chunk-end .result ≤ c .before .before .before .before .before .before .before .args .map .region .end .0
+  paged : c .before .before .chunk-end .result % 4096 ≡ 0
   framed : leftOf c .frame .0 % 4096 ≡ 0
   room : leftOf c .frame .0 + (leftOf c .region .end .0 - leftOf c .region .start .0) ≤ 2 ^ 48
-  slot : c .entry-index .result < 512
+  slot : c .before .entry-index .result < 512
+  index : c .before .entry-index .result ≡ entryIndex 2 (chunkOf c .region .start .0)
   fit : Fit (chunkOf c)
-  next : c .before .before .before .loop .count + (counts c (chunkOf c) + sumChunks 2 (counts c) (leftOf c)) ≡ sumChunks 2 (counts c) (c .before .before .before .before .before .before .args .map)
-  most : sumChunks 2 (counts c) (c .before .before .before .before .before .before .args .map) ≤ 3 * 2 ^ 48
+  some : chunkOf c .region .start .0 < chunkOf c .region .end .0
+  next : c .before .before .before .before .loop .count + (counts c (chunkOf c) + sumChunks 2 (counts c) (leftOf c)) ≡ sumChunks 2 (counts c) (c .before .before .before .before .before .before .before .args .map)
+  most : sumChunks 2 (counts c) (c .before .before .before .before .before .before .before .args .map) ≤ 3 * 2 ^ 48
 
 facts : (c : Place) → Facts c
 unfolding entryIndex
 facts c =
-    let start = c .before .before .before .before .before .before in
+    let start = c .before .before .before .before .before .before .before in
     let a = start .args in
     let p = start .pre in
-    let at = c .before .before .before in
+    let at = c .before .before .before .before in
     let inv = at .loop .inv in
     let s = st (a .words .now) (a .ledger .now) in
-    let low = c .before .before .loop-test .taken in
-    let stop = c .before .chunk-end .ensures in
+    let low = c .before .before .before .loop-test .taken in
+    let stop = c .before .before .chunk-end .ensures in
+    let chunk = c .chunk-of .ensures in
     let fits = chunk-fits 2 (at .loop .at) (a .map .region .end .0) low in
     let f = countAt 2 (a .handle) s (a .k) in
+    let above : at .loop .at < c .before .before .chunk-end .result = omega (arith, fits .0) in
     record {
-      above = omega (arith, fits .0);
+      above = above;
       under = omega (arith, fits .1);
       paged = ap (λ (x : ℕ). x % 4096) stop ∙ chunk-paged 2 (at .loop .at) (a .map .region .end .0) (p .2 .to);
       framed = ap (λ (x : ℕ). (at .loop .frame + (x - at .loop .at)) % 4096) stop
           ∙ rest-paged 2 (at .loop .at) (a .map .region .end .0) (at .loop .frame) (a .map) (p .2) low (inv .1) (p .2 .to) (inv .2) (inv .3);
       room = omega (arith, fits .0, fits .1, inv .3);
-      slot = omega (arith, c .entry-index .ensures);
-      fit = subst⁻¹ (λ (x : ℕ). Fit (chunkMap (a .map) (region (at .loop .at) x) (at .loop .frame))) stop
-          (chunk-fit 2 (at .loop .at) (a .map .region .end .0) (at .loop .frame) (a .map) (p .2) low (inv .1) (p .2 .to) (inv .2) (inv .3));
+      slot = omega (arith, c .before .entry-index .ensures);
+      index = c .before .entry-index .ensures ∙ ap (λ (m : Map). entryIndex 2 (m .region .start .0)) (sym chunk);
+      some = subst⁻¹ (λ (m : Map). m .region .start .0 < m .region .end .0) chunk above;
+      fit = subst⁻¹ Fit chunk (subst⁻¹ (λ (x : ℕ). Fit (chunkMap (a .map) (region (at .loop .at) x) (at .loop .frame))) stop
+          (chunk-fit 2 (at .loop .at) (a .map .region .end .0) (at .loop .frame) (a .map) (p .2) low (inv .1) (p .2 .to) (inv .2) (inv .3)));
       next =
-          ap (λ (x : ℕ). at .loop .count + (f (chunkMap (a .map) (region (at .loop .at) x) (at .loop .frame)) + sumChunks 2 f (chunkMap (a .map) (region x (a .map .region .end .0)) (at .loop .frame + (x - at .loop .at))))) stop
+          ap (λ (m : Map). at .loop .count + (f m + sumChunks 2 f (leftOf c))) chunk
+          ∙ ap (λ (x : ℕ). at .loop .count + (f (chunkMap (a .map) (region (at .loop .at) x) (at .loop .frame)) + sumChunks 2 f (chunkMap (a .map) (region x (a .map .region .end .0)) (at .loop .frame + (x - at .loop .at))))) stop
           ∙ ap (λ (x : ℕ). at .loop .count + x) (sym (sum-first 2 f (chunkMap (a .map) (region (at .loop .at) (a .map .region .end .0)) (at .loop .frame)) low))
           ∙ inv .4;
       most = omega (arith, count-fit 2 (a .handle) s (a .k) (a .map) (omega arith), p .2 .some, p .2 .room);
     }
 
 -- the chunk's part, where it is what the code adds: the sum that is left after it
-counted : (c : Place) (n : ℕ) → counts c (chunkOf c) ≡ n → c .before .before .before .loop .count + n + sumChunks 2 (counts c) (leftOf c) ≡ sumChunks 2 (counts c) (c .before .before .before .before .before .before .args .map)
+counted : (c : Place) (n : ℕ) → counts c (chunkOf c) ≡ n → c .before .before .before .before .loop .count + n + sumChunks 2 (counts c) (leftOf c) ≡ sumChunks 2 (counts c) (c .before .before .before .before .before .before .before .args .map)
 counted c n e = omega (arith, facts c .next)
 
--- src/lib.rt:191:5
 loop-holds : tie.Need-loop-holds Inv-loop μ-loop
 loop-holds c = let p = c .before .before .pre in (p .2 .some, p .2 .from, p .2 .frame, p .2 .room, omega arith)
 
--- src/lib.rt:192:13
 chunk-end-requires : tie.Need-chunk-end-requires Inv-loop μ-loop
 chunk-end-requires c κs = tt
 
--- src/lib.rt:202:13
 entry-index-requires : tie.Need-entry-index-requires Inv-loop μ-loop
 entry-index-requires c κs = tt
 
--- src/lib.rt:203:18
+chunk-of-requires : tie.Need-chunk-of-requires Inv-loop μ-loop
+chunk-of-requires c κs = tt
+
 sub-frame : tie.Need-sub-frame Inv-loop μ-loop
 sub-frame c = omega (arith, facts c .above)
 
--- src/lib.rt:203:9
 add-frame : tie.Need-add-frame Inv-loop μ-loop
 add-frame c = let f = facts c in omega (arith, f .above, f .room)
 
--- src/lib.rt:205:26
 mul-word : tie.Need-mul-word Inv-loop μ-loop
-mul-word c = omega (arith, facts c .slot, c .before .before .before .before .before .before .pre .0, c .before .before .before .before .before .before .pre .1)
+mul-word c = omega (arith, facts c .slot, c .before .before .before .before .before .before .before .pre .0, c .before .before .before .before .before .before .before .pre .1)
 
--- src/lib.rt:205:26
 add-word : tie.Need-add-word Inv-loop μ-loop
-add-word c = omega (arith, facts c .slot, c .before .before .before .before .before .before .pre .0, c .before .before .before .before .before .before .pre .1)
+add-word c = omega (arith, facts c .slot, c .before .before .before .before .before .before .before .pre .0, c .before .before .before .before .before .before .before .pre .1)
 
--- src/lib.rt:205:20
 mul-word-2 : tie.Need-mul-word-2 Inv-loop μ-loop
-mul-word-2 c = omega (arith, facts c .slot, c .before .before .before .before .before .before .pre .0, c .before .before .before .before .before .before .pre .1)
+mul-word-2 c = omega (arith, facts c .slot, c .before .before .before .before .before .before .before .pre .0, c .before .before .before .before .before .before .before .pre .1)
 
--- src/lib.rt:205:20
 shared-slice-read-word : tie.Need-shared-slice-read-word Inv-loop μ-loop
-shared-slice-read-word c = omega (arith, facts (c .before) .slot, c .before .before .before .before .before .before .before .pre .0, c .before .before .before .before .before .before .before .pre .1)
+shared-slice-read-word c = omega (arith, facts (c .before) .slot, c .before .before .before .before .before .before .before .before .pre .0, c .before .before .before .before .before .before .before .before .pre .1)
 
--- src/lib.rt:206:13
 subtable-requires : tie.Need-subtable-requires Inv-loop μ-loop
 subtable-requires c κs = tt
 
 enum-told : tie.Need-enum-told Inv-loop μ-loop
 enum-told c = c .match .keys1
 
--- src/lib.rt:191:5
 loop-less : tie.Need-loop-less Inv-loop μ-loop
 loop-less c = let f = facts (c .before .before .before) in omega (arith, f .above, f .under)
 
--- src/lib.rt:191:5
 loop-again : tie.Need-loop-again Inv-loop μ-loop
 loop-again c =
     let place = c .before .before .before in
     let f = facts place in
-    let a = c .before .before .before .before .before .before .before .before .before .args in
-    let here = last-table (a .handle) (st (a .words .now) (a .ledger .now)) (a .k) (chunkOf place) (place .entry-index .ensures) (c .before .subtable .ensures) (no-leaf (c .before .subtable .result) (c .match .keys2)) in
+    let a = c .before .before .before .before .before .before .before .before .before .before .args in
+    let here = last-table (a .handle) (st (a .words .now) (a .ledger .now)) (a .k) (chunkOf place) (f .index) (c .before .subtable .ensures) (no-leaf (c .before .subtable .result) (c .match .keys2)) in
     (f .under, f .paged, f .framed, f .room, omega (arith, counted place 0 here))
 
--- src/lib.rt:210:13
 rule-of-requires : tie.Need-rule-of-requires Inv-loop μ-loop
-rule-of-requires c κs = let f = facts (c .before .before .before .before) in (f .fit, f .above)
+rule-of-requires c κs = let f = facts (c .before .before .before .before) in (f .fit, f .some)
 
 enum-told-2 : tie.Need-enum-told-2 Inv-loop μ-loop
 enum-told-2 c = c .match2 .keys1
 
--- src/lib.rt:191:5
 loop-less-2 : tie.Need-loop-less-2 Inv-loop μ-loop
 loop-less-2 c = let f = facts (c .before .before .before .before .before .before) in omega (arith, f .above, f .under)
 
--- src/lib.rt:191:5
 loop-again-2 : tie.Need-loop-again-2 Inv-loop μ-loop
 loop-again-2 c =
     let place = c .before .before .before .before .before .before in
     let f = facts place in
-    let a = c .before .before .before .before .before .before .before .before .before .before .before .before .args in
-    let here = last-none (a .handle) (st (a .words .now) (a .ledger .now)) (a .k) (chunkOf place) (place .entry-index .ensures) (c .before .before .before .before .subtable .ensures) (c .before .before .enum-told .given .1) (c .before .rule-of .ensures) (no-down (c .before .rule-of .result) (c .match2 .keys2)) in
+    let a = c .before .before .before .before .before .before .before .before .before .before .before .before .before .args in
+    let here = last-none (a .handle) (st (a .words .now) (a .ledger .now)) (a .k) (chunkOf place) (f .index) (c .before .before .before .before .subtable .ensures) (c .before .before .enum-told .given .1) (c .before .rule-of .ensures) (no-down (c .before .rule-of .result) (c .match2 .keys2)) in
     (f .under, f .paged, f .framed, f .room, omega (arith, counted place 0 here))
 
--- src/lib.rt:214:9
 add-count : tie.Need-add-count Inv-loop μ-loop
 add-count c =
     let place = c .before .before .before .before .before .before .before in
     let f = facts place in
-    let a = c .before .before .before .before .before .before .before .before .before .before .before .before .before .args in
-    let here = last-down (a .handle) (st (a .words .now) (a .ledger .now)) (a .k) (chunkOf place) (place .entry-index .ensures) (c .before .before .before .before .before .subtable .ensures) (c .before .before .before .enum-told .given .1) (c .before .before .rule-of .ensures) (c .enum-told2 .given .1) in
+    let a = c .before .before .before .before .before .before .before .before .before .before .before .before .before .before .args in
+    let here = last-down (a .handle) (st (a .words .now) (a .ledger .now)) (a .k) (chunkOf place) (f .index) (c .before .before .before .before .before .subtable .ensures) (c .before .before .before .enum-told .given .1) (c .before .before .rule-of .ensures) (c .enum-told2 .given .1) in
     omega (arith, counted place 1 here, f .most)
 
--- src/lib.rt:191:5
 loop-less-3 : tie.Need-loop-less-3 Inv-loop μ-loop
 loop-less-3 c = let f = facts (c .before .before .before .before .before .before .before) in omega (arith, f .above, f .under)
 
--- src/lib.rt:191:5
 loop-again-3 : tie.Need-loop-again-3 Inv-loop μ-loop
 loop-again-3 c =
     let place = c .before .before .before .before .before .before .before in
     let f = facts place in
-    let a = c .before .before .before .before .before .before .before .before .before .before .before .before .before .args in
-    let here = last-down (a .handle) (st (a .words .now) (a .ledger .now)) (a .k) (chunkOf place) (place .entry-index .ensures) (c .before .before .before .before .before .subtable .ensures) (c .before .before .before .enum-told .given .1) (c .before .before .rule-of .ensures) (c .enum-told2 .given .1) in
+    let a = c .before .before .before .before .before .before .before .before .before .before .before .before .before .before .args in
+    let here = last-down (a .handle) (st (a .words .now) (a .ledger .now)) (a .k) (chunkOf place) (f .index) (c .before .before .before .before .before .subtable .ensures) (c .before .before .before .enum-told .given .1) (c .before .before .rule-of .ensures) (c .enum-told2 .given .1) in
     (f .under, f .paged, f .framed, f .room, omega (arith, counted place 1 here))
 
--- src/lib.rt:183:1
 returns : tie.Need-returns Inv-loop μ-loop
 returns c =
     let at = c .before in
@@ -207,6 +199,7 @@ count-last-spec =
     loop-holds
     chunk-end-requires
     entry-index-requires
+    chunk-of-requires
     sub-frame
     add-frame
     mul-word

@@ -9,7 +9,7 @@ use Rattle.need.proofs.count_over.Tie as tie
 use Rattle.need.proofs.count_over.Reads as reads
 use Rattle.need.proofs.count_over.Lts as lts
 use Rattle.need.proofs.count_most.Reads as count-most-reads
-use Rattle.need.proofs.count_needed.Reads as count-needed-reads
+use Rattle.need.proofs.count_new.Reads as count-new-reads
 
 -- src/lib.rt:278:8
 count-most-requires : tie.Need-count-most-requires
@@ -22,20 +22,20 @@ returns c =
     over-none (a .free) _ (let m = closed-met (3 - a .handle .level) (a .handle) (st (a .words .now) (a .ledger .now)) 0 (a .map) (omega arith) in omega (arith, c .before .count-most .ensures))
 
 -- src/lib.rt:281:9
-count-needed-requires : tie.Need-count-needed-requires
-count-needed-requires c κs = c .before .before .before .before .pre
+count-new-requires : tie.Need-count-new-requires
+count-new-requires c κs = c .before .before .before .before .pre
 
 -- src/lib.rt:283:9
 returns-2 : tie.Need-returns-2
-returns-2 c = let a = c .before .before .before .before .before .before .args in over-none (a .free) _ (omega (arith, c .before .count-needed .ensures))
+returns-2 c = let a = c .before .before .before .before .before .before .args in over-none (a .free) _ (omega (arith, c .before .count-new .ensures))
 
 -- src/lib.rt:274:1
 returns-3 : tie.Need-returns-3
 returns-3 c =
     let a = c .before .before .before .before .before .before .args in
-    let e = c .before .count-needed .ensures in
+    let e = c .before .count-new .ensures in
     e ∙ over-some (a .free) _ (omega arith)
 
 pub count-over-spec : {M : Type 1} → statement M
 count-over-spec =
-    tie.close (tie.spec count-most-requires returns count-needed-requires returns-2 returns-3)
+    tie.close (tie.spec count-most-requires returns count-new-requires returns-2 returns-3)

@@ -1,10 +1,9 @@
-use mathlib.Core.Path.{_≡_, sym, _∙_}
+use mathlib.Core.Path.{_≡_, sym, ap, _∙_}
 use mathlib.Core.Bool.{true}
 use mathlib.Core.List.{List}
 use Prim.Native.Nat.{ℕ, _-_}
 use native.Mathlib.Omega.{arith}
 use lib.ListN.{length}
-use borrow.Author.Needs.{needs}
 use Rattle.pool.specs.State.{St, st}
 use Rattle.pool.specs.Number.{used, free, used-free}
 use Rattle.pool.specs.Sound.{soundb}
@@ -16,7 +15,7 @@ use Rattle.need.specs.Needed.{needed}
 use Rattle.need.specs.Closed.{closed}
 use Rattle.need.specs.CountLaws.{over-past, over-within}
 use Rattle.need.specs.SoundCount.{closed-needed}
-use Rattle.map.specs.Call.{sound-not, sound-full, sound-mapped, put-down}
+use Rattle.map.specs.Call.{putDown, mapSound, sound-not, sound-full, sound-mapped, put-down}
 use Rattle.map.proofs.call.map_sound.Statement.{statement}
 use Rattle.map.proofs.call.map_sound.Tie as tie
 use Rattle.map.proofs.call.map_sound.Reads as reads
@@ -96,29 +95,45 @@ returns-2 c =
 map-range-requires : tie.Need-map-range-requires
 map-range-requires c κs = let p = c .before .before .before .before .before .before .before .before .before .before .before .before .before .before .pre in (p .0, p .0 .some, p .0 .level, p .1)
 
--- src/call.rt:37:21
 count-used-requires : tie.Need-count-used-requires
 unfolding maxTables
-count-used-requires c κs = omega (arith, c .before .before .before .before .before .before .before .before .before .before .before .before .before .before .before .before .before .before .before .before .pre .0 .limit)
+count-used-requires c κs = omega (arith, c .before .before .before .before .before .before .before .before .before .before .before .before .before .before .before .before .before .before .before .before .before .pre .0 .limit)
 
--- src/call.rt:24:1
 same-length-5 : tie.Need-same-length-5
-same-length-5 c = search needs
+same-length-5 c = c .before .before .before .before .before .before .before .map-range .kept .0
 
--- src/call.rt:24:1
 same-length-6 : tie.Need-same-length-6
-same-length-6 c = search needs
+same-length-6 c = c .before .before .before .before .before .before .before .map-range .kept .1 .0
 
--- src/call.rt:24:1
-returns-3 : tie.Need-returns-3
-returns-3 c =
-    let start = c .before .before .before .before .before .before .before .before .before .before .before .before .before .before .before .before .before .before .before .before .before in
+-- nothing is refused, so the map is put down
+enough : (c : tie.After-map-range) → let a = c .before .before .before .before .before .before .before .before .before .before .before .before .before .before .before .args in let s = st (a .words .now) (a .ledger .now) in putDown (a .handle) (a .map) s ≡ mapSound (a .handle) (a .map) s
+enough c =
+    let start = c .before .before .before .before .before .before .before .before .before .before .before .before .before .before .before in
     let a = start .args in
     let s = st (a .words .now) (a .ledger .now) in
-    let known = count-sound (a .handle) s (c .before .before .before .before .before .before .before .before .before .before .before .before .before .before .before .before .count-sound .ensures) _ (c .before .before .before .before .before .before .before .before .before .before .before .before .before .before .found .given .1) in
-    put-down (a .handle) (a .map) s (c .before .before .before .before .before .before .map-range .ensures) (c .count-used .ensures)
-    ∙ sound-mapped (a .handle) (a .map) s (known .0) (counts (a .handle) s (a .map) (start .pre .0) (known .0)) (room (a .ledger .now) _ (known .1))
-    (over-within _ _ (c .before .before .before .before .before .before .before .before .before .before .count-over .ensures) (c .before .before .before .before .before .before .before .before .before .if1 .left))
+    let known = count-sound (a .handle) s (c .before .before .before .before .before .before .before .before .before .before .count-sound .ensures) _ (c .before .before .before .before .before .before .before .before .found .given .1) in
+    sound-mapped (a .handle) (a .map) s (known .0) (counts (a .handle) s (a .map) (start .pre .0) (known .0)) (room (a .ledger .now) _ (known .1))
+    (over-within _ _ (c .before .before .before .before .count-over .ensures) (c .before .before .before .if1 .left))
+
+returns-3 : tie.Need-returns-3
+returns-3 c =
+    let a = c .before .before .before .before .before .before .before .before .before .before .before .before .before .before .before .before .before .before .before .before .before .before .args in
+    put-down (a .handle) (a .map) (st (a .words .now) (a .ledger .now)) (c .before .before .before .before .before .before .before .map-range .ensures .0) (c .count-used .ensures) ∙ enough (c .before .before .before .before .before .before .before)
+
+same-length-7 : tie.Need-same-length-7
+same-length-7 c = c .before .before .before .before .before .map-range .kept .0
+
+same-length-8 : tie.Need-same-length-8
+same-length-8 c = c .before .before .before .before .before .map-range .kept .1 .0
+
+-- the ledger is as it was, and so is its count
+returns-4 : tie.Need-returns-4
+returns-4 c =
+    let a = c .before .before .before .before .before .before .before .before .before .before .before .before .before .before .before .before .before .before .before .before .args in
+    let s = st (a .words .now) (a .ledger .now) in
+    let known = count-sound (a .handle) s (c .before .before .before .before .before .before .before .before .before .before .before .before .before .before .before .count-sound .ensures) _ (c .before .before .before .before .before .before .before .before .before .before .before .before .before .found .given .1) in
+    let same = c .before .before .before .before .before .map-range .ensures .1 (c .if2 .left) in
+    put-down (a .handle) (a .map) s (c .before .before .before .before .before .map-range .ensures .0) (known .1 ∙ ap (λ (l : List ℕ). used l) (sym same)) ∙ enough (c .before .before .before .before .before)
 
 pub map-sound-spec : {M : Type 1} → statement M
 map-sound-spec =
@@ -139,4 +154,7 @@ map-sound-spec =
     count-used-requires
     same-length-5
     same-length-6
-    returns-3)
+    returns-3
+    same-length-7
+    same-length-8
+    returns-4)

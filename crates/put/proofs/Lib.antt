@@ -1,0 +1,2 @@
+-- A lemma that the proof of the loop uses.
+pub mod Tags

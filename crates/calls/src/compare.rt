@@ -1,5 +1,6 @@
 // What the call before must have answered.
 use crate::state::Bench;
+use crate::state::NO_CALL;
 
 // A value of the answer, counted from 0.
 fn value_at(bench: Bench, number: usize) -> u64 {
@@ -30,6 +31,9 @@ fn same_values(bench: Bench, values: &[u64; 6], from: usize, count: usize) -> bo
 
 // `accepted` and its values, or `refused`, its number and its values.
 fn agrees(bench: Bench, values: &[u64; 6], count: usize) -> bool {
+    if bench.refusal == NO_CALL {
+        return false;
+    }
     if values[0] == 0 {
         if bench.refusal != 0 {
             return false;
@@ -66,7 +70,9 @@ fn say_accepted(bench: Bench) {
 
 // What the call before answered.
 fn say_answer(bench: Bench) {
-    if bench.refusal == 0 {
+    if bench.refusal == NO_CALL {
+        report::say(b"  nothing: no call came before\n");
+    } else if bench.refusal == 0 {
         say_accepted(bench);
     } else {
         report::say_refusal(bench.refusal, bench.first, bench.second);

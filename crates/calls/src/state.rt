@@ -1,13 +1,16 @@
 // What the bench keeps from line to line: its pool's numbers, what the last call answered, and its tallies.
 use std::num::wrapping_add_u64;
 
+// In place of a refusal's number before the first call: above them all.
+pub const NO_CALL: u64 = 12;
+
 pub struct Bench {
     // The tables of the pool, 0 before the first make; then its handle.
     pub tables: usize,
     pub base: u64,
     pub level: u64,
     pub range: u64,
-    // The last call: 0 or its refusal, and its values.
+    // The last call: 0 or its refusal, NO_CALL before the first; and its values.
     pub refusal: u64,
     pub first: u64,
     pub second: u64,
@@ -26,7 +29,7 @@ impl Bench {
             base: 0,
             level: 0,
             range: 0,
-            refusal: 0,
+            refusal: NO_CALL,
             first: 0,
             second: 0,
             third: 0,

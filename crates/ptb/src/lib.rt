@@ -26,7 +26,8 @@ pub extern "C" fn ptb_make(
     range: u64,
     answer: &mut [u64; 4],
 ) -> u64
-    ensures { λ r. ⌜ out (slip r (now (answer .exit))) (st (now (words .exit)) (now (ledger .exit))) ≡ makeFace base level range (st (now (words .entry)) (now (ledger .entry))) (now (answer .entry)) ⌝ }
+    ensures { λ r. ⌜ out (slip r (now (answer .exit))) (st (now (words .exit)) (now (ledger .exit)))
+        ≡ makeFace base level range (st (now (words .entry)) (now (ledger .entry))) (now (answer .entry)) ⌝ }
 {
     if UPPER < range {
         return 1;
@@ -90,7 +91,8 @@ pub extern "C" fn ptb_list(
     lines: &mut [u64],
     answer: &mut [u64; 4],
 ) -> u64
-    ensures { λ r. ⌜ filled (slip r (now (answer .exit))) (now (lines .exit)) ≡ listFace base level range (st (now (words .entry)) (now (ledger .entry))) start end (now (lines .entry)) (now (answer .entry)) ⌝ }
+    ensures { λ r. ⌜ filled (slip r (now (answer .exit))) (now (lines .exit))
+        ≡ listFace base level range (st (now (words .entry)) (now (ledger .entry))) start end (now (lines .entry)) (now (answer .entry)) ⌝ }
 {
     if UPPER < range {
         return 1;
@@ -115,7 +117,8 @@ pub extern "C" fn ptb_map(
     constraints: u64,
     answer: &mut [u64; 4],
 ) -> u64
-    ensures { λ r. ⌜ out (slip r (now (answer .exit))) (st (now (words .exit)) (now (ledger .exit))) ≡ mapFace base level range start end frame flags constraints (st (now (words .entry)) (now (ledger .entry))) (now (answer .entry)) ⌝ }
+    ensures { λ r. ⌜ out (slip r (now (answer .exit))) (st (now (words .exit)) (now (ledger .exit)))
+        ≡ mapFace base level range start end frame flags constraints (st (now (words .entry)) (now (ledger .entry))) (now (answer .entry)) ⌝ }
 {
     if UPPER < range {
         return 1;
@@ -150,7 +153,8 @@ pub extern "C" fn ptb_modify(
     list: &mut [u64],
     answer: &mut [u64; 4],
 ) -> u64
-    ensures { λ r. ⌜ changed (slip r (now (answer .exit))) (st (now (words .exit)) (now (ledger .exit))) (now (list .exit)) ≡ modifyFace base level range start end set clear live (st (now (words .entry)) (now (ledger .entry))) (now (list .entry)) (now (answer .entry)) ⌝ }
+    ensures { λ r. ⌜ changed (slip r (now (answer .exit))) (st (now (words .exit)) (now (ledger .exit))) (now (list .exit))
+        ≡ modifyFace base level range start end set clear live (st (now (words .entry)) (now (ledger .entry))) (now (list .entry)) (now (answer .entry)) ⌝ }
 {
     if UPPER < range {
         return 1;
@@ -180,7 +184,8 @@ pub extern "C" fn ptb_compact(
     range: u64,
     answer: &mut [u64; 4],
 ) -> u64
-    ensures { λ r. ⌜ out (slip r (now (answer .exit))) (st (now (words .exit)) (now (ledger .exit))) ≡ compactFace base level range (st (now (words .entry)) (now (ledger .entry))) (now (answer .entry)) ⌝ }
+    ensures { λ r. ⌜ out (slip r (now (answer .exit))) (st (now (words .exit)) (now (ledger .exit)))
+        ≡ compactFace base level range (st (now (words .entry)) (now (ledger .entry))) (now (answer .entry)) ⌝ }
 {
     if UPPER < range {
         return 1;
@@ -202,7 +207,8 @@ pub extern "C" fn ptb_image(
     page: &mut [u8],
     answer: &mut [u64; 4],
 ) -> u64
-    ensures { λ r. ⌜ filled (slip r (now (answer .exit))) (now (page .exit)) ≡ imageFace base level range (st (now (words .entry)) (now (ledger .entry))) table (now (page .entry)) (now (answer .entry)) ⌝ }
+    ensures { λ r. ⌜ filled (slip r (now (answer .exit))) (now (page .exit))
+        ≡ imageFace base level range (st (now (words .entry)) (now (ledger .entry))) table (now (page .entry)) (now (answer .entry)) ⌝ }
 {
     if UPPER < range {
         return 1;

@@ -1,5 +1,6 @@
 -- "Putting down a map" word for word, over addresses: the first rule that fits a chunk. Run chunk by chunk as `Chunks` has it, it is the map of `Root`.
--- Assumes nothing.
+-- By address the leaf's word is entry's `leafWord`, here `written`, and the test of a whole entry region's `whole`, here `wholeEntry`; `leafWord` of `Word` and
+-- `whole` of `Rules` say the same by pages. `word-frames` and `whole-is` join them. Assumes nothing.
 use mathlib.Core.Path.{_≡_, refl, ap, ap₂, _∙_}
 use mathlib.Core.Bool.{Bool, true, false, not, cond, _&&_}
 use mathlib.Core.Logic.{_⊎_, inl, inr}

@@ -28,7 +28,7 @@ fn map_sound(words: &mut [u64], ledger: &mut [u32], handle: Handle, map: Map) ->
         return Counted::Refused(Refusal::Unsound);
     };
     let free = (ledger.len() - used) as u64;
-    let needed = need::count_over(words, ledger, handle, map, free);
+    let needed = count::count_over(words, ledger, handle, map, free);
     if free < needed {
         return Counted::Refused(Refusal::WantOfRoom(needed, free));
     }

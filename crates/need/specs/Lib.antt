@@ -4,4 +4,3 @@ pub mod Closed
 pub mod Missed
 pub mod Count
 pub mod SoundCount
-pub mod CountLaws

@@ -13,7 +13,7 @@ use Rattle.checker.specs.Check.{count-unsound, count-sound}
 use Rattle.rules.specs.declared.Map.{Map}
 use Rattle.need.specs.Needed.{needed}
 use Rattle.need.specs.Closed.{closed}
-use Rattle.need.specs.CountLaws.{over-past, over-within}
+use Rattle.count.specs.Laws.{over-past, over-within}
 use Rattle.need.specs.SoundCount.{closed-needed}
 use Rattle.map.specs.Call.{putDown, mapSound, sound-not, sound-full, sound-mapped, put-down}
 use Rattle.map.proofs.call.map_sound.Statement.{statement}
@@ -22,7 +22,7 @@ use Rattle.map.proofs.call.map_sound.Reads as reads
 use Rattle.map.proofs.call.map_sound.Lts as lts
 use Rattle.checker.proofs.count_sound.Reads as count-sound-reads
 use Rattle.put.proofs.map_range.Reads as map-range-reads
-use Rattle.need.proofs.count_over.Reads as count-over-reads
+use Rattle.count.proofs.count_over.Reads as count-over-reads
 use Rattle.pool.proofs.ledger.count_used.Reads as count-used-reads
 
 -- refusal 9's count, as it is computed, is document 01's in a sound pool

@@ -1,0 +1,2 @@
+-- The count over the tables.
+pub mod Laws

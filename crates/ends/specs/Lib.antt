@@ -1,0 +1,2 @@
+-- The count for an entry that is no table.
+pub mod Laws

@@ -1,167 +1,79 @@
--- `close`: what it reads lies within its arrays, and what it is lent keeps its length. Assumes nothing.
+-- `close` ends: it stops at the last tally. Assumes nothing.
+use Prim.Native.Nat.{_-_, _≤_}
 use native.Mathlib.Omega.{arith}
+use borrow.Author.Needs.{needs}
 use Rattle.replay.proofs.close.Statement.{statement}
 use Rattle.replay.proofs.close.Tie as tie
 use Rattle.replay.proofs.close.Reads as reads
 use Rattle.replay.proofs.close.Lts as lts
+use Rattle.io.proofs.print_decimal.Reads as print-decimal-reads
+use Rattle.io.proofs.write_all.Reads as write-all-reads
+use Rattle.replay.proofs.say_kind.Reads as say-kind-reads
 
-slice-aggregate-say-count : tie.Need-slice-aggregate-say-count
-slice-aggregate-say-count c = omega arith
+abbrev Inv-loop : tie.InvT-loop
+Inv-loop tallies kind₀ t3 kind = kind ≤ 12
 
-array-read-say-count : tie.Need-array-read-say-count
-array-read-say-count c = omega arith
+abbrev μ-loop : tie.MeasureT-loop
+μ-loop tallies kind₀ t3 kind = 12 - kind
 
-say-count-requires : tie.Need-say-count-requires
-say-count-requires c κs = tt
+-- src/main.rt:230:5
+loop-holds : tie.Need-loop-holds Inv-loop μ-loop
+loop-holds c = omega arith
 
-slice-aggregate-say-count-2 : tie.Need-slice-aggregate-say-count-2
-slice-aggregate-say-count-2 c = omega arith
+-- src/main.rt:231:9
+say-kind-requires : tie.Need-say-kind-requires Inv-loop μ-loop
+say-kind-requires c κs = tt
 
-array-read-say-count-2 : tie.Need-array-read-say-count-2
-array-read-say-count-2 c = omega arith
+-- src/main.rt:232:30
+mul-print-decimal : tie.Need-mul-print-decimal Inv-loop μ-loop
+mul-print-decimal c = omega arith
 
-say-count-requires-2 : tie.Need-say-count-requires-2
-say-count-requires-2 c κs = tt
+-- src/main.rt:232:30
+element-copy-out-print-decimal : tie.Need-element-copy-out-print-decimal Inv-loop μ-loop
+element-copy-out-print-decimal c = omega arith
 
-slice-aggregate-say-count-3 : tie.Need-slice-aggregate-say-count-3
-slice-aggregate-say-count-3 c = omega arith
+-- src/main.rt:232:9
+print-decimal-requires : tie.Need-print-decimal-requires Inv-loop μ-loop
+print-decimal-requires c κs = tt
 
-array-read-say-count-3 : tie.Need-array-read-say-count-3
-array-read-say-count-3 c = omega arith
+-- src/main.rt:233:9
+add-kind : tie.Need-add-kind Inv-loop μ-loop
+add-kind c = omega arith
 
-say-count-requires-3 : tie.Need-say-count-requires-3
-say-count-requires-3 c κs = tt
+-- src/main.rt:230:5
+loop-less : tie.Need-loop-less Inv-loop μ-loop
+loop-less c = omega arith
 
-slice-aggregate-say-count-4 : tie.Need-slice-aggregate-say-count-4
-slice-aggregate-say-count-4 c = omega arith
+-- src/main.rt:230:5
+loop-again : tie.Need-loop-again Inv-loop μ-loop
+loop-again c = omega arith
 
-array-read-say-count-4 : tie.Need-array-read-say-count-4
-array-read-say-count-4 c = omega arith
+-- src/main.rt:235:22
+slice-aggregate-write-all : tie.Need-slice-aggregate-write-all Inv-loop μ-loop
+slice-aggregate-write-all c = search needs
 
-say-count-requires-4 : tie.Need-say-count-requires-4
-say-count-requires-4 c κs = tt
-
-slice-aggregate-say-count-5 : tie.Need-slice-aggregate-say-count-5
-slice-aggregate-say-count-5 c = omega arith
-
-array-read-say-count-5 : tie.Need-array-read-say-count-5
-array-read-say-count-5 c = omega arith
-
-say-count-requires-5 : tie.Need-say-count-requires-5
-say-count-requires-5 c κs = tt
-
-slice-aggregate-say-count-6 : tie.Need-slice-aggregate-say-count-6
-slice-aggregate-say-count-6 c = omega arith
-
-array-read-say-count-6 : tie.Need-array-read-say-count-6
-array-read-say-count-6 c = omega arith
-
-say-count-requires-6 : tie.Need-say-count-requires-6
-say-count-requires-6 c κs = tt
-
-slice-aggregate-say-count-7 : tie.Need-slice-aggregate-say-count-7
-slice-aggregate-say-count-7 c = omega arith
-
-array-read-say-count-7 : tie.Need-array-read-say-count-7
-array-read-say-count-7 c = omega arith
-
-say-count-requires-7 : tie.Need-say-count-requires-7
-say-count-requires-7 c κs = tt
-
-slice-aggregate-say-count-8 : tie.Need-slice-aggregate-say-count-8
-slice-aggregate-say-count-8 c = omega arith
-
-array-read-say-count-8 : tie.Need-array-read-say-count-8
-array-read-say-count-8 c = omega arith
-
-say-count-requires-8 : tie.Need-say-count-requires-8
-say-count-requires-8 c κs = tt
-
-slice-aggregate-say-count-9 : tie.Need-slice-aggregate-say-count-9
-slice-aggregate-say-count-9 c = omega arith
-
-array-read-say-count-9 : tie.Need-array-read-say-count-9
-array-read-say-count-9 c = omega arith
-
-say-count-requires-9 : tie.Need-say-count-requires-9
-say-count-requires-9 c κs = tt
-
-slice-aggregate-say-count-10 : tie.Need-slice-aggregate-say-count-10
-slice-aggregate-say-count-10 c = omega arith
-
-array-read-say-count-10 : tie.Need-array-read-say-count-10
-array-read-say-count-10 c = omega arith
-
-say-count-requires-10 : tie.Need-say-count-requires-10
-say-count-requires-10 c κs = tt
-
-slice-aggregate-say-count-11 : tie.Need-slice-aggregate-say-count-11
-slice-aggregate-say-count-11 c = omega arith
-
-array-read-say-count-11 : tie.Need-array-read-say-count-11
-array-read-say-count-11 c = omega arith
-
-say-count-requires-11 : tie.Need-say-count-requires-11
-say-count-requires-11 c κs = tt
-
-slice-aggregate-say-count-12 : tie.Need-slice-aggregate-say-count-12
-slice-aggregate-say-count-12 c = omega arith
-
-array-read-say-count-12 : tie.Need-array-read-say-count-12
-array-read-say-count-12 c = omega arith
-
-say-count-requires-12 : tie.Need-say-count-requires-12
-say-count-requires-12 c κs = tt
-
-slice-aggregate-write-all : tie.Need-slice-aggregate-write-all
-slice-aggregate-write-all c = omega arith
-
-write-all-requires : tie.Need-write-all-requires
+-- src/main.rt:235:5
+write-all-requires : tie.Need-write-all-requires Inv-loop μ-loop
 write-all-requires c κs = tt
 
-returns : tie.Need-returns
+-- src/main.rt:228:1
+returns : tie.Need-returns Inv-loop μ-loop
 returns c = tt
 
 pub close-spec : {M : Type 1} → statement M
 close-spec =
     tie.close
     (tie.spec
-    slice-aggregate-say-count
-    array-read-say-count
-    say-count-requires
-    slice-aggregate-say-count-2
-    array-read-say-count-2
-    say-count-requires-2
-    slice-aggregate-say-count-3
-    array-read-say-count-3
-    say-count-requires-3
-    slice-aggregate-say-count-4
-    array-read-say-count-4
-    say-count-requires-4
-    slice-aggregate-say-count-5
-    array-read-say-count-5
-    say-count-requires-5
-    slice-aggregate-say-count-6
-    array-read-say-count-6
-    say-count-requires-6
-    slice-aggregate-say-count-7
-    array-read-say-count-7
-    say-count-requires-7
-    slice-aggregate-say-count-8
-    array-read-say-count-8
-    say-count-requires-8
-    slice-aggregate-say-count-9
-    array-read-say-count-9
-    say-count-requires-9
-    slice-aggregate-say-count-10
-    array-read-say-count-10
-    say-count-requires-10
-    slice-aggregate-say-count-11
-    array-read-say-count-11
-    say-count-requires-11
-    slice-aggregate-say-count-12
-    array-read-say-count-12
-    say-count-requires-12
+    Inv-loop
+    μ-loop
+    loop-holds
+    say-kind-requires
+    mul-print-decimal
+    element-copy-out-print-decimal
+    print-decimal-requires
+    add-kind
+    loop-less
+    loop-again
     slice-aggregate-write-all
     write-all-requires
     returns)

@@ -1,21 +1,22 @@
--- `turn`: what it reads lies within its arrays, and what it is lent keeps its length. Assumes nothing.
+-- `turn`: what it is lent keeps its length. Assumes nothing.
+use borrow.Author.Needs.{needs}
 use native.Mathlib.Omega.{arith}
 use Rattle.replay.proofs.turn.Statement.{statement}
 use Rattle.replay.proofs.turn.Tie as tie
 use Rattle.replay.proofs.turn.Reads as reads
 use Rattle.replay.proofs.turn.Lts as lts
 
+element-copy-out-kind-of : tie.Need-element-copy-out-kind-of
+element-copy-out-kind-of c = omega arith
+
+kind-of-requires : tie.Need-kind-of-requires
+kind-of-requires c κs = tt
+
 asked-requires : tie.Need-asked-requires
 asked-requires c κs = tt
 
-is-line-requires : tie.Need-is-line-requires
-is-line-requires c κs = tt
-
-no-call-requires : tie.Need-no-call-requires
-no-call-requires c κs = tt
-
-expected-requires : tie.Need-expected-requires
-expected-requires c κs = tt
+numbers-of-requires : tie.Need-numbers-of-requires
+numbers-of-requires c κs = tt
 
 differ-requires : tie.Need-differ-requires
 differ-requires c κs = tt
@@ -26,14 +27,11 @@ returns c = tt
 lent-requires : tie.Need-lent-requires
 lent-requires c κs = tt
 
+slice-aggregate-lend : tie.Need-slice-aggregate-lend
+slice-aggregate-lend c = search needs
+
 lend-requires : tie.Need-lend-requires
 lend-requires c κs = tt
-
-last-of-requires : tie.Need-last-of-requires
-last-of-requires c κs = tt
-
-expected-requires-2 : tie.Need-expected-requires-2
-expected-requires-2 c κs = tt
 
 add-requires : tie.Need-add-requires
 add-requires c κs = tt
@@ -66,16 +64,15 @@ pub turn-spec : {M : Type 1} → statement M
 turn-spec =
     tie.close
     (tie.spec
+    element-copy-out-kind-of
+    kind-of-requires
     asked-requires
-    is-line-requires
-    no-call-requires
-    expected-requires
+    numbers-of-requires
     differ-requires
     returns
     lent-requires
+    slice-aggregate-lend
     lend-requires
-    last-of-requires
-    expected-requires-2
     add-requires
     same-requires
     differ-requires-2

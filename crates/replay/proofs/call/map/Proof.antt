@@ -1,4 +1,4 @@
--- `map`: what it reads lies within its arrays, and what it is lent keeps its length. Assumes nothing.
+-- `map`: what it is lent keeps its length. Assumes nothing.
 use native.Mathlib.Omega.{arith}
 use Rattle.replay.proofs.call.map.Statement.{statement}
 use Rattle.replay.proofs.call.map.Tie as tie
@@ -23,9 +23,6 @@ element-copy-out-ptb-map-5 c = omega arith
 ptb-map-requires : tie.Need-ptb-map-requires
 ptb-map-requires c κs = tt
 
-plain-requires : tie.Need-plain-requires
-plain-requires c κs = tt
-
 same-length : tie.Need-same-length
 same-length c = omega arith
 
@@ -45,7 +42,6 @@ map-spec =
     element-copy-out-ptb-map-4
     element-copy-out-ptb-map-5
     ptb-map-requires
-    plain-requires
     same-length
     same-length-2
     returns)

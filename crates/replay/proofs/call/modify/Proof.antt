@@ -1,4 +1,4 @@
--- `modify`: what it reads lies within its arrays, and what it is lent keeps its length. Assumes nothing.
+-- `modify`: what it is lent keeps its length. Assumes nothing.
 use native.Mathlib.Omega.{arith}
 use Rattle.replay.proofs.call.modify.Statement.{statement}
 use Rattle.replay.proofs.call.modify.Tie as tie
@@ -23,9 +23,6 @@ element-copy-out-ptb-modify-5 c = omega arith
 ptb-modify-requires : tie.Need-ptb-modify-requires
 ptb-modify-requires c κs = tt
 
-words-requires : tie.Need-words-requires
-words-requires c κs = tt
-
 same-length : tie.Need-same-length
 same-length c = omega arith
 
@@ -48,7 +45,6 @@ modify-spec =
     element-copy-out-ptb-modify-4
     element-copy-out-ptb-modify-5
     ptb-modify-requires
-    words-requires
     same-length
     same-length-2
     same-length-3

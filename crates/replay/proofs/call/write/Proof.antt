@@ -1,4 +1,4 @@
--- `write`: what it reads lies within its arrays, and what it is lent keeps its length. Assumes nothing.
+-- `write`: what it is lent keeps its length. Assumes nothing.
 use native.Mathlib.Omega.{arith}
 use Rattle.replay.proofs.call.write.Statement.{statement}
 use Rattle.replay.proofs.call.write.Tie as tie
@@ -7,12 +7,6 @@ use Rattle.replay.proofs.call.write.Lts as lts
 
 ptb-make-requires : tie.Need-ptb-make-requires
 ptb-make-requires c κs = tt
-
-plain-requires : tie.Need-plain-requires
-plain-requires c κs = tt
-
-plain-requires-2 : tie.Need-plain-requires-2
-plain-requires-2 c κs = tt
 
 element-copy-out-put-word : tie.Need-element-copy-out-put-word
 element-copy-out-put-word c = omega arith
@@ -35,11 +29,11 @@ put-number-requires c κs = tt
 map-requires : tie.Need-map-requires
 map-requires c κs = tt
 
+modify-requires : tie.Need-modify-requires
+modify-requires c κs = tt
+
 ptb-compact-requires : tie.Need-ptb-compact-requires
 ptb-compact-requires c κs = tt
-
-plain-requires-3 : tie.Need-plain-requires-3
-plain-requires-3 c κs = tt
 
 same-length : tie.Need-same-length
 same-length c = omega arith
@@ -80,16 +74,26 @@ same-length-7 c = omega arith
 same-length-8 : tie.Need-same-length-8
 same-length-8 c = omega arith
 
+same-length-9 : tie.Need-same-length-9
+same-length-9 c = omega arith
+
 returns-6 : tie.Need-returns-6
 returns-6 c = tt
+
+same-length-10 : tie.Need-same-length-10
+same-length-10 c = omega arith
+
+same-length-11 : tie.Need-same-length-11
+same-length-11 c = omega arith
+
+returns-7 : tie.Need-returns-7
+returns-7 c = tt
 
 pub write-spec : {M : Type 1} → statement M
 write-spec =
     tie.close
     (tie.spec
     ptb-make-requires
-    plain-requires
-    plain-requires-2
     element-copy-out-put-word
     element-copy-out-put-word-2
     put-word-requires
@@ -97,8 +101,8 @@ write-spec =
     element-copy-out-put-number-2
     put-number-requires
     map-requires
+    modify-requires
     ptb-compact-requires
-    plain-requires-3
     same-length
     same-length-2
     returns
@@ -112,4 +116,8 @@ write-spec =
     returns-5
     same-length-7
     same-length-8
-    returns-6)
+    same-length-9
+    returns-6
+    same-length-10
+    same-length-11
+    returns-7)

@@ -49,12 +49,13 @@ struct After {
     words: Vec<u64>,
     ledger: Vec<u32>,
     list: Vec<u64>,
-    page: Vec<u8>,
+    page: Option<Vec<u8>>,
 }
 
 impl After {
     fn sum(&self) -> u64 {
-        let list = self.list.iter().copied().chain(self.page.iter().map(|&byte| byte as u64));
+        let page = self.page.iter().map(|page| page.iter().map(|&byte| byte as u64).fold(START, mix));
+        let list = self.list.iter().copied().chain(page);
         list.chain(self.words.iter().copied()).chain(self.ledger.iter().map(|&number| number as u64)).fold(START, mix)
     }
 }
@@ -107,7 +108,7 @@ impl Bench {
         }
         self.stale |= line.by_hand();
         let mut pool = self.pool();
-        let mut after = After { words: vec![], ledger: vec![], list: vec![], page: vec![] };
+        let mut after = After { words: vec![], ledger: vec![], list: vec![], page: None };
         let sound = pool.check().0 == 0;
         let expected = by_model(&mut pool, line, &mut after);
         (after.words, after.ledger) = (pool.words.clone(), pool.ledger.clone());
@@ -195,7 +196,7 @@ fn by_model(pool: &mut Pool, line: &Line, after: &mut After) -> Answer {
         }
         Line::Image(table, length) => {
             let (said, bytes) = pool.image(*table, *length as usize);
-            after.page = over(&bytes, *length, UNWRITTEN);
+            after.page = Some(over(&bytes, *length, UNWRITTEN));
             said
         }
         Line::Check => pool.check(),

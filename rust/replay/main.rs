@@ -158,7 +158,9 @@ impl List {
             self.text.push(FORMAT[line.kind()].0);
             line.numbers().iter().for_each(|number| write!(self.text, " {number:x}").unwrap());
             write!(self.text, "={:x}", said.answer.0).unwrap();
-            said.values(line).iter().chain(&[said.sum]).for_each(|number| write!(self.text, " {number:x}").unwrap());
+            let values = said.values(line);
+            values.iter().for_each(|value| write!(self.text, " {value:x}").unwrap());
+            write!(self.text, "{} {:x}", &"----"[values.len()..], said.sum).unwrap();
             self.text.push('\n');
             self.kinds[line.kind()] += 1;
             self.by_oracle += said.by_oracle as u64;
@@ -216,8 +218,9 @@ fn head(list: &List, seed: u64, calls: u64) -> String {
     say("those of a model of the document (rust/diff/model.rs): refusals other than 3, 5 and 6, calls that the crate does not have, words by another");
     say("hand, a live modify's numbers, the last upper page, and the lines of docs/DIFFERENCES.md. Where both have a say they agreed.");
     say("A line is a letter, the call's numbers, after = its answer, and a sum of what it left; all numbers are hexadecimal. The answer is 0 or the refusal's");
-    say("number, then its values. The sum begins with 9e3779b97f4a7c15 and takes in the list or page that was lent, the words, the ledger: sum ^= number;");
-    say("sum ^= sum << 13; sum ^= sum >> 7; sum ^= sum << 17. A list is lent full of 5555555555555555, a page of 55, the answer as the list.");
+    say("number, then four values, - for one that the call does not write. The sum begins with 9e3779b97f4a7c15 and takes in the list that was lent, the words,");
+    say("the ledger: sum ^= number; sum ^= sum << 13; sum ^= sum >> 7; sum ^= sum << 17. A page goes in by the sum of its bytes. Lists and answers are lent full of");
+    say("5555555555555555, pages of 55.");
     for ((letter, numbers), kind) in FORMAT.iter().zip(KINDS) {
         let what = match kind {
             "make" => "make: from here on the calls are lent the first WORDS and NUMBERS, and this handle",

@@ -5,23 +5,11 @@ mod numbers;
 mod sum;
 
 use call::Pool;
+use numbers::UNWRITTEN;
 use script::Line;
 use std::num::wrapping_add_u64;
 
-// What a call answers, and the sum of all that it leaves.
-struct Answer {
-    refusal: u64,
-    first: u64,
-    second: u64,
-    third: u64,
-    fourth: u64,
-    sum: u64,
-}
-
-// Where the tallies of lines by kind have the lines that differ.
-const DIFFER: usize = 11;
-
-// A line's kind by its letter; 11 for none.
+// A line's kind by its letter; 11 for none. Among the tallies by kind, 11 is that of the lines that differ.
 fn kind_of(letter: u8) -> usize {
     match letter {
         b'n' => 0,
@@ -39,7 +27,7 @@ fn kind_of(letter: u8) -> usize {
     }
 }
 
-// How many numbers stand before the answer.
+// How many numbers a call has; no line has 12.
 fn asked(kind: usize) -> usize {
     match kind {
         0 | 1 | 4 => 5,
@@ -47,62 +35,38 @@ fn asked(kind: usize) -> usize {
         8 => 3,
         2 | 3 | 9 => 2,
         7 => 1,
+        6 | 10 => 0,
+        _ => 12,
+    }
+}
+
+// How much of the list a call is lent: a page's sum needs one place.
+fn list_of(kind: usize, numbers: &[u64; 13]) -> usize {
+    match kind {
+        5 | 8 => numbers[0] as usize,
+        9 => 1,
         _ => 0,
     }
 }
 
-// A number of the expected answer, so many after its first; one that stands at the end or past it is not there: it is unwritten.
-fn number_at(numbers: &[u64; 12], from: usize, after: usize, end: usize) -> u64 {
-    if numbers::MOST <= from {
-        return call::UNWRITTEN;
+fn same(came: &[u64; 13], numbers: &[u64; 13]) -> bool {
+    let mut place = numbers::ANSWER;
+    while place < numbers::END {
+        if came[place] != numbers[place] {
+            return false;
+        }
+        place += 1;
     }
-    if numbers::MOST - from <= after {
-        return call::UNWRITTEN;
+    true
+}
+
+fn say_answer(numbers: &[u64; 13]) {
+    let mut place = numbers::ANSWER;
+    while place < numbers::END {
+        io::write_all(1, b" ");
+        io::print_hex(1, numbers[place], 1);
+        place += 1;
     }
-    if end <= from + after {
-        return call::UNWRITTEN;
-    }
-    numbers[from + after]
-}
-
-// The answer that the list says, in the numbers from `from` up to `end`, where the sum stands.
-fn expected(numbers: &[u64; 12], from: usize, end: usize) -> Answer {
-    Answer {
-        refusal: number_at(numbers, from, 0, end),
-        first: number_at(numbers, from, 1, end),
-        second: number_at(numbers, from, 2, end),
-        third: number_at(numbers, from, 3, end),
-        fourth: number_at(numbers, from, 4, end),
-        sum: number_at(numbers, end, 0, numbers::MOST),
-    }
-}
-
-fn same(one: Answer, other: Answer) -> bool {
-    let apart = (one.refusal ^ other.refusal)
-        | (one.first ^ other.first)
-        | (one.second ^ other.second);
-    let more = (one.third ^ other.third) | (one.fourth ^ other.fourth) | (one.sum ^ other.sum);
-    apart | more == 0
-}
-
-fn say_number(number: u64) {
-    io::write_all(1, b" ");
-    io::print_hex(1, number, 1);
-}
-
-fn say_answer(what: &[u8], answer: Answer) {
-    io::write_all(1, what);
-    say_number(answer.refusal);
-    say_number(answer.first);
-    say_number(answer.second);
-    say_number(answer.third);
-    say_number(answer.fourth);
-    say_number(answer.sum);
-}
-
-fn say_count(what: &[u8], count: u64) {
-    io::write_all(1, what);
-    io::print_decimal(1, count);
 }
 
 fn add(tallies: &mut [u64; 12], kind: usize) {
@@ -112,14 +76,17 @@ fn add(tallies: &mut [u64; 12], kind: usize) {
 }
 
 // A line that differs: the first twenty are said.
-fn differ(tallies: &mut [u64; 12], number: u64, came: Answer, said: Answer) {
-    add(tallies, DIFFER);
+fn differ(tallies: &mut [u64; 12], number: u64, came: &[u64; 13], numbers: &[u64; 13]) {
+    add(tallies, 11);
     if 20 < tallies[11] {
         return;
     }
-    say_count(b"line ", number);
-    say_answer(b": came", came);
-    say_answer(b", the list says", said);
+    io::write_all(1, b"line ");
+    io::print_decimal(1, number);
+    io::write_all(1, b": came");
+    say_answer(came);
+    io::write_all(1, b", the list says");
+    say_answer(numbers);
     io::write_all(1, b"\n");
 }
 
@@ -128,61 +95,55 @@ fn answer_of(
     kind: usize,
     words: &mut [u64],
     ledger: &mut [u32],
+    list: &mut [u64],
     pool: Pool,
-    numbers: &[u64; 12],
-) -> Answer {
-    let mut answer = [call::UNWRITTEN; 4];
-    let came = call::run(kind, words, ledger, pool, numbers, &mut answer);
-    let sum = sum::ledger(sum::words(came.sum, words), ledger);
-    Answer {
-        refusal: came.refusal,
-        first: answer[0],
-        second: answer[1],
-        third: answer[2],
-        fourth: answer[3],
-        sum,
-    }
+    numbers: &[u64; 13],
+    came: &mut [u64; 13],
+) {
+    let mut answer = [UNWRITTEN; 4];
+    came[7] = call::run(kind, words, ledger, pool, numbers, list, &mut answer);
+    came[8] = answer[0];
+    came[9] = answer[1];
+    came[10] = answer[2];
+    came[11] = answer[3];
+    came[12] = sum::ledger(sum::words(sum::words(sum::START, list), words), ledger);
 }
 
-// A line that asks for what there is not.
-fn no_call() -> Answer {
-    Answer {
-        refusal: call::NO_CALL,
-        first: call::UNWRITTEN,
-        second: call::UNWRITTEN,
-        third: call::UNWRITTEN,
-        fourth: call::UNWRITTEN,
-        sum: 0,
-    }
-}
-
-// The first words and ledger numbers, as many as the list lends.
+// The first words, ledger numbers and numbers of the list, as many as the line lends; 0 for all that came where there are not so many.
 fn lend(
     kind: usize,
     words: &mut [u64],
     ledger: &mut [u32],
+    list: &mut [u64],
     pool: Pool,
-    numbers: &[u64; 12],
-) -> Answer {
+    numbers: &[u64; 13],
+    came: &mut [u64; 13],
+) {
     let length = pool.words;
     let count = pool.numbers;
+    let room = list_of(kind, numbers);
     if words.len() < length {
-        return no_call();
+        return;
     }
     if ledger.len() < count {
-        return no_call();
+        return;
+    }
+    if list.len() < room {
+        return;
     }
     answer_of(
         kind,
         &mut words[..length],
         &mut ledger[..count],
+        &mut list[..room],
         pool,
         numbers,
-    )
+        came,
+    );
 }
 
 // What is lent from a line on: make and lend say it.
-fn lent(kind: usize, pool: Pool, numbers: &[u64; 12]) -> Pool {
+fn lent(kind: usize, pool: Pool, numbers: &[u64; 13]) -> Pool {
     if 1 < kind {
         return pool;
     }
@@ -195,59 +156,8 @@ fn lent(kind: usize, pool: Pool, numbers: &[u64; 12]) -> Pool {
     }
 }
 
-// Whether a line of a kind has so many numbers: those of the call, the refusal, at most four values, the sum.
-fn is_line(kind: usize, from: usize, count: usize) -> bool {
-    if DIFFER <= kind {
-        return false;
-    }
-    if numbers::MOST < count {
-        return false;
-    }
-    if count < 2 {
-        return false;
-    }
-    if count - 2 < from {
-        return false;
-    }
-    count - 2 - from <= 4
-}
-
-// The place of the last of some numbers.
-fn last_of(count: usize) -> usize {
-    if count == 0 {
-        return 0;
-    }
-    count - 1
-}
-
-// A line of the list, its kind and its numbers; what is lent from it on.
+// A line of a kind, as it was read; what is lent from it on.
 fn turn(
-    kind: usize,
-    count: usize,
-    words: &mut [u64],
-    ledger: &mut [u32],
-    pool: Pool,
-    numbers: &[u64; 12],
-    tallies: &mut [u64; 12],
-    number: u64,
-) -> Pool {
-    let from = asked(kind);
-    if !is_line(kind, from, count) {
-        differ(tallies, number, no_call(), expected(numbers, from, count));
-        return pool;
-    }
-    let after = lent(kind, pool, numbers);
-    let came = lend(kind, words, ledger, after, numbers);
-    let said = expected(numbers, from, last_of(count));
-    add(tallies, kind);
-    if !same(came, said) {
-        differ(tallies, number, came, said);
-    }
-    after
-}
-
-// A line, as it was read; one that begins with # is passed over.
-fn read(
     text: &[u8; 256],
     length: usize,
     words: &mut [u64],
@@ -256,25 +166,24 @@ fn read(
     tallies: &mut [u64; 12],
     number: u64,
 ) -> Pool {
-    let letter = text[0];
-    if letter == b'#' {
+    let kind = kind_of(text[0]);
+    let mut numbers = [0u64; 13];
+    let mut came = [0u64; 13];
+    if numbers::numbers_of(text, length, asked(kind), &mut numbers) != numbers::END {
+        differ(tallies, number, &came, &numbers);
         return pool;
     }
-    let mut numbers = [0u64; 12];
-    let count = numbers::numbers_of(text, length, &mut numbers);
-    turn(
-        kind_of(letter),
-        count,
-        words,
-        ledger,
-        pool,
-        &numbers,
-        tallies,
-        number,
-    )
+    let after = lent(kind, pool, &numbers);
+    let mut list = [UNWRITTEN; 2048];
+    lend(kind, words, ledger, &mut list, after, &numbers, &mut came);
+    add(tallies, kind);
+    if !same(&came, &numbers) {
+        differ(tallies, number, &came, &numbers);
+    }
+    after
 }
 
-// Line by line to the end of the input.
+// Line by line to the end of the input; one that begins with # is passed over.
 fn lines(words: &mut [u64], ledger: &mut [u32], tallies: &mut [u64; 12]) {
     let mut text = [0u8; 256];
     let mut pool = Pool {
@@ -287,28 +196,43 @@ fn lines(words: &mut [u64], ledger: &mut [u32], tallies: &mut [u64; 12]) {
     let mut number = 0;
     while number < 0xFFFF_FFFF {
         number += 1;
+        text[0] = 0;
         let Line::Length(length) = script::read_line(&mut text) else {
             return;
         };
-        pool = read(&text, length, words, ledger, pool, tallies, number);
+        if text[0] == b'#' {
+            continue;
+        }
+        pool = turn(&text, length, words, ledger, pool, tallies, number);
     }
 }
 
+fn say_kind(kind: u64) {
+    let names = b"make 
+, lent anew 
+, words by hand 
+, ledger numbers by hand 
+, map 
+, modify 
+, compact 
+, look up 
+, list 
+, page image 
+, check 
+, lines that differ 
+";
+    report::say_line(names, kind);
+}
+
 // The tallies.
-fn close(tallies: [u64; 12]) {
-    say_count(b"calls replayed: make ", tallies[0]);
-    say_count(b", map ", tallies[4]);
-    say_count(b", modify ", tallies[5]);
-    say_count(b", compact ", tallies[6]);
-    say_count(b", look up ", tallies[7]);
-    say_count(b", list ", tallies[8]);
-    say_count(b", page image ", tallies[9]);
-    say_count(b", check ", tallies[10]);
-    say_count(b"; by hand: lent anew ", tallies[1]);
-    say_count(b", words ", tallies[2]);
-    say_count(b", ledger numbers ", tallies[3]);
-    say_count(b"; ", tallies[11]);
-    io::write_all(1, b" differ\n");
+fn close(tallies: &[u64; 12]) {
+    let mut kind = 0;
+    while kind < 12 {
+        say_kind(kind as u64);
+        io::print_decimal(1, tallies[kind]);
+        kind += 1;
+    }
+    io::write_all(1, b"\n");
 }
 
 fn main() {
@@ -316,5 +240,6 @@ fn main() {
     let mut ledger = [0u32; 12];
     let mut tallies = [0u64; 12];
     lines(&mut words, &mut ledger, &mut tallies);
-    close(tallies);
+    io::write_all(1, b"replayed: ");
+    close(&tallies);
 }

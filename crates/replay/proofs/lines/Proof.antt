@@ -7,7 +7,7 @@ use Rattle.replay.proofs.lines.Statement.{statement}
 use Rattle.replay.proofs.lines.Tie as tie
 use Rattle.replay.proofs.lines.Reads as reads
 use Rattle.replay.proofs.lines.Lts as lts
-use Rattle.replay.proofs.read.Reads as read-reads
+use Rattle.replay.proofs.turn.Reads as turn-reads
 use Rattle.script.proofs.read_line.Reads as read-line-reads
 
 abbrev Inv-loop : tie.InvT-loop
@@ -16,59 +16,75 @@ Inv-loop words₀ ledger₀ tallies₀ text₀ pool₀ number₀ words ledger ta
 abbrev μ-loop : tie.MeasureT-loop
 μ-loop words₀ ledger₀ tallies₀ text₀ pool₀ number₀ words ledger tallies text pool number = 4294967295 - number
 
--- src/main.rt:288:5
+-- src/main.rt:197:5
 loop-holds : tie.Need-loop-holds Inv-loop μ-loop
 loop-holds c = omega arith
 
--- src/main.rt:289:9
+-- src/main.rt:198:9
 add-number : tie.Need-add-number Inv-loop μ-loop
 add-number c = omega arith
 
--- src/main.rt:290:36
+-- src/main.rt:199:9
+array-write-text : tie.Need-array-write-text Inv-loop μ-loop
+array-write-text c = omega arith
+
+-- src/main.rt:200:36
 read-line-requires : tie.Need-read-line-requires Inv-loop μ-loop
 read-line-requires c κs = tt
 
--- src/main.rt:290:26
+-- src/main.rt:200:26
 enum-known-length : tie.Need-enum-known-length Inv-loop μ-loop
 enum-known-length c = omega arith
 
--- src/main.rt:291:13
+-- src/main.rt:201:13
 enum-told : tie.Need-enum-told Inv-loop μ-loop
 enum-told c = omega arith
 
--- src/main.rt:291:13
+-- src/main.rt:201:13
 same-length : tie.Need-same-length Inv-loop μ-loop
 same-length c = omega arith
 
--- src/main.rt:291:13
+-- src/main.rt:201:13
 same-length-2 : tie.Need-same-length-2 Inv-loop μ-loop
 same-length-2 c = omega arith
 
--- src/main.rt:291:13
+-- src/main.rt:201:13
 returns : tie.Need-returns Inv-loop μ-loop
 returns c = tt
 
--- src/main.rt:293:9
-read-requires : tie.Need-read-requires Inv-loop μ-loop
-read-requires c κs = tt
+-- src/main.rt:203:12
+array-read-if1 : tie.Need-array-read-if1 Inv-loop μ-loop
+array-read-if1 c = omega arith
 
--- src/main.rt:288:5
+-- src/main.rt:197:5
 loop-less : tie.Need-loop-less Inv-loop μ-loop
 loop-less c = omega arith
 
--- src/main.rt:288:5
+-- src/main.rt:197:5
 loop-again : tie.Need-loop-again Inv-loop μ-loop
 loop-again c = omega arith
 
--- src/main.rt:278:1
+-- src/main.rt:206:9
+turn-requires : tie.Need-turn-requires Inv-loop μ-loop
+turn-requires c κs = tt
+
+-- src/main.rt:197:5
+loop-less-2 : tie.Need-loop-less-2 Inv-loop μ-loop
+loop-less-2 c = omega arith
+
+-- src/main.rt:197:5
+loop-again-2 : tie.Need-loop-again-2 Inv-loop μ-loop
+loop-again-2 c = omega arith
+
+-- src/main.rt:187:1
 same-length-3 : tie.Need-same-length-3 Inv-loop μ-loop
 same-length-3 c = omega arith
 
--- src/main.rt:278:1
+-- src/main.rt:187:1
 same-length-4 : tie.Need-same-length-4 Inv-loop μ-loop
 same-length-4 c = omega arith
 
--- src/main.rt:278:1
+-- src/main.rt:187:1
 returns-2 : tie.Need-returns-2 Inv-loop μ-loop
 returns-2 c = tt
 
@@ -80,15 +96,19 @@ lines-spec =
     μ-loop
     loop-holds
     add-number
+    array-write-text
     read-line-requires
     enum-known-length
     enum-told
     same-length
     same-length-2
     returns
-    read-requires
+    array-read-if1
     loop-less
     loop-again
+    turn-requires
+    loop-less-2
+    loop-again-2
     same-length-3
     same-length-4
     returns-2)

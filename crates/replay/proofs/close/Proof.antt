@@ -1,0 +1,79 @@
+-- `close` ends: it stops at the last tally. Assumes nothing.
+use Prim.Native.Nat.{_-_, _≤_}
+use native.Mathlib.Omega.{arith}
+use borrow.Author.Needs.{needs}
+use Rattle.replay.proofs.close.Statement.{statement}
+use Rattle.replay.proofs.close.Tie as tie
+use Rattle.replay.proofs.close.Reads as reads
+use Rattle.replay.proofs.close.Lts as lts
+use Rattle.io.proofs.print_decimal.Reads as print-decimal-reads
+use Rattle.io.proofs.write_all.Reads as write-all-reads
+use Rattle.replay.proofs.say_kind.Reads as say-kind-reads
+
+abbrev Inv-loop : tie.InvT-loop
+Inv-loop tallies kind₀ t3 kind = kind ≤ 12
+
+abbrev μ-loop : tie.MeasureT-loop
+μ-loop tallies kind₀ t3 kind = 12 - kind
+
+-- src/main.rt:230:5
+loop-holds : tie.Need-loop-holds Inv-loop μ-loop
+loop-holds c = omega arith
+
+-- src/main.rt:231:9
+say-kind-requires : tie.Need-say-kind-requires Inv-loop μ-loop
+say-kind-requires c κs = tt
+
+-- src/main.rt:232:30
+mul-print-decimal : tie.Need-mul-print-decimal Inv-loop μ-loop
+mul-print-decimal c = omega arith
+
+-- src/main.rt:232:30
+element-copy-out-print-decimal : tie.Need-element-copy-out-print-decimal Inv-loop μ-loop
+element-copy-out-print-decimal c = omega arith
+
+-- src/main.rt:232:9
+print-decimal-requires : tie.Need-print-decimal-requires Inv-loop μ-loop
+print-decimal-requires c κs = tt
+
+-- src/main.rt:233:9
+add-kind : tie.Need-add-kind Inv-loop μ-loop
+add-kind c = omega arith
+
+-- src/main.rt:230:5
+loop-less : tie.Need-loop-less Inv-loop μ-loop
+loop-less c = omega arith
+
+-- src/main.rt:230:5
+loop-again : tie.Need-loop-again Inv-loop μ-loop
+loop-again c = omega arith
+
+-- src/main.rt:235:22
+slice-aggregate-write-all : tie.Need-slice-aggregate-write-all Inv-loop μ-loop
+slice-aggregate-write-all c = search needs
+
+-- src/main.rt:235:5
+write-all-requires : tie.Need-write-all-requires Inv-loop μ-loop
+write-all-requires c κs = tt
+
+-- src/main.rt:228:1
+returns : tie.Need-returns Inv-loop μ-loop
+returns c = tt
+
+pub close-spec : {M : Type 1} → statement M
+close-spec =
+    tie.close
+    (tie.spec
+    Inv-loop
+    μ-loop
+    loop-holds
+    say-kind-requires
+    mul-print-decimal
+    element-copy-out-print-decimal
+    print-decimal-requires
+    add-kind
+    loop-less
+    loop-again
+    slice-aggregate-write-all
+    write-all-requires
+    returns)

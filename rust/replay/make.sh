@@ -6,4 +6,4 @@ cd "$(dirname "$0")/../.."
 mkdir -p target/replay
 rust/oracle/build.sh
 rustc --edition 2021 -C opt-level=3 -L target/oracle --extern oracle -o target/replay/make rust/replay/main.rs
-target/replay/make "${1:-2026}" "${2:-4500}" crates/replay/stdin
+target/replay/make "${1:-2026}" "${2:-3800}" crates/replay/stdin

@@ -47,6 +47,20 @@ extern "C" {
 #define PTB_BLOCK 1
 #define PTB_PAGE 2
 
+/* Flags of a page or block: bits 0, 2 to 11 and 50 to 63 may be given, bit 1 never. Bits 2 to 4 are the attribute index. */
+#define PTB_VALID 0x1
+#define PTB_NS 0x20
+#define PTB_USER 0x40
+#define PTB_READ_ONLY 0x80
+#define PTB_OUTER_SHAREABLE 0x200
+#define PTB_INNER_SHAREABLE 0x300
+#define PTB_ACCESSED 0x400
+#define PTB_NON_GLOBAL 0x800
+#define PTB_GP 0x4000000000000
+#define PTB_DBM 0x8000000000000
+#define PTB_PXN 0x20000000000000
+#define PTB_UXN 0x40000000000000
+
 #define PTB_NO_BLOCK_MAPPINGS 1
 #define PTB_NO_CONTIGUOUS_HINT 2
 
@@ -75,7 +89,7 @@ uint64_t ptb_look_up(const uint64_t *words, size_t words_len, const uint32_t *le
                      uint64_t base, uint64_t level, uint64_t range, uint64_t va, uint64_t answer[4]);
 
 /*
- * Lists the entries that start..end meets, ascending, four numbers a line: start, end, word, level. What lies in `lines` after
+ * Lists the entries that start..end meets (start rounded down and end up to 4096), ascending, four numbers a line: start, end, word, level. What lies in `lines` after
  * the last line stays.
  * Refusals 1, 2, 5, 6, 8, 11 (lines_len is below four numbers a line; answer[0] is what is needed). Accepted: answer[0] the
  * count of lines.

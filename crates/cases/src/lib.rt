@@ -1,1 +1,1 @@
-// Theorems alone: the pool of document 01 as a forest, and the four steps on its lists, stand in specs/.
+// Theorems alone: document 01's starred bench cases stand in specs/.

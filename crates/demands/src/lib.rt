@@ -1,1 +1,1 @@
-// Theorems alone: in a sound pool the Arm walk stays in the pool, and is the walk of its tree.
+// Theorems alone: the demands, sentence by sentence, and the refusal slip stand in specs/.

@@ -1,4 +1,4 @@
-// Where a map begins: the lowest table that holds all of its region, reached by links alone. What stands above it is left as it is.
+// Where a map begins: a table that holds all of its region, as low as links lead. What stands above it is left as it is.
 use entry::Sub;
 use pool::Found;
 use pool::Handle;
@@ -51,7 +51,7 @@ fn next_table(
     Found::At(j)
 }
 
-// The lowest table from which the map does what it does from the root.
+// A table from which the map does what it does from the root, as low as links and rule 5 lead.
 pub fn lowest_table(words: &[u64], ledger: &[u32], handle: Handle, map: Map) -> Place
     requires { ⌜ Shaped handle (st (now words) (now ledger)) × Fit map ⌝ }
     ensures { λ r. ⌜ Serves handle map (st (now (words .entry)) (now (ledger .entry))) (r .table) (r .level) ⌝ }

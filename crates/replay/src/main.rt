@@ -109,7 +109,7 @@ fn answer_of(
     came[12] = sum::ledger(sum::words(sum::words(sum::START, list), words), ledger);
 }
 
-// The first words, ledger numbers and numbers of the list, as many as the line lends; 0 for all that came where there are not so many.
+// The first words, ledger numbers and numbers of the list, as many as the line lends; no call where there are not so many.
 fn lend(
     kind: usize,
     words: &mut [u64],
@@ -168,7 +168,8 @@ fn turn(
 ) -> Pool {
     let kind = kind_of(text[0]);
     let mut numbers = [0u64; 13];
-    let mut came = [0u64; 13];
+    // 99, which no call answers, where none was made.
+    let mut came = [99u64; 13];
     if numbers::numbers_of(text, length, asked(kind), &mut numbers) != numbers::END {
         differ(tallies, number, &came, &numbers);
         return pool;

@@ -1,4 +1,4 @@
-// A run of words of one table, judged by unions of its words, without a branch on a word.
+// A run of words of one table, judged by unions of its words.
 ghost use mathlib.Core.Path.{_≡_};
 ghost use Rattle.scan.specs.Words.{runOf, freeRun, pagesRun, linksRun, allowedAt};
 ghost use Rattle.scan.specs.Mask.{PlainSet};

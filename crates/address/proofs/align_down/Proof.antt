@@ -7,20 +7,16 @@ use Rattle.address.proofs.align_down.Tie as tie
 use Rattle.address.proofs.align_down.Reads as reads
 use Rattle.address.proofs.align_down.Lts as lts
 
--- src/lib.rt:38:9
 returns : tie.Need-returns
 returns c = let a = c .before .args in sym (ap (down (a .value)) (c .if1 .taken) ∙ down-zero (a .value))
 
--- src/lib.rt:40:5
 div-result : tie.Need-div-result
 div-result c = search needs
 
--- src/lib.rt:40:5
 mul-result : tie.Need-mul-result
 unfolding down
 mul-result c = let a = c .before .args in omega (arith, down-le (a .value) (a .alignment))
 
--- src/lib.rt:34:1
 returns-2 : tie.Need-returns-2
 unfolding down
 returns-2 c = refl

@@ -7,39 +7,31 @@ use Rattle.address.proofs.align_up.Tie as tie
 use Rattle.address.proofs.align_up.Reads as reads
 use Rattle.address.proofs.align_up.Lts as lts
 
--- src/lib.rt:48:9
 returns : tie.Need-returns
 returns c = let a = c .before .args in align-up-none (a .value) (a .alignment) (c .if1 .taken)
 
--- src/lib.rt:50:16
 rem-rest : tie.Need-rem-rest
 rem-rest c = search needs
 
--- src/lib.rt:52:9
 returns-2 : tie.Need-returns-2
 returns-2 c =
     let a = c .before .before .args in
     align-up-exact (a .value) (a .alignment) (omega arith) (c .if2 .taken) (omega arith)
 
--- src/lib.rt:54:17
 sub-below : tie.Need-sub-below
 sub-below c = let a = c .before .before .args in mod-le (a .value) (a .alignment)
 
--- src/lib.rt:55:8
 sub-if3 : tie.Need-sub-if3
 sub-if3 c = search needs
 
--- src/lib.rt:56:9
 returns-3 : tie.Need-returns-3
 returns-3 c =
     let a = c .before .before .before .args in
     align-up-past (a .value) (a .alignment) (omega arith) (c .before .if2 .left) (omega arith)
 
--- src/lib.rt:58:5
 add-result : tie.Need-add-result
 add-result c = search needs
 
--- src/lib.rt:44:1
 returns-4 : tie.Need-returns-4
 returns-4 c =
     let a = c .before .before .before .args in

@@ -5,22 +5,18 @@ use Rattle.address.proofs.granularity_at_level.Tie as tie
 use Rattle.address.proofs.granularity_at_level.Reads as reads
 use Rattle.address.proofs.granularity_at_level.Lts as lts
 
--- src/lib.rt:22:1
 returns : tie.Need-returns
 unfolding sizeAt
 returns c = sym (ap sizeAt (c .match .keys1))
 
--- src/lib.rt:22:1
 returns-2 : tie.Need-returns-2
 unfolding sizeAt
 returns-2 c = sym (ap sizeAt (c .match .keys2))
 
--- src/lib.rt:22:1
 returns-3 : tie.Need-returns-3
 unfolding sizeAt
 returns-3 c = sym (ap sizeAt (c .match .keys3))
 
--- src/lib.rt:22:1
 returns-4 : tie.Need-returns-4
 returns-4 c =
     let r = c .match .rest in

@@ -9,17 +9,14 @@ use Rattle.address.proofs.is_aligned.Tie as tie
 use Rattle.address.proofs.is_aligned.Reads as reads
 use Rattle.address.proofs.is_aligned.Lts as lts
 
--- src/lib.rt:66:9
 returns : tie.Need-returns
 returns c =
     let a = c .before .args in
     sym (ap (λ (x : ℕ). eqb x 0) (ap (λ (d : ℕ). a .value % d) (c .if1 .taken) ∙ mod-zero (a .value)))
 
--- src/lib.rt:68:5
 rem-result : tie.Need-rem-result
 rem-result c = search needs
 
--- src/lib.rt:62:1
 returns-2 : tie.Need-returns-2
 returns-2 c = search needs
 

@@ -17,67 +17,51 @@ Inv-loop usage words₀ ledger₀ text₀ bench₀ number₀ words ledger text b
 abbrev μ-loop : tie.MeasureT-loop
 μ-loop usage words₀ ledger₀ text₀ bench₀ number₀ words ledger text bench number = 4294967295 - number
 
--- src/main.rt:74:9
 new-requires : tie.Need-new-requires Inv-loop μ-loop
 new-requires c κs = tt
 
--- src/main.rt:76:5
 loop-holds : tie.Need-loop-holds Inv-loop μ-loop
 loop-holds c = omega arith
 
--- src/main.rt:77:9
 add-number : tie.Need-add-number Inv-loop μ-loop
 add-number c = omega arith
 
--- src/main.rt:78:36
 read-line-requires : tie.Need-read-line-requires Inv-loop μ-loop
 read-line-requires c κs = tt
 
--- src/main.rt:78:26
 enum-known-length : tie.Need-enum-known-length Inv-loop μ-loop
 enum-known-length c = omega arith
 
--- src/main.rt:79:13
 enum-told : tie.Need-enum-told Inv-loop μ-loop
 enum-told c = omega arith
 
--- src/main.rt:79:13
 same-length : tie.Need-same-length Inv-loop μ-loop
 same-length c = omega arith
 
--- src/main.rt:79:13
 same-length-2 : tie.Need-same-length-2 Inv-loop μ-loop
 same-length-2 c = omega arith
 
--- src/main.rt:79:13
 returns : tie.Need-returns Inv-loop μ-loop
 returns c = tt
 
--- src/main.rt:81:9
 echo-requires : tie.Need-echo-requires Inv-loop μ-loop
 echo-requires c κs = tt
 
--- src/main.rt:82:9
 turn-requires : tie.Need-turn-requires Inv-loop μ-loop
 turn-requires c κs = tt
 
--- src/main.rt:76:5
 loop-less : tie.Need-loop-less Inv-loop μ-loop
 loop-less c = omega arith
 
--- src/main.rt:76:5
 loop-again : tie.Need-loop-again Inv-loop μ-loop
 loop-again c = omega arith
 
--- src/main.rt:72:1
 same-length-3 : tie.Need-same-length-3 Inv-loop μ-loop
 same-length-3 c = omega arith
 
--- src/main.rt:72:1
 same-length-4 : tie.Need-same-length-4 Inv-loop μ-loop
 same-length-4 c = omega arith
 
--- src/main.rt:72:1
 returns-2 : tie.Need-returns-2 Inv-loop μ-loop
 returns-2 c = tt
 

@@ -19,23 +19,18 @@ good c = sym (c .before .is-shaped .ensures) ∙ not-false _ (c .if1 .left)
 shape : (c : tie.Else1) → let a = c .before .before .before .before .args in Shaped (a .handle) (st (a .words .now) (a .ledger .now))
 shape c = let a = c .before .before .before .before .args in shaped-says (a .handle) (st (a .words .now) (a .ledger .now)) (rw (good c) tt)
 
--- src/check.rt:206:9
 is-shaped-requires : tie.Need-is-shaped-requires
 is-shaped-requires c κs = omega arith
 
--- src/check.rt:207:9
 returns : tie.Need-returns
 returns c = let a = c .before .before .before .before .args in check-misshaped (a .handle) (st (a .words .now) (a .ledger .now)) (sym (c .before .is-shaped .ensures) ∙ not-true _ (c .if1 .taken))
 
--- src/check.rt:209:8
 is-sound-requires : tie.Need-is-sound-requires
 is-sound-requires c κs = shape c
 
--- src/check.rt:203:1
 returns-2 : tie.Need-returns-2
 returns-2 c = let a = c .before .before .before .before .before .before .args in check-sound (a .handle) (st (a .words .now) (a .ledger .now)) (good (c .before .before)) (sym (c .before .is-sound .ensures) ∙ c .if2 .taken)
 
--- src/check.rt:203:1
 returns-3 : tie.Need-returns-3
 returns-3 c = let a = c .before .before .before .before .before .before .args in check-unsound (a .handle) (st (a .words .now) (a .ledger .now)) (good (c .before .before)) (sym (c .before .is-sound .ensures) ∙ c .if2 .left)
 

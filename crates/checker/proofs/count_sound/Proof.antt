@@ -15,31 +15,25 @@ use Rattle.checker.proofs.count_sound.Lts as lts
 use Rattle.checker.proofs.scan_tables.Reads as scan-tables-reads
 use Rattle.pool.proofs.ledger.count_used.Reads as count-used-reads
 
--- src/lib.rt:194:9
 scan-tables-requires : tie.Need-scan-tables-requires
 scan-tables-requires c κs = c .before .before .pre
 
--- src/lib.rt:195:21
 enum-known-found : tie.Need-enum-known-found
 enum-known-found c = c .match .keys1
 
--- src/lib.rt:196:9
 enum-told : tie.Need-enum-told
 enum-told c = c .match .keys2
 
--- src/lib.rt:196:9
 returns : tie.Need-returns
 returns c =
     let a = c .before .before .before .before .before .args in
     let s = st (a .words .now) (a .ledger .now) in
     count-none (a .handle) s (sym (scan-unsound (a .handle) s (c .before .before .before .before .before .pre) (c .before .before .scan-tables .ensures) (c .enum-told .given .1)))
 
--- src/lib.rt:198:9
 count-used-requires : tie.Need-count-used-requires
 unfolding maxTables
 count-used-requires c κs = omega (arith, c .before .before .before .before .before .before .pre .limit)
 
--- src/lib.rt:199:8
 add-if1 : tie.Need-add-if1
 unfolding maxTables
 add-if1 c =
@@ -47,7 +41,6 @@ add-if1 c =
     let p = c .before .before .before .before .before .before .before .pre in
     omega (arith, p .limit, scan-few (a .handle) (st (a .words .now) (a .ledger .now)) p (c .before .before .before .before .scan-tables .ensures) _ (c .before .before .found .given .1))
 
--- src/lib.rt:200:9
 returns-2 : tie.Need-returns-2
 returns-2 c =
     let a = c .before .before .before .before .before .before .before .before .args in
@@ -56,7 +49,6 @@ returns-2 c =
     let counted = ap (eqb (links + 1)) (c .before .count-used .ensures) ∙ scan-counted (a .handle) s (c .before .before .before .before .before .before .before .before .pre) (c .before .before .before .before .before .scan-tables .ensures) _ (c .before .before .before .found .given .1) in
     count-none (a .handle) s (sym counted ∙ ne-eqb (links + 1) (c .before .count-used .result) (c .if1 .taken))
 
--- src/lib.rt:190:1
 returns-3 : tie.Need-returns-3
 returns-3 c =
     let a = c .before .before .before .before .before .before .before .before .args in

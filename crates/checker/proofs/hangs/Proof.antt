@@ -38,81 +38,64 @@ linked c =
 pos : {y : ℕ} → (y ≡ 0 → ⊥) → 0 < y
 pos n = omega arith
 
--- src/check.rt:122:18
 mul-number : tie.Need-mul-number
 mul-number c = omega arith
 
--- src/check.rt:122:18
 shared-slice-read-number : tie.Need-shared-slice-read-number
 shared-slice-read-number c = omega arith
 
--- src/check.rt:122:18
 cast-number : tie.Need-cast-number
 cast-number c = omega (arith, c .shared-slice-known3 .given (c .before .before .before .args .k))
 
--- src/check.rt:124:9
 returns : tie.Need-returns
 returns c =
     let a = c .before .before .before .before .args in
     no-hang (a .handle .base .0) (st (a .words .now) (a .ledger .now)) (a .k) (λ p. omega (arith, names-says _ (p .named) .kind))
 
--- src/check.rt:127:9
 returns-2 : tie.Need-returns-2
 returns-2 c =
     let a = c .before .before .before .before .before .args in
     no-hang (a .handle .base .0) (st (a .words .now) (a .ledger .now)) (a .k) (λ p. omega (arith, names-says _ (p .named) .some))
 
--- src/check.rt:129:14
 sub-at : tie.Need-sub-at
 sub-at c = omega arith
 
--- src/check.rt:132:9
 returns-3 : tie.Need-returns-3
 returns-3 c =
     let a = c .before .before .before .before .before .before .args in
     no-hang (a .handle .base .0) (st (a .words .now) (a .ledger .now)) (a .k) (λ p. omega (arith, used-in (st (a .words .now) (a .ledger .now)) _ (p .parent)))
 
--- src/check.rt:134:17
 mul-above : tie.Need-mul-above
 mul-above c = omega arith
 
--- src/check.rt:134:17
 shared-slice-read-above : tie.Need-shared-slice-read-above
 shared-slice-read-above c = omega arith
 
--- src/check.rt:134:17
 cast-above : tie.Need-cast-above
 cast-above c = let a = c .before .before .before .before .before .before .before .args in omega (arith, c .shared-slice-known4 .given ((getD (a .ledger .now) (a .k) 0 / 8 - 1) / 512))
 
--- src/check.rt:136:9
 returns-4 : tie.Need-returns-4
 returns-4 c =
     let a = c .before .before .before .before .before .before .before .before .args in
     no-hang (a .handle .base .0) (st (a .words .now) (a .ledger .now)) (a .k) (λ p. omega (arith, p .parent, c .if4 .taken))
 
--- src/check.rt:138:22
 add-if5 : tie.Need-add-if5
 add-if5 c = omega arith
 
--- src/check.rt:139:9
 returns-5 : tie.Need-returns-5
 returns-5 c =
     let a = c .before .before .before .before .before .before .before .before .before .args in
     no-hang (a .handle .base .0) (st (a .words .now) (a .ledger .now)) (a .k) (λ p. c .if5 .taken (p .deeper ∙ sym (add-one _)))
 
--- src/check.rt:141:5
 mul-result : tie.Need-mul-result
 mul-result c = omega arith
 
--- src/check.rt:141:5
 shared-slice-read-result : tie.Need-shared-slice-read-result
 shared-slice-read-result c = omega arith
 
--- src/check.rt:141:18
 link-requires : tie.Need-link-requires
 link-requires c κs = omega arith
 
--- src/check.rt:118:1
 returns-6 : tie.Need-returns-6
 returns-6 c =
     let a = c .before .before .before .before .before .before .before .before .before .before .before .args in

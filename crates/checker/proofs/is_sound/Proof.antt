@@ -7,23 +7,18 @@ use Rattle.checker.proofs.is_sound.Reads as reads
 use Rattle.checker.proofs.is_sound.Lts as lts
 use Rattle.checker.proofs.count_sound.Reads as count-sound-reads
 
--- src/lib.rt:210:9
 count-sound-requires : tie.Need-count-sound-requires
 count-sound-requires c κs = c .before .before .pre
 
--- src/lib.rt:212:25
 enum-told : tie.Need-enum-told
 enum-told c = c .match .keys1
 
--- src/lib.rt:213:27
 enum-told-2 : tie.Need-enum-told-2
 enum-told-2 c = c .match .keys2
 
--- src/lib.rt:206:1
 returns : tie.Need-returns
 returns c = let a = c .before .before .before .before .before .args in sym (count-sound (a .handle) (st (a .words .now) (a .ledger .now)) (c .before .before .count-sound .ensures) _ (c .enum-told .given .1) .0)
 
--- src/lib.rt:206:1
 returns-2 : tie.Need-returns-2
 returns-2 c = let a = c .before .before .before .before .before .args in sym (count-unsound (a .handle) (st (a .words .now) (a .ledger .now)) (c .before .before .count-sound .ensures) (c .enum-told2 .given .1))
 

@@ -55,99 +55,78 @@ passed c =
     let long = length-part (512 * k + 128 * r) 128 (a .words .now) (omega (arith, c .before .before .before .before .before .before .before .before .before .before .before .before .before .before .before .pre .sized)) in
     (rw (p .0) tt, p .1, omega (arith, p .1, count-below (numberAt s k) (runWords s k r)))
 
--- src/check.rt:164:9
 flag-set-requires : tie.Need-flag-set-requires Inv-loop μ-loop Inv-tables μ-tables
 flag-set-requires c κs = omega arith
 
--- src/check.rt:167:5
 tables-holds : tie.Need-tables-holds Inv-loop μ-loop Inv-tables μ-tables
 tables-holds c = (omega arith, all-none _, sym (sum-empty _), omega arith)
 
--- src/check.rt:171:13
 table-holds-requires : tie.Need-table-holds-requires Inv-loop μ-loop Inv-tables μ-tables
 table-holds-requires c κs = (c .before .before .before .before .before .pre, omega arith)
 
--- src/check.rt:174:22
 mul-number : tie.Need-mul-number Inv-loop μ-loop Inv-tables μ-tables
 mul-number c = omega arith
 
--- src/check.rt:174:22
 shared-slice-read-number : tie.Need-shared-slice-read-number Inv-loop μ-loop Inv-tables μ-tables
 shared-slice-read-number c = omega arith
 
--- src/check.rt:176:9
 loop-holds : tie.Need-loop-holds Inv-loop μ-loop Inv-tables μ-tables
 loop-holds c =
     let at = c .before .before .before .before in
     (omega arith, all-none _, (let e = sum-empty (runLinks (st (c .before .before .before .before .before .before .before .before .args .words .now) (c .before .before .before .before .before .before .before .before .args .ledger .now)) (at .tables .k)) in let q = at .tables .inv .2 in omega arith), omega arith)
 
--- src/check.rt:177:21
 mul-a : tie.Need-mul-a Inv-loop μ-loop Inv-tables μ-tables
 unfolding maxTables
 mul-a c = let p = c .before .before .before .before .before .before .before .before .before .before .pre in omega (arith, p .sized, p .limit)
 
--- src/check.rt:177:31
 mul-a-2 : tie.Need-mul-a-2 Inv-loop μ-loop Inv-tables μ-tables
 unfolding maxTables
 mul-a-2 c = let p = c .before .before .before .before .before .before .before .before .before .before .pre in omega (arith, p .sized, p .limit)
 
--- src/check.rt:177:21
 add-a : tie.Need-add-a Inv-loop μ-loop Inv-tables μ-tables
 unfolding maxTables
 add-a c = let p = c .before .before .before .before .before .before .before .before .before .before .pre in omega (arith, p .sized, p .limit)
 
--- src/check.rt:178:21
 add-e : tie.Need-add-e Inv-loop μ-loop Inv-tables μ-tables
 unfolding maxTables
 add-e c = let p = c .before .before .before .before .before .before .before .before .before .before .pre in omega (arith, p .sized, p .limit)
 
--- src/check.rt:179:28
 mul-scan : tie.Need-mul-scan Inv-loop μ-loop Inv-tables μ-tables
 unfolding maxTables
 mul-scan c = let p = c .before .before .before .before .before .before .before .before .before .before .pre in omega (arith, p .sized, p .limit)
 
--- src/check.rt:179:28
 sub-scan : tie.Need-sub-scan Inv-loop μ-loop Inv-tables μ-tables
 unfolding maxTables
 sub-scan c = let p = c .before .before .before .before .before .before .before .before .before .before .pre in omega (arith, p .sized, p .limit)
 
--- src/check.rt:179:28
 part-scan-start : tie.Need-part-scan-start Inv-loop μ-loop Inv-tables μ-tables
 unfolding maxTables
 part-scan-start c = let p = c .before .before .before .before .before .before .before .before .before .before .pre in omega (arith, p .sized, p .limit)
 
--- src/check.rt:179:28
 part-scan-end : tie.Need-part-scan-end Inv-loop μ-loop Inv-tables μ-tables
 unfolding maxTables
 part-scan-end c = let p = c .before .before .before .before .before .before .before .before .before .before .pre in omega (arith, p .sized, p .limit)
 
--- src/check.rt:179:17
 scan-requires : tie.Need-scan-requires Inv-loop μ-loop Inv-tables μ-tables
 unfolding flagSet
 scan-requires c κs = subst⁻¹ PlainSet (c .before .before .before .before .before .before .before .before .flag-set .ensures) el1-plain
 
--- src/check.rt:180:29
 enum-known-run : tie.Need-enum-known-run Inv-loop μ-loop Inv-tables μ-tables
 enum-known-run c = omega arith
 
--- src/check.rt:181:31
 enum-told : tie.Need-enum-told Inv-loop μ-loop Inv-tables μ-tables
 enum-told c = omega arith
 
--- src/check.rt:183:13
 add-links : tie.Need-add-links Inv-loop μ-loop Inv-tables μ-tables
 unfolding maxTables
 add-links c = let p = c .before .before .before .before .before .before .before .before .before .before .before .before .before .before .before .pre in let few = passed c .2 in omega (arith, p .limit, c .before .before .before .before .before .before .loop .inv .3)
 
--- src/check.rt:184:13
 add-r : tie.Need-add-r Inv-loop μ-loop Inv-tables μ-tables
 add-r c = omega arith
 
--- src/check.rt:176:9
 loop-less : tie.Need-loop-less Inv-loop μ-loop Inv-tables μ-tables
 loop-less c = omega arith
 
--- src/check.rt:176:9
 loop-again : tie.Need-loop-again Inv-loop μ-loop Inv-tables μ-tables
 loop-again c =
     let at = c .before .before .before .before .before .before in
@@ -162,15 +141,12 @@ loop-again c =
       omega (arith, at .loop .inv .3, run .2),
     )
 
--- src/check.rt:186:9
 add-k : tie.Need-add-k Inv-loop μ-loop Inv-tables μ-tables
 add-k c = omega arith
 
--- src/check.rt:167:5
 tables-less : tie.Need-tables-less Inv-loop μ-loop Inv-tables μ-tables
 tables-less c = omega arith
 
--- src/check.rt:167:5
 tables-again : tie.Need-tables-again Inv-loop μ-loop Inv-tables μ-tables
 unfolding tableLinks
 tables-again c =
@@ -188,7 +164,6 @@ tables-again c =
       omega (arith, inner .loop .inv .3),
     )
 
--- src/check.rt:159:1
 returns : tie.Need-returns Inv-loop μ-loop Inv-tables μ-tables
 returns c =
     let at = c .before in
@@ -197,13 +172,11 @@ returns c =
     let all : at .tables .k ≡ tables s = omega arith in
     tables-passed (a .handle) s (at .tables .links) (rw all at (at .tables .inv .1)) (at .tables .inv .2 ∙ ap (λ (n : ℕ). sum n (tableLinks s)) all)
 
--- src/check.rt:159:1
 returns-2 : tie.Need-returns-2 Inv-loop μ-loop Inv-tables μ-tables
 returns-2 c =
     let a = c .before .before .before .before .before .before .before .args in
     tables-failed (a .handle) (st (a .words .now) (a .ledger .now)) (c .before .before .before .tables .k) (omega arith) (number-fails (a .handle) (st (a .words .now) (a .ledger .now)) (c .before .before .before .tables .k) (sym (c .before .table-holds .ensures) ∙ not-true _ (c .if2 .taken)))
 
--- src/check.rt:159:1
 returns-3 : tie.Need-returns-3 Inv-loop μ-loop Inv-tables μ-tables
 unfolding runPasses
 returns-3 c =

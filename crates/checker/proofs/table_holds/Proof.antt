@@ -24,40 +24,31 @@ unfolding tableb
 used-holds h s zero n e = absurd (n refl)
 used-holds h s (suc k) n e = rw (ne-eqb (numberAt s (suc k)) 0 e)
 
--- src/check.rt:150:16
 shared-slice-read-result : tie.Need-shared-slice-read-result
 shared-slice-read-result c = omega arith
 
--- src/check.rt:150:16
 cast-result : tie.Need-cast-result
 cast-result c = omega (arith, c .shared-slice-known3 .given 0)
 
--- src/check.rt:150:38
 add-result : tie.Need-add-result
 add-result c = omega arith
 
--- src/check.rt:150:9
 returns : tie.Need-returns
 unfolding tableb rootNumber
 returns c = let a = c .before .before .before .before .before .args in sym (ap (tableb (a .handle) (st (a .words .now) (a .ledger .now))) (c .before .before .if1 .taken))
 
--- src/check.rt:152:8
 mul-if2 : tie.Need-mul-if2
 mul-if2 c = omega arith
 
--- src/check.rt:152:8
 shared-slice-read-if2 : tie.Need-shared-slice-read-if2
 shared-slice-read-if2 c = omega arith
 
--- src/check.rt:153:9
 returns-2 : tie.Need-returns-2
 returns-2 c = let a = c .before .before .before .before .before .args in free-holds (a .handle) (st (a .words .now) (a .ledger .now)) (a .k) (c .before .before .if1 .left) (c .if2 .taken)
 
--- src/check.rt:155:5
 hangs-requires : tie.Need-hangs-requires
 hangs-requires c κs = omega arith
 
--- src/check.rt:145:1
 returns-3 : tie.Need-returns-3
 returns-3 c = let a = c .before .before .before .before .before .before .args in c .hangs .ensures ∙ used-holds (a .handle) (st (a .words .now) (a .ledger .now)) (a .k) (c .before .before .before .if1 .left) (c .before .if2 .left)
 

@@ -51,49 +51,38 @@ less h = omega arith
 lower : {level t : ℕ} → 3 - level ≡ t → level < 3 → (3 - (level + 1) < t) × (level + 1 ≤ 3)
 lower e h = (omega arith, omega arith)
 
--- src/lib.rt:50:9
 returns : (t : ℕ) → lts.Need-returns (calls t) (started t) reads.Post Inv-loop μ-loop
 returns t c =
     let a = c .before .before .before .args in
     compact-last (a .level) (a .handle) (a .k) (st (a .words .now) (a .ledger .now)) (omega arith)
 
--- src/lib.rt:53:5
 loop-holds : (t : ℕ) → lts.Need-loop-holds (calls t) (started t) reads.Post Inv-loop μ-loop
 loop-holds t c = (omega arith, refl, refl, iter-none _ _)
 
--- src/lib.rt:55:9
 add-next : (t : ℕ) → lts.Need-add-next (calls t) (started t) reads.Post Inv-loop μ-loop
 add-next t c = omega arith
 
--- src/lib.rt:56:76
 mul-subtable : (t : ℕ) → lts.Need-mul-subtable (calls t) (started t) reads.Post Inv-loop μ-loop
 mul-subtable t c = omega arith
 
--- src/lib.rt:56:76
 add-subtable : (t : ℕ) → lts.Need-add-subtable (calls t) (started t) reads.Post Inv-loop μ-loop
 add-subtable t c = omega arith
 
--- src/lib.rt:56:70
 mul-subtable-2 : (t : ℕ) → lts.Need-mul-subtable-2 (calls t) (started t) reads.Post Inv-loop μ-loop
 mul-subtable-2 t c = omega arith
 
--- src/lib.rt:56:70
 slice-read-subtable : (t : ℕ) → lts.Need-slice-read-subtable (calls t) (started t) reads.Post Inv-loop μ-loop
 slice-read-subtable t c = omega arith
 
--- src/lib.rt:56:13
 subtable-requires : (t : ℕ) → lts.Need-subtable-requires (calls t) (started t) reads.Post Inv-loop μ-loop
 subtable-requires t c κs = tt
 
--- src/lib.rt:57:24
 enum-known-kind : (t : ℕ) → lts.Need-enum-known-kind (calls t) (started t) reads.Post Inv-loop μ-loop
 enum-known-kind t c = c .match .keys1
 
--- src/lib.rt:53:5
 loop-less : (t : ℕ) → lts.Need-loop-less (calls t) (started t) reads.Post Inv-loop μ-loop
 loop-less t c = less (c .before .before .before .loop-test .taken)
 
--- src/lib.rt:53:5
 loop-again : (t : ℕ) → lts.Need-loop-again (calls t) (started t) reads.Post Inv-loop μ-loop
 loop-again t c =
     let at = c .before .before .before .before in
@@ -109,11 +98,9 @@ loop-again t c =
           (no-table (sub .result) (c .match .keys2))),
     )
 
--- src/lib.rt:60:53
 add-compact-subtables : (t : ℕ) → lts.Need-add-compact-subtables (calls t) (started t) reads.Post Inv-loop μ-loop
 add-compact-subtables t c = omega arith
 
--- src/lib.rt:60:9
 compact-subtables-requires : (t : ℕ) → lts.Need-compact-subtables-requires (calls t) (started t) reads.Post Inv-loop μ-loop
 compact-subtables-requires t c κs =
     let told = c .before .before .before in
@@ -123,7 +110,6 @@ compact-subtables-requires t c κs =
     let low = lower (p .0) (found .high) in
     (low .0, (at .1 ∙ p .1 .0 ∙ ap (λ (n : ℕ). 512 * n) (sym (at .2)), found .below, low .1))
 
--- src/lib.rt:61:9
 release-empty-requires : (t : ℕ) → lts.Need-release-empty-requires (calls t) (started t) reads.Post Inv-loop μ-loop
 release-empty-requires t c κs =
     let called = c .before .before .before .before .before .before .compact-subtables in
@@ -138,11 +124,9 @@ release-empty-requires t c κs =
       subst⁻¹ (λ (n : ℕ). told .kind .given .0 .0 < n) (called .kept .1 .0) j,
     )
 
--- src/lib.rt:53:5
 loop-less-2 : (t : ℕ) → lts.Need-loop-less-2 (calls t) (started t) reads.Post Inv-loop μ-loop
 loop-less-2 t c = less (c .before .before .before .before .before .before .before .before .before .before .before .before .before .before .before .before .before .before .before .loop-test .taken)
 
--- src/lib.rt:53:5
 loop-again-2 : (t : ℕ) → lts.Need-loop-again-2 (calls t) (started t) reads.Post Inv-loop μ-loop
 loop-again-2 t c =
     let called = c .before .before .before .before .before .before .before .before .before .before .before in
@@ -160,15 +144,12 @@ loop-again-2 t c =
           ∙ entry-table (below (a .level) (a .handle)) (a .handle) (a .level) (a .k) (at .loop .next) s (told .before .before .subtable .ensures) j (told .kind .given .1)),
     )
 
--- src/lib.rt:45:1
 same-length : (t : ℕ) → lts.Need-same-length (calls t) (started t) reads.Post Inv-loop μ-loop
 same-length t c = c .before .loop .inv .1
 
--- src/lib.rt:45:1
 same-length-2 : (t : ℕ) → lts.Need-same-length-2 (calls t) (started t) reads.Post Inv-loop μ-loop
 same-length-2 t c = c .before .loop .inv .2
 
--- src/lib.rt:45:1
 returns-2 : (t : ℕ) → lts.Need-returns-2 (calls t) (started t) reads.Post Inv-loop μ-loop
 returns-2 t c =
     let at = c .before in

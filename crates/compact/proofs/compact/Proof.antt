@@ -27,61 +27,48 @@ sound : (c : tie.Else2) → let a = c .before .before .before .before .before .b
     soundb (a .handle) (st (a .words .now) (a .ledger .now)) ≡ true
 sound c = sym (c .before .is-sound .ensures) ∙ not-false _ (c .if2 .left)
 
--- src/lib.rt:69:9
 is-shaped-requires : tie.Need-is-shaped-requires
 is-shaped-requires c κs = tt
 
--- src/lib.rt:70:9
 same-length : tie.Need-same-length
 same-length c = omega arith
 
--- src/lib.rt:70:9
 same-length-2 : tie.Need-same-length-2
 same-length-2 c = omega arith
 
--- src/lib.rt:70:9
 returns : tie.Need-returns
 returns c =
     let a = c .before .before .before .before .before .before .args in
     call-misshaped (a .handle) (st (a .words .now) (a .ledger .now)) (sym (c .before .is-shaped .ensures) ∙ not-true _ (c .if1 .taken))
 
--- src/lib.rt:72:9
 is-sound-requires : tie.Need-is-sound-requires
 is-sound-requires c κs = shape (c .before .before)
 
--- src/lib.rt:73:9
 same-length-3 : tie.Need-same-length-3
 same-length-3 c = omega arith
 
--- src/lib.rt:73:9
 same-length-4 : tie.Need-same-length-4
 same-length-4 c = omega arith
 
--- src/lib.rt:73:9
 returns-2 : tie.Need-returns-2
 returns-2 c =
     let a = c .before .before .before .before .before .before .before .before .before .before .args in
     call-unsound (a .handle) (st (a .words .now) (a .ledger .now)) (good (c .before .before .before .before)) (sym (c .before .is-sound .ensures) ∙ not-true _ (c .if2 .taken))
 
--- src/lib.rt:75:5
 compact-subtables-requires : tie.Need-compact-subtables-requires
 compact-subtables-requires c κs =
     let p = shape (c .before .before .before .before .before .before) in (p .sized, p .some, p .level)
 
--- src/lib.rt:76:21
 count-used-requires : tie.Need-count-used-requires
 unfolding maxTables
 count-used-requires c κs = omega (arith, shape (c .before .before .before .before .before .before .before .before .before .before .before .before) .limit)
 
--- src/lib.rt:66:1
 same-length-5 : tie.Need-same-length-5
 same-length-5 c = omega arith
 
--- src/lib.rt:66:1
 same-length-6 : tie.Need-same-length-6
 same-length-6 c = omega arith
 
--- src/lib.rt:66:1
 returns-3 : tie.Need-returns-3
 returns-3 c =
     let done = c .before .before .before .before .before .before in

@@ -21,79 +21,62 @@ whole c =
     let size : 512 * a .j + 512 - 512 * a .j ≡ 512 = omega arith in
     c .is-empty .ensures ∙ ap (λ (n : ℕ). allZero (partOf (512 * a .j) n (a .words .now))) size
 
--- src/lib.rt:35:13
 mul-a : tie.Need-mul-a
 mul-a c = omega arith
 
--- src/lib.rt:36:13
 add-e : tie.Need-add-e
 add-e c = omega arith
 
--- src/lib.rt:37:18
 mul-is-empty : tie.Need-mul-is-empty
 mul-is-empty c = omega arith
 
--- src/lib.rt:37:18
 sub-is-empty : tie.Need-sub-is-empty
 sub-is-empty c = omega arith
 
--- src/lib.rt:37:18
 part-is-empty-start : tie.Need-part-is-empty-start
 part-is-empty-start c = omega arith
 
--- src/lib.rt:37:18
 part-is-empty-end : tie.Need-part-is-empty-end
 part-is-empty-end c = omega arith
 
--- src/lib.rt:37:9
 is-empty-requires : tie.Need-is-empty-requires
 is-empty-requires c κs = tt
 
--- src/lib.rt:38:9
 same-length : tie.Need-same-length
 same-length c = omega arith
 
--- src/lib.rt:38:9
 returns : tie.Need-returns
 returns c =
     let a = c .before .before .before .before .before .before .args in
     release-kept (a .k) (a .i) (a .j) (st (a .words .now) (a .ledger .now)) (sym (whole (c .before)) ∙ not-true _ (c .if1 .taken))
 
--- src/lib.rt:40:11
 mul-words : tie.Need-mul-words
 mul-words c = omega arith
 
--- src/lib.rt:40:11
 add-words : tie.Need-add-words
 add-words c = omega arith
 
--- src/lib.rt:40:5
 mul-words-2 : tie.Need-mul-words-2
 mul-words-2 c = omega arith
 
--- src/lib.rt:40:5
 slice-write-words : tie.Need-slice-write-words
 slice-write-words c = omega arith
 
--- src/lib.rt:41:5
 clear-table-requires : tie.Need-clear-table-requires
 clear-table-requires c κs =
     let a = c .before .before .before .before .before .before .before .before .args in
     let e = length-set (a .words .now) (512 * a .k + a .i) 0 in
     (omega arith, omega arith)
 
--- src/lib.rt:31:1
 same-length-2 : tie.Need-same-length-2
 same-length-2 c =
     let a = c .before .before .before .before .before .before .before .before .before .before .before .before .before .args in
     let e = length-set (a .words .now) (512 * a .k + a .i) 0 in
     omega arith
 
--- src/lib.rt:31:1
 same-length-3 : tie.Need-same-length-3
 same-length-3 c = omega arith
 
--- src/lib.rt:31:1
 returns-2 : tie.Need-returns-2
 returns-2 c =
     let test = c .before .before .before .before .before .before .before in

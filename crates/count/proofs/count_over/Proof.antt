@@ -11,25 +11,20 @@ use Rattle.count.proofs.count_over.Lts as lts
 use Rattle.ends.proofs.count_most.Reads as count-most-reads
 use Rattle.count.proofs.count_new.Reads as count-new-reads
 
--- src/lib.rt:278:8
 count-most-requires : tie.Need-count-most-requires
 count-most-requires c κs = let f = c .before .before .pre .3 in omega (arith, f .room)
 
--- src/lib.rt:279:9
 returns : tie.Need-returns
 returns c =
     let a = c .before .before .before .before .args in
     over-none (a .free) _ (let m = closed-met (3 - a .handle .level) (a .handle) (st (a .words .now) (a .ledger .now)) 0 (a .map) (omega arith) in omega (arith, c .before .count-most .ensures))
 
--- src/lib.rt:281:9
 count-new-requires : tie.Need-count-new-requires
 count-new-requires c κs = c .before .before .before .before .pre
 
--- src/lib.rt:283:9
 returns-2 : tie.Need-returns-2
 returns-2 c = let a = c .before .before .before .before .before .before .args in over-none (a .free) _ (omega (arith, c .before .count-new .ensures))
 
--- src/lib.rt:274:1
 returns-3 : tie.Need-returns-3
 returns-3 c =
     let a = c .before .before .before .before .before .before .args in

@@ -113,65 +113,51 @@ is-own t c =
     let a = c .before .before .before .before .before .before .before .before .before .before .before .args in
     sym (c .is-own .ensures ∙ ap (λ (e : Edit). own (a .level) (e .region) (wordAt (workOf t place .state) (a .k) (place .entry-index .result))) (c .before .before .chunk-edit .ensures))
 
--- src/lib.rt:108:9
 modify-range-edit-own-requires : (t : ℕ) → modify-range-lts.Need-edit-own-requires (calls t) (modify-range-at t) modify-range.Post modify-range-Inv-loop modify-range-μ-loop
 modify-range-edit-own-requires t c κs = let p = c .before .before .before .before .before .before .pre .1 in omega (arith, p .0 .sized, p .1)
 
--- src/lib.rt:108:9
 modify-range-same-length : (t : ℕ) → modify-range-lts.Need-same-length (calls t) (modify-range-at t) modify-range.Post modify-range-Inv-loop modify-range-μ-loop
 modify-range-same-length t c = c .before .before .before .before .edit-own .kept .0
 
--- src/lib.rt:108:9
 modify-range-same-length-2 : (t : ℕ) → modify-range-lts.Need-same-length-2 (calls t) (modify-range-at t) modify-range.Post modify-range-Inv-loop modify-range-μ-loop
 modify-range-same-length-2 t c = c .before .before .before .before .edit-own .kept .1 .1 .1 .1 .0
 
--- src/lib.rt:108:9
 modify-range-returns : (t : ℕ) → modify-range-lts.Need-returns (calls t) (modify-range-at t) modify-range.Post modify-range-Inv-loop modify-range-μ-loop
 modify-range-returns t c =
     let a = c .before .before .before .before .before .before .before .before .before .before .before .args in
     let w = work (st (a .words .now) (a .ledger .now)) (a .list .now) (a .before) in
     own-done (a .level) (a .k) (a .edit) w (c .before .before .before .before .edit-own .ensures) ∙ modify-pages (a .level) (a .handle) (a .k) (a .edit) w (c .before .before .before .before .before .before .before .before .before .before .before .pre .1 .2) (c .before .before .before .before .before .before .before .if1 .taken)
 
--- src/lib.rt:113:5
 modify-range-loop-holds : (t : ℕ) → modify-range-lts.Need-loop-holds (calls t) (modify-range-at t) modify-range.Post modify-range-Inv-loop modify-range-μ-loop
 modify-range-loop-holds t c = (refl, refl, refl, refl)
 
--- src/lib.rt:114:13
 modify-range-chunk-end-requires : (t : ℕ) → modify-range-lts.Need-chunk-end-requires (calls t) (modify-range-at t) modify-range.Post modify-range-Inv-loop modify-range-μ-loop
 modify-range-chunk-end-requires t c κs = tt
 
--- src/lib.rt:119:13
 modify-range-entry-index-requires : (t : ℕ) → modify-range-lts.Need-entry-index-requires (calls t) (modify-range-at t) modify-range.Post modify-range-Inv-loop modify-range-μ-loop
 modify-range-entry-index-requires t c κs = tt
 
 modify-range-chunk-edit-requires : (t : ℕ) → modify-range-lts.Need-chunk-edit-requires (calls t) (modify-range-at t) modify-range.Post modify-range-Inv-loop modify-range-μ-loop
 modify-range-chunk-edit-requires t c κs = tt
 
--- src/lib.rt:121:39
 modify-range-mul-is-own : (t : ℕ) → modify-range-lts.Need-mul-is-own (calls t) (modify-range-at t) modify-range.Post modify-range-Inv-loop modify-range-μ-loop
 modify-range-mul-is-own t c = let f = facts t (c .before) in omega (arith, f .slot, f .table, f .shape .sized)
 
--- src/lib.rt:121:39
 modify-range-add-is-own : (t : ℕ) → modify-range-lts.Need-add-is-own (calls t) (modify-range-at t) modify-range.Post modify-range-Inv-loop modify-range-μ-loop
 modify-range-add-is-own t c = let f = facts t (c .before) in omega (arith, f .slot, f .table, f .shape .sized)
 
--- src/lib.rt:121:33
 modify-range-mul-is-own-2 : (t : ℕ) → modify-range-lts.Need-mul-is-own-2 (calls t) (modify-range-at t) modify-range.Post modify-range-Inv-loop modify-range-μ-loop
 modify-range-mul-is-own-2 t c = let f = facts t (c .before) in omega (arith, f .slot, f .table, f .shape .sized)
 
--- src/lib.rt:121:33
 modify-range-slice-read-is-own : (t : ℕ) → modify-range-lts.Need-slice-read-is-own (calls t) (modify-range-at t) modify-range.Post modify-range-Inv-loop modify-range-μ-loop
 modify-range-slice-read-is-own t c = let f = facts t (c .before .before) in omega (arith, f .slot, f .table, f .shape .sized)
 
--- src/lib.rt:121:12
 modify-range-is-own-requires : (t : ℕ) → modify-range-lts.Need-is-own-requires (calls t) (modify-range-at t) modify-range.Post modify-range-Inv-loop modify-range-μ-loop
 modify-range-is-own-requires t c κs = tt
 
--- src/lib.rt:113:5
 modify-range-loop-less : (t : ℕ) → modify-range-lts.Need-loop-less (calls t) (modify-range-at t) modify-range.Post modify-range-Inv-loop modify-range-μ-loop
 modify-range-loop-less t c = let f = facts t (c .before .before .before .before) in omega (arith, f .above, f .under)
 
--- src/lib.rt:113:5
 modify-range-loop-again : (t : ℕ) → modify-range-lts.Need-loop-again (calls t) (modify-range-at t) modify-range.Post modify-range-Inv-loop modify-range-μ-loop
 modify-range-loop-again t c =
     let at = c .before .before .before .before .before .before .before in
@@ -179,23 +165,18 @@ modify-range-loop-again t c =
     let f = facts t (c .before .before .before .before) in
     (at .loop .inv .0, at .loop .inv .1, at .loop .inv .2, onwards t (c .before .before .before .before) (workOf t (c .before .before .before .before)) (step-own (a .handle) (a .level) (a .k) (a .edit) _ (workOf t (c .before .before .before .before)) (f .index) (is-own t (c .before) ∙ c .if2 .taken)))
 
--- src/lib.rt:124:13
 modify-range-descend-requires : (t : ℕ) → modify-range-lts.Need-descend-requires (calls t) (modify-range-at t) modify-range.Post modify-range-Inv-loop modify-range-μ-loop
 modify-range-descend-requires t c κs = let f = facts t (c .before .before .before .before .before .before) in (f .shape, f .high, f .table, f .slot)
 
--- src/lib.rt:125:23
 modify-range-enum-known-under : (t : ℕ) → modify-range-lts.Need-enum-known-under (calls t) (modify-range-at t) modify-range.Post modify-range-Inv-loop modify-range-μ-loop
 modify-range-enum-known-under t c = c .match .keys1
 
--- src/lib.rt:126:13
 modify-range-enum-told : (t : ℕ) → modify-range-lts.Need-enum-told (calls t) (modify-range-at t) modify-range.Post modify-range-Inv-loop modify-range-μ-loop
 modify-range-enum-told t c = c .match .keys2
 
--- src/lib.rt:113:5
 modify-range-loop-less-2 : (t : ℕ) → modify-range-lts.Need-loop-less-2 (calls t) (modify-range-at t) modify-range.Post modify-range-Inv-loop modify-range-μ-loop
 modify-range-loop-less-2 t c = let f = facts t (c .before .before .before .before .before .before .before .before .before .before .before .before .before) in omega (arith, f .above, f .under)
 
--- src/lib.rt:113:5
 modify-range-loop-again-2 : (t : ℕ) → modify-range-lts.Need-loop-again-2 (calls t) (modify-range-at t) modify-range.Post modify-range-Inv-loop modify-range-μ-loop
 modify-range-loop-again-2 t c =
     let at = c .before .before .before .before .before .before .before .before .before .before .before .before .before .before .before .before in
@@ -204,11 +185,9 @@ modify-range-loop-again-2 t c =
     let step = step-none (a .handle) (a .level) (a .k) (a .edit) _ (workOf t (c .before .before .before .before .before .before .before .before .before .before .before .before .before)) (f .index) (is-own t (c .before .before .before .before .before .before .before .before .before .before) ∙ c .before .before .before .before .before .before .before .before .before .if2 .left) (c .before .before .before .before .before .before .descend .ensures) (c .enum-told .given .1) in
     (c .before .before .before .before .before .before .descend .kept .0 ∙ at .loop .inv .0, c .before .before .before .before .before .before .descend .kept .1 .0 ∙ at .loop .inv .1, at .loop .inv .2, onwards t (c .before .before .before .before .before .before .before .before .before .before .before .before .before) _ step)
 
--- src/lib.rt:134:56
 modify-range-add-modify-range : (t : ℕ) → modify-range-lts.Need-add-modify-range (calls t) (modify-range-at t) modify-range.Post modify-range-Inv-loop modify-range-μ-loop
 modify-range-add-modify-range t c = omega (arith, facts t (c .before .before .before .before .before .before .before .before .before .before .before .before .before .before .before .before) .high)
 
--- src/lib.rt:134:9
 modify-range-modify-range-requires : (t : ℕ) → modify-range-lts.Need-modify-range-requires (calls t) (modify-range-at t) modify-range.Post modify-range-Inv-loop modify-range-μ-loop
 modify-range-modify-range-requires t c κs =
     let place = c .before .before .before .before .before .before .before .before .before .before .before .before .before .before .before .before .before in
@@ -222,11 +201,9 @@ modify-range-modify-range-requires t c κs =
       (shaped-keep (a .handle) s (st (under .descend .last .0) (under .descend .last .1 .0)) (f .shape) (under .descend .kept .0) (under .descend .kept .1 .0), omega (arith, found, under .descend .kept .1 .0), omega (arith, f .high)),
     )
 
--- src/lib.rt:113:5
 modify-range-loop-less-3 : (t : ℕ) → modify-range-lts.Need-loop-less-3 (calls t) (modify-range-at t) modify-range.Post modify-range-Inv-loop modify-range-μ-loop
 modify-range-loop-less-3 t c = let f = facts t (c .before .before .before .before .before .before .before .before .before .before .before .before .before .before .before .before .before .before .before .before .before .before .before .before) in omega (arith, f .above, f .under)
 
--- src/lib.rt:113:5
 modify-range-loop-again-3 : (t : ℕ) → modify-range-lts.Need-loop-again-3 (calls t) (modify-range-at t) modify-range.Post modify-range-Inv-loop modify-range-μ-loop
 modify-range-loop-again-3 t c =
     let at = c .before .before .before .before .before .before .before .before .before .before .before .before .before .before .before .before .before .before .before .before .before .before .before .before .before .before .before in
@@ -240,23 +217,18 @@ modify-range-loop-again-3 t c =
     let step = rec .ensures ∙ part ∙ step-into (a .handle) (a .level) (a .k) (a .edit) _ (workOf t (c .before .before .before .before .before .before .before .before .before .before .before .before .before .before .before .before .before .before .before .before .before .before .before .before)) (f .index) (is-own t (c .before .before .before .before .before .before .before .before .before .before .before .before .before .before .before .before .before .before .before .before .before) ∙ c .before .before .before .before .before .before .before .before .before .before .before .before .before .before .before .before .before .before .before .before .if2 .left) (under .descend .ensures) j (c .before .before .before .before .before .before .before .before .before .before .before .under .given .1) in
     (rec .kept .0 ∙ under .descend .kept .0 ∙ at .loop .inv .0, rec .kept .1 .0 ∙ under .descend .kept .1 .0 ∙ at .loop .inv .1, rec .kept .1 .1 .1 .1 .1 .1 .0 ∙ at .loop .inv .2, onwards t (c .before .before .before .before .before .before .before .before .before .before .before .before .before .before .before .before .before .before .before .before .before .before .before .before) _ step)
 
--- src/lib.rt:136:5
 modify-range-edit-own-requires-2 : (t : ℕ) → modify-range-lts.Need-edit-own-requires-2 (calls t) (modify-range-at t) modify-range.Post modify-range-Inv-loop modify-range-μ-loop
 modify-range-edit-own-requires-2 t c κs = let p = c .before .before .before .before .before .before .before .before .pre .1 in omega (arith, p .0 .sized, p .1, c .before .before .before .loop .inv .0)
 
--- src/lib.rt:93:1
 modify-range-same-length-3 : (t : ℕ) → modify-range-lts.Need-same-length-3 (calls t) (modify-range-at t) modify-range.Post modify-range-Inv-loop modify-range-μ-loop
 modify-range-same-length-3 t c = c .before .before .before .before .edit-own2 .kept .0 ∙ c .before .before .before .before .before .before .before .before .loop .inv .0
 
--- src/lib.rt:93:1
 modify-range-same-length-4 : (t : ℕ) → modify-range-lts.Need-same-length-4 (calls t) (modify-range-at t) modify-range.Post modify-range-Inv-loop modify-range-μ-loop
 modify-range-same-length-4 t c = c .before .before .before .before .before .before .before .before .loop .inv .1
 
--- src/lib.rt:93:1
 modify-range-same-length-5 : (t : ℕ) → modify-range-lts.Need-same-length-5 (calls t) (modify-range-at t) modify-range.Post modify-range-Inv-loop modify-range-μ-loop
 modify-range-same-length-5 t c = c .before .before .before .before .edit-own2 .kept .1 .1 .1 .1 .0 ∙ c .before .before .before .before .before .before .before .before .loop .inv .2
 
--- src/lib.rt:93:1
 modify-range-returns-2 : (t : ℕ) → modify-range-lts.Need-returns-2 (calls t) (modify-range-at t) modify-range.Post modify-range-Inv-loop modify-range-μ-loop
 modify-range-returns-2 t c =
     let at = c .before .before .before .before .before .before .before .before in

@@ -61,47 +61,36 @@ facts c =
           ∙ sym (each-step (a .level) f (at .loop .at) (a .edit .region .end .0) n low) ∙ inv .2;
     }
 
--- src/lib.rt:66:5
 loop-holds : tie.Need-loop-holds Inv-loop μ-loop
 loop-holds c = (refl, refl, refl)
 
--- src/lib.rt:67:13
 chunk-end-requires : tie.Need-chunk-end-requires Inv-loop μ-loop
 chunk-end-requires c κs = tt
 
--- src/lib.rt:68:13
 entry-index-requires : tie.Need-entry-index-requires Inv-loop μ-loop
 entry-index-requires c κs = tt
 
--- src/lib.rt:69:13
 tlbi-address-requires : tie.Need-tlbi-address-requires Inv-loop μ-loop
 tlbi-address-requires c κs = tt
 
--- src/lib.rt:71:26
 mul-word : tie.Need-mul-word Inv-loop μ-loop
 mul-word c = let f = facts c in omega (arith, f .slot, f .room)
 
--- src/lib.rt:71:26
 add-word : tie.Need-add-word Inv-loop μ-loop
 add-word c = let f = facts c in omega (arith, f .slot, f .room)
 
--- src/lib.rt:71:20
 mul-word-2 : tie.Need-mul-word-2 Inv-loop μ-loop
 mul-word-2 c = let f = facts c in omega (arith, f .slot, f .room)
 
--- src/lib.rt:71:20
 slice-read-word : tie.Need-slice-read-word Inv-loop μ-loop
 slice-read-word c = let f = facts (c .before) in omega (arith, f .slot, f .room)
 
--- src/lib.rt:72:13
 edit-word-requires : tie.Need-edit-word-requires Inv-loop μ-loop
 edit-word-requires c κs = tt
 
--- src/lib.rt:66:5
 loop-less : tie.Need-loop-less Inv-loop μ-loop
 loop-less c = let f = facts (c .before .before .before) in omega (arith, f .above, f .under)
 
--- src/lib.rt:66:5
 loop-again : tie.Need-loop-again Inv-loop μ-loop
 loop-again c =
     let place = c .before .before .before in
@@ -112,31 +101,24 @@ loop-again c =
     let same = own-same (a .level) (a .k) (a .edit) (region (at .loop .at) (place .before .before .chunk-end .result)) n (f .index) (c .before .edit-word .ensures) (c .if1 .taken) in
     (at .loop .inv .0, at .loop .inv .1, ap (eachChunk (a .level) (ownChunk (a .level) (a .k) (a .edit)) (region (place .before .before .chunk-end .result) (a .edit .region .end .0))) same ∙ f .next)
 
--- src/lib.rt:76:15
 mul-words : tie.Need-mul-words Inv-loop μ-loop
 mul-words c = let f = facts (c .before .before .before) in omega (arith, f .slot, f .room)
 
--- src/lib.rt:76:15
 add-words : tie.Need-add-words Inv-loop μ-loop
 add-words c = let f = facts (c .before .before .before) in omega (arith, f .slot, f .room)
 
--- src/lib.rt:76:9
 mul-words-2 : tie.Need-mul-words-2 Inv-loop μ-loop
 mul-words-2 c = let f = facts (c .before .before .before) in omega (arith, f .slot, f .room)
 
--- src/lib.rt:76:9
 slice-write-words : tie.Need-slice-write-words Inv-loop μ-loop
 slice-write-words c = let f = facts (c .before .before .before) in omega (arith, f .slot, f .room)
 
--- src/lib.rt:77:9
 put-number-requires : tie.Need-put-number-requires Inv-loop μ-loop
 put-number-requires c κs = tt
 
--- src/lib.rt:66:5
 loop-less-2 : tie.Need-loop-less-2 Inv-loop μ-loop
 loop-less-2 c = let f = facts (c .before .before .before .before .before .before .before) in omega (arith, f .above, f .under)
 
--- src/lib.rt:66:5
 loop-again-2 : tie.Need-loop-again-2 Inv-loop μ-loop
 loop-again-2 c =
     let place = c .before .before .before .before .before .before .before in
@@ -150,15 +132,12 @@ loop-again-2 c =
       ap (eachChunk (a .level) (ownChunk (a .level) (a .k) (a .edit)) (region (place .before .before .chunk-end .result) (a .edit .region .end .0))) changed ∙ f .next,
     )
 
--- src/lib.rt:52:1
 same-length : tie.Need-same-length Inv-loop μ-loop
 same-length c = c .before .loop .inv .0
 
--- src/lib.rt:52:1
 same-length-2 : tie.Need-same-length-2 Inv-loop μ-loop
 same-length-2 c = c .before .loop .inv .1
 
--- src/lib.rt:52:1
 returns : tie.Need-returns Inv-loop μ-loop
 returns c =
     let at = c .before in

@@ -5,39 +5,30 @@ use Rattle.edit.proofs.edit_word.Reads as reads
 use Rattle.edit.proofs.edit_word.Lts as lts
 use Rattle.entry.proofs.kind_of.Reads as kind-of-reads
 
--- src/lib.rt:28:9
 kind-of-requires : tie.Need-kind-of-requires
 kind-of-requires c κs = tt
 
--- src/lib.rt:30:24
 enum-told : tie.Need-enum-told
 enum-told c = c .match .keys1
 
--- src/lib.rt:31:25
 enum-told-2 : tie.Need-enum-told-2
 enum-told-2 c = c .match .keys2
 
--- src/lib.rt:32:24
 enum-told-3 : tie.Need-enum-told-3
 enum-told-3 c = c .match .keys3
 
--- src/lib.rt:33:23
 enum-told-4 : tie.Need-enum-told-4
 enum-told-4 c = c .match .keys4
 
--- src/lib.rt:25:1
 returns : tie.Need-returns
 returns c = let a = c .before .before .before .before .before .args in edit-table (a .level) (a .edit) (a .word) (c .before .before .kind-of .ensures) (c .enum-told .given .1)
 
--- src/lib.rt:25:1
 returns-2 : tie.Need-returns-2
 returns-2 c = let a = c .before .before .before .before .before .args in edit-block (a .level) (a .edit) (a .word) (c .before .before .kind-of .ensures) (c .enum-told2 .given .1)
 
--- src/lib.rt:25:1
 returns-3 : tie.Need-returns-3
 returns-3 c = let a = c .before .before .before .before .before .args in edit-page (a .level) (a .edit) (a .word) (c .before .before .kind-of .ensures) (c .enum-told3 .given .1)
 
--- src/lib.rt:25:1
 returns-4 : tie.Need-returns-4
 returns-4 c = let a = c .before .before .before .before .before .args in edit-hole (a .level) (a .edit) (a .word) (c .before .before .kind-of .ensures) (c .enum-told4 .given .1)
 

@@ -7,31 +7,24 @@ use Rattle.edit.proofs.put_number.Tie as tie
 use Rattle.edit.proofs.put_number.Reads as reads
 use Rattle.edit.proofs.put_number.Lts as lts
 
--- src/lib.rt:42:9
 returns : tie.Need-returns
 returns c = let a = c .before .args in number-off (a .number) (a .count) (a .list .now) (a .live) (not-true _ (c .if1 .taken))
 
--- src/lib.rt:45:9
 returns-2 : tie.Need-returns-2
 returns-2 c = let a = c .before .before .args in number-full (a .number) (a .count) (a .list .now) (a .live) (not-false _ (c .before .if1 .left)) (c .if2 .taken)
 
--- src/lib.rt:47:5
 mul-list : tie.Need-mul-list
 mul-list c = omega arith
 
--- src/lib.rt:47:5
 slice-write-list : tie.Need-slice-write-list
 slice-write-list c = omega arith
 
--- src/lib.rt:48:5
 add-result : tie.Need-add-result
 add-result c = omega arith
 
--- src/lib.rt:38:1
 same-length : tie.Need-same-length
 same-length c = let a = c .before .before .args in length-set (a .list .now) (a .count) (a .number)
 
--- src/lib.rt:38:1
 returns-3 : tie.Need-returns-3
 returns-3 c = let a = c .before .before .args in number-put (a .number) (a .count) (a .list .now) (a .live) (not-false _ (c .before .if1 .left)) (omega arith)
 

@@ -15,31 +15,24 @@ Inv-loop start end level count₀ below₀ count below = count + mets (3 - below
 abbrev μ-loop : tie.MeasureT-loop
 μ-loop start end level count₀ below₀ count below = 3 - below
 
--- src/lib.rt:71:5
 loop-holds : tie.Need-loop-holds Inv-loop μ-loop
 loop-holds c = omega arith
 
--- src/lib.rt:72:18
 entries-met-requires : tie.Need-entries-met-requires Inv-loop μ-loop
 entries-met-requires c κs = omega arith
 
--- src/lib.rt:72:9
 add-count : tie.Need-add-count Inv-loop μ-loop
 add-count c = let a = c .before .before .before .args in let b = c .before .before .loop .below in omega (arith, mets-open b (a .start) (a .end) (omega arith), mets-fit (a .level) (a .start) (a .end), c .entries-met .ensures)
 
--- src/lib.rt:73:9
 add-below : tie.Need-add-below Inv-loop μ-loop
 add-below c = omega arith
 
--- src/lib.rt:71:5
 loop-less : tie.Need-loop-less Inv-loop μ-loop
 loop-less c = omega arith
 
--- src/lib.rt:71:5
 loop-again : tie.Need-loop-again Inv-loop μ-loop
 loop-again c = let a = c .before .before .before .args in let b = c .before .before .loop .below in omega (arith, mets-open b (a .start) (a .end) (omega arith), c .entries-met .ensures)
 
--- src/lib.rt:65:1
 returns : tie.Need-returns Inv-loop μ-loop
 returns c = let a = c .before .before .args in let b = c .before .loop .below in omega (arith, mets-done b (a .start) (a .end) (omega arith))
 

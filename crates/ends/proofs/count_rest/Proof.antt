@@ -15,31 +15,24 @@ Inv-loop level map count₀ below₀ count below = count + rests (3 - below) map
 abbrev μ-loop : tie.MeasureT-loop
 μ-loop level map count₀ below₀ count below = 3 - below
 
--- src/lib.rt:71:5
 loop-holds : tie.Need-loop-holds Inv-loop μ-loop
 loop-holds c = omega arith
 
--- src/lib.rt:72:18
 count-at-requires : tie.Need-count-at-requires Inv-loop μ-loop
 count-at-requires c κs = omega arith
 
--- src/lib.rt:72:9
 add-count : tie.Need-add-count Inv-loop μ-loop
 add-count c = let a = c .before .before .before .args in let b = c .before .before .loop .below in omega (arith, rests-open b (a .map) (omega arith), rests-fit (a .level) (a .map), c .count-at .ensures)
 
--- src/lib.rt:73:9
 add-below : tie.Need-add-below Inv-loop μ-loop
 add-below c = omega arith
 
--- src/lib.rt:71:5
 loop-less : tie.Need-loop-less Inv-loop μ-loop
 loop-less c = omega arith
 
--- src/lib.rt:71:5
 loop-again : tie.Need-loop-again Inv-loop μ-loop
 loop-again c = let a = c .before .before .before .args in let b = c .before .before .loop .below in omega (arith, rests-open b (a .map) (omega arith), c .count-at .ensures)
 
--- src/lib.rt:65:1
 returns : tie.Need-returns Inv-loop μ-loop
 returns c = let a = c .before .before .args in let b = c .before .loop .below in omega (arith, rests-done b (a .map) (omega arith))
 

@@ -10,31 +10,24 @@ use Rattle.ends.proofs.entries_met.Reads as reads
 use Rattle.ends.proofs.entries_met.Lts as lts
 use Rattle.ends.proofs.entry_number.Reads as entry-number-reads
 
--- src/lib.rt:37:9
 returns : tie.Need-returns
 returns c = let a = c .before .args in sym (met-none (a .level) (a .start) (a .end) (omega arith))
 
--- src/lib.rt:39:18
 sub-entry-number : tie.Need-sub-entry-number
 sub-entry-number c = omega arith
 
--- src/lib.rt:39:5
 entry-number-requires : tie.Need-entry-number-requires
 entry-number-requires c κs = omega arith
 
--- src/lib.rt:39:36
 entry-number-requires-2 : tie.Need-entry-number-requires-2
 entry-number-requires-2 c κs = omega arith
 
--- src/lib.rt:39:5
 sub-result : tie.Need-sub-result
 sub-result c = let a = c .before .before .before .args in omega (arith, met-order (a .level) (a .start) (a .end) (omega arith), c .before .entry-number .ensures, c .entry-number2 .ensures)
 
--- src/lib.rt:39:5
 add-result : tie.Need-add-result
 add-result c = let a = c .before .before .before .args in omega (arith, met-some (a .level) (a .start) (a .end) (omega arith), met-most (a .level) (a .start) (a .end), c .before .entry-number .ensures, c .entry-number2 .ensures)
 
--- src/lib.rt:33:1
 returns-2 : tie.Need-returns-2
 returns-2 c = let a = c .before .before .before .args in omega (arith, met-some (a .level) (a .start) (a .end) (omega arith), c .before .entry-number .ensures, c .entry-number2 .ensures)
 

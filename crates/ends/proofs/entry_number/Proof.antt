@@ -6,22 +6,18 @@ use Rattle.ends.proofs.entry_number.Tie as tie
 use Rattle.ends.proofs.entry_number.Reads as reads
 use Rattle.ends.proofs.entry_number.Lts as lts
 
--- src/lib.rt:21:1
 returns : tie.Need-returns
 unfolding sizeAt
 returns c = sym (ap (λ (l : ℕ). c .before .args .va / sizeAt l) (c .match .keys1))
 
--- src/lib.rt:21:1
 returns-2 : tie.Need-returns-2
 unfolding sizeAt
 returns-2 c = sym (ap (λ (l : ℕ). c .before .args .va / sizeAt l) (c .match .keys2))
 
--- src/lib.rt:21:1
 returns-3 : tie.Need-returns-3
 unfolding sizeAt
 returns-3 c = sym (ap (λ (l : ℕ). c .before .args .va / sizeAt l) (c .match .keys3))
 
--- src/lib.rt:21:1
 returns-4 : tie.Need-returns-4
 returns-4 c =
     let a = c .before .args in

@@ -23,50 +23,40 @@ offset c x = ap (λ (g : ℕ). bitAnd x (g - 1)) (c .granularity-at-level2 .ensu
 starts : (c : tie.After-granularity-at-level2) → c .before .before .before .before .args .map .region .start .0 % sizeAt (c .before .before .before .before .args .level + 1) ≡ 0
 starts c = sym (first (c .before .before .before) (c .before .before .before .before .args .map .region .start .0)) ∙ c .before .if1 .left
 
--- src/lib.rt:170:36
 add-granularity-at-level : tie.Need-add-granularity-at-level
 add-granularity-at-level c = omega arith
 
--- src/lib.rt:170:36
 granularity-at-level-requires : tie.Need-granularity-at-level-requires
 granularity-at-level-requires c κs = tt
 
--- src/lib.rt:170:36
 sub-if1 : tie.Need-sub-if1
 sub-if1 c = omega (arith, c .granularity-at-level .ensures, size-pos (c .before .args .level + 1))
 
--- src/lib.rt:171:9
 returns : tie.Need-returns
 returns c =
     let a = c .before .before .before .args in
     test-start (a .level) (a .map) (a .word) (λ e. c .if1 .taken (first (c .before .before) (a .map .region .start .0) ∙ e))
 
--- src/lib.rt:173:16
 granularity-at-level-requires-2 : tie.Need-granularity-at-level-requires-2
 granularity-at-level-requires-2 c κs = tt
 
--- src/lib.rt:173:16
 sub-last : tie.Need-sub-last
 sub-last c = omega (arith, c .granularity-at-level2 .ensures, size-pos (c .before .before .before .before .args .level))
 
--- src/lib.rt:176:13
 returns-2 : tie.Need-returns-2
 returns-2 c =
     let a = c .before .before .before .before .before .before .args in
     test-address (a .level) (a .map) (a .word) (starts (c .before .before)) (c .before .if2 .taken) (λ e. c .if3 .taken (mask-address (a .word) ∙ e))
 
--- src/lib.rt:178:9
 returns-3 : tie.Need-returns-3
 returns-3 c =
     let a = c .before .before .before .before .before .before .before .before .args in
     ap (λ (x : ℕ). ltb x (a .map .frame .0)) (offset (c .before .before .before .before) (a .map .region .start .0))
     ∙ test-hole (a .level) (a .map) (a .word) (starts (c .before .before .before .before)) (c .before .before .before .if2 .taken) (sym (mask-address (a .word)) ∙ c .before .before .if3 .left)
 
--- src/lib.rt:181:9
 returns-4 : tie.Need-returns-4
 returns-4 c = let a = c .before .before .before .before .before .before .args in test-table (a .level) (a .map) (a .word) (starts (c .before .before)) (c .before .if2 .left) (c .if4 .taken)
 
--- src/lib.rt:165:1
 returns-5 : tie.Need-returns-5
 returns-5 c =
     let a = c .before .before .before .before .before .before .args in

@@ -34,51 +34,39 @@ room c =
     let a = c .before .before .before .before .before .args in
     part-fits (a .level) (a .word) (entryIndex (a .level + 1) (a .va)) (omega arith) (slot-below (a .level + 1) (a .va)) (omega arith)
 
--- src/lib.rt:83:9
 flags-requires : tie.Need-flags-requires
 flags-requires c κs = omega arith
 
--- src/lib.rt:85:9
 returns : tie.Need-returns
 returns c = let a = c .before .before .args in c .before .flags .ensures ∙ sym (child-hole (a .level) (a .word) (a .va) (c .if1 .taken))
 
--- src/lib.rt:87:52
 granularity-at-level-requires : tie.Need-granularity-at-level-requires
 granularity-at-level-requires c κs = omega arith
 
--- src/lib.rt:87:52
 sub-address : tie.Need-sub-address
 sub-address c = omega (arith, c .granularity-at-level .ensures, size-pos (c .before .before .before .args .level))
 
--- src/lib.rt:88:37
 add-entry-index : tie.Need-add-entry-index
 add-entry-index c = omega arith
 
--- src/lib.rt:88:9
 entry-index-requires : tie.Need-entry-index-requires
 entry-index-requires c κs = omega arith
 
--- src/lib.rt:89:58
 add-granularity-at-level : tie.Need-add-granularity-at-level
 add-granularity-at-level c = omega arith
 
--- src/lib.rt:89:28
 granularity-at-level-requires-2 : tie.Need-granularity-at-level-requires-2
 granularity-at-level-requires-2 c κs = omega arith
 
--- src/lib.rt:89:15
 mul-result : tie.Need-mul-result
 mul-result c = omega (arith, step c, room c .step)
 
--- src/lib.rt:89:5
 add-result : tie.Need-add-result
 add-result c = omega (arith, step c, cleared (c .before .before), room c .place)
 
--- src/lib.rt:89:5
 add-result-2 : tie.Need-add-result-2
 add-result-2 c = omega (arith, step c, cleared (c .before .before), c .before .before .before .before .flags .ensures, room c .word)
 
--- src/lib.rt:79:1
 returns-2 : tie.Need-returns-2
 returns-2 c = let a = c .before .before .before .before .before .args in let e = child-block (a .level) (a .word) (a .va) (omega arith) (c .before .before .before .if1 .left) in omega (arith, step c, cleared (c .before .before), c .before .before .before .before .flags .ensures)
 

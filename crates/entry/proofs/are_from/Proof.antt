@@ -5,7 +5,6 @@ use Rattle.entry.proofs.are_from.Tie as tie
 use Rattle.entry.proofs.are_from.Reads as reads
 use Rattle.entry.proofs.are_from.Lts as lts
 
--- src/lib.rt:59:1
 returns : tie.Need-returns
 unfolding only
 returns c = refl

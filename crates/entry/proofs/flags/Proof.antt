@@ -4,7 +4,6 @@ use Rattle.entry.proofs.flags.Tie as tie
 use Rattle.entry.proofs.flags.Reads as reads
 use Rattle.entry.proofs.flags.Lts as lts
 
--- src/lib.rt:38:1
 returns : tie.Need-returns
 returns c = mask-flags (c .args .word) (c .fits .word .fits)
 

@@ -25,31 +25,24 @@ holes level w one two low = go (eq-or (w % 4) 1)
     go (inl e) = inr (e, one, two)
     go (inr n) = inl (omega arith)
 
--- src/lib.rt:66:1
 returns : tie.Need-returns
 returns c = let a = c .before .before .args in sym (kind-table (a .level) (a .word) (omega (arith, c .before .match .keys1)) (c .match2 .keys1))
 
--- src/lib.rt:66:1
 returns-2 : tie.Need-returns-2
 returns-2 c = let a = c .before .before .args in let low = c .match2 .rest .1 in sym (kind-once Hole (a .level) (a .word) (holes (a .level) (a .word) (λ e. omega (arith, c .before .match .keys1)) (λ e. omega (arith, c .before .match .keys1)) low))
 
--- src/lib.rt:66:1
 returns-3 : tie.Need-returns-3
 returns-3 c = let a = c .before .before .before .args in sym (kind-table (a .level) (a .word) (omega arith) (c .match3 .keys1))
 
--- src/lib.rt:66:1
 returns-4 : tie.Need-returns-4
 returns-4 c = let a = c .before .before .before .args in sym (kind-block (a .level) (a .word) (one-or-two (a .level) (omega arith) (c .before .before .match .rest .1)) (c .match3 .keys2))
 
--- src/lib.rt:66:1
 returns-5 : tie.Need-returns-5
 returns-5 c = let a = c .before .before .before .args in sym (kind-clear (a .level) (a .word) (c .match3 .rest .0 .1) (c .match3 .rest .1))
 
--- src/lib.rt:66:1
 returns-6 : tie.Need-returns-6
 returns-6 c = let a = c .before .before .before .args in sym (kind-page (a .level) (a .word) (omega arith) (c .match4 .keys1))
 
--- src/lib.rt:66:1
 returns-7 : tie.Need-returns-7
 returns-7 c = let a = c .before .before .before .args in sym (kind-once Hole (a .level) (a .word) (holes (a .level) (a .word) (λ e. omega arith) (λ e. omega arith) (c .match4 .rest .1)))
 

@@ -7,19 +7,15 @@ use Rattle.entry.proofs.link.Reads as reads
 use Rattle.entry.proofs.link.Lts as lts
 use Rattle.std.proofs.num.wrapping_add_u64.Reads as wrapping-add-u64-reads
 
--- src/lib.rt:91:18
 mul-offset : tie.Need-mul-offset
 mul-offset c = search needs
 
--- src/lib.rt:92:9
 wrapping-add-u64-requires : tie.Need-wrapping-add-u64-requires
 wrapping-add-u64-requires c κs = search needs
 
--- src/lib.rt:93:5
 wrapping-add-u64-requires-2 : tie.Need-wrapping-add-u64-requires-2
 wrapping-add-u64-requires-2 c κs = search needs
 
--- src/lib.rt:88:1
 returns : tie.Need-returns
 unfolding linkOf
 returns c = let sum = c .wrapping-add-u642 .ensures in let at = c .before .wrapping-add-u64 .ensures in omega arith

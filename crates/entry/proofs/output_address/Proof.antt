@@ -4,7 +4,6 @@ use Rattle.entry.proofs.output_address.Tie as tie
 use Rattle.entry.proofs.output_address.Reads as reads
 use Rattle.entry.proofs.output_address.Lts as lts
 
--- src/lib.rt:31:1
 returns : tie.Need-returns
 returns c = mask-address (c .args .word)
 

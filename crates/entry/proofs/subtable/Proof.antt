@@ -9,22 +9,18 @@ use Rattle.entry.proofs.subtable.Tie as tie
 use Rattle.entry.proofs.subtable.Reads as reads
 use Rattle.entry.proofs.subtable.Lts as lts
 
--- src/lib.rt:101:9
 returns : tie.Need-returns
 returns c = let a = c .before .args in sub-leaf (a .base .0) (a .tables) (a .level) (a .word) (λ t. omega (arith, t .0))
 
--- src/lib.rt:104:9
 returns-2 : tie.Need-returns-2
 returns-2 c = let a = c .before .before .args in sub-leaf (a .base .0) (a .tables) (a .level) (a .word) (λ t. c .if2 .taken (t .1))
 
--- src/lib.rt:108:9
 returns-3 : tie.Need-returns-3
 returns-3 c =
     let a = c .before .before .before .before .args in
     let at = mask-address (a .word) in
     sub-low (a .base .0) (a .tables) (a .level) (a .word) (omega arith) (c .before .before .if2 .left) (omega arith)
 
--- src/lib.rt:97:1
 returns-4 : tie.Need-returns-4
 returns-4 c =
     let a = c .before .before .before .before .before .before .args in
@@ -32,7 +28,6 @@ returns-4 c =
     ap (λ (x : ℕ). Table ((x - a .base .0) / 4096)) at
     ∙ sub-in (a .base .0) (a .tables) (a .level) (a .word) (omega arith) (c .before .before .before .before .if2 .left) (omega arith) (omega arith)
 
--- src/lib.rt:97:1
 returns-5 : tie.Need-returns-5
 returns-5 c =
     let a = c .before .before .before .before .before .before .args in

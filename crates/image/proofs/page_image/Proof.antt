@@ -23,61 +23,48 @@ good c = sym (c .before .is-shaped .ensures) ∙ not-false _ (c .if1 .left)
 shape : (c : tie.Else1) → let a = c .before .before .before .before .before .args in Shaped (a .handle) (st (a .words .now) (a .ledger .now))
 shape c = let a = c .before .before .before .before .before .args in shaped-says (a .handle) (st (a .words .now) (a .ledger .now)) (rw (good c) tt)
 
--- src/image.rt:45:9
 is-shaped-requires : tie.Need-is-shaped-requires
 is-shaped-requires c κs = omega arith
 
--- src/image.rt:46:9
 returns : tie.Need-returns
 returns c =
     let a = c .before .before .before .before .before .args in
     image-misshaped (a .handle) (st (a .words .now) (a .ledger .now)) (a .k) (a .page .now) (sym (c .before .is-shaped .ensures) ∙ not-true _ (c .if1 .taken))
 
--- src/image.rt:49:9
 returns-2 : tie.Need-returns-2
 returns-2 c =
     let a = c .before .before .before .before .before .before .args in
     image-no-table (a .handle) (st (a .words .now) (a .ledger .now)) (a .k) (a .page .now) (good (c .before)) (c .if2 .taken)
 
--- src/image.rt:52:9
 returns-3 : tie.Need-returns-3
 returns-3 c =
     let a = c .before .before .before .before .before .before .before .args in
     image-short (a .handle) (st (a .words .now) (a .ledger .now)) (a .k) (a .page .now) (good (c .before .before)) (omega arith) (c .if3 .taken)
 
--- src/image.rt:54:13
 mul-a : tie.Need-mul-a
 mul-a c = let p = shape (c .before .before) in omega (arith, p .sized)
 
--- src/image.rt:55:13
 add-e : tie.Need-add-e
 add-e c = let p = shape (c .before .before) in omega (arith, p .sized)
 
--- src/image.rt:56:14
 mul-write-to : tie.Need-mul-write-to
 mul-write-to c = let p = shape (c .before .before) in omega (arith, p .sized)
 
--- src/image.rt:56:14
 sub-write-to : tie.Need-sub-write-to
 sub-write-to c = omega arith
 
--- src/image.rt:56:14
 part-write-to-start : tie.Need-part-write-to-start
 part-write-to-start c = omega arith
 
--- src/image.rt:56:14
 part-write-to-end : tie.Need-part-write-to-end
 part-write-to-end c = let p = shape (c .before .before) in omega (arith, p .sized)
 
--- src/image.rt:56:5
 write-to-requires : tie.Need-write-to-requires
 write-to-requires c κs = omega arith
 
--- src/image.rt:42:1
 same-length : tie.Need-same-length
 same-length c = omega arith
 
--- src/image.rt:42:1
 returns-4 : tie.Need-returns-4
 returns-4 c =
     let a = c .before .before .before .before .before .before .before .before .before .before .before .before .args in

@@ -16,28 +16,22 @@ Inv-loop bytes₀ word rest₀ i₀ bytes rest i = (i ≤ 8) × (length bytes �
 abbrev μ-loop : tie.MeasureT-loop
 μ-loop bytes₀ word rest₀ i₀ bytes rest i = 8 - i
 
--- src/image.rt:20:5
 loop-holds : tie.Need-loop-holds Inv-loop μ-loop
 unfolding divided
 loop-holds c = (omega arith, omega arith, refl, refl)
 
--- src/image.rt:21:20
 cast-bytes : tie.Need-cast-bytes Inv-loop μ-loop
 cast-bytes c = omega arith
 
--- src/image.rt:21:9
 slice-write-bytes : tie.Need-slice-write-bytes Inv-loop μ-loop
 slice-write-bytes c = omega arith
 
--- src/image.rt:23:9
 add-i : tie.Need-add-i Inv-loop μ-loop
 add-i c = omega arith
 
--- src/image.rt:20:5
 loop-less : tie.Need-loop-less Inv-loop μ-loop
 loop-less c = omega arith
 
--- src/image.rt:20:5
 loop-again : tie.Need-loop-again Inv-loop μ-loop
 loop-again c =
     let at = c .before in
@@ -51,11 +45,9 @@ loop-again c =
       ap (λ (x : ℕ). x / 256) (at .loop .inv .3) ∙ sym (divided-more i (a .word)),
     )
 
--- src/image.rt:14:1
 same-length : tie.Need-same-length Inv-loop μ-loop
 same-length c = omega arith
 
--- src/image.rt:14:1
 returns : tie.Need-returns Inv-loop μ-loop
 returns c =
     let at = c .before in

@@ -18,51 +18,39 @@ Inv-loop table page₀ i₀ page i = (i ≤ length table) × (length page ≡ le
 abbrev μ-loop : tie.MeasureT-loop
 μ-loop table page₀ i₀ page i = length table - i
 
--- src/image.rt:33:5
 loop-holds : tie.Need-loop-holds Inv-loop μ-loop
 loop-holds c = (omega arith, refl, imaged-none _ _)
 
--- src/image.rt:34:17
 mul-a : tie.Need-mul-a Inv-loop μ-loop
 mul-a c = omega arith
 
--- src/image.rt:35:17
 add-e : tie.Need-add-e Inv-loop μ-loop
 add-e c = omega arith
 
--- src/image.rt:36:18
 sub-put-word : tie.Need-sub-put-word Inv-loop μ-loop
 sub-put-word c = omega arith
 
--- src/image.rt:36:18
 part-put-word-start : tie.Need-part-put-word-start Inv-loop μ-loop
 part-put-word-start c = omega arith
 
--- src/image.rt:36:18
 part-put-word-end : tie.Need-part-put-word-end Inv-loop μ-loop
 part-put-word-end c = omega arith
 
--- src/image.rt:36:35
 mul-put-word : tie.Need-mul-put-word Inv-loop μ-loop
 mul-put-word c = omega arith
 
--- src/image.rt:36:35
 shared-slice-read-put-word : tie.Need-shared-slice-read-put-word Inv-loop μ-loop
 shared-slice-read-put-word c = omega arith
 
--- src/image.rt:36:9
 put-word-requires : tie.Need-put-word-requires Inv-loop μ-loop
 put-word-requires c κs = omega arith
 
--- src/image.rt:37:9
 add-i : tie.Need-add-i Inv-loop μ-loop
 add-i c = omega arith
 
--- src/image.rt:33:5
 loop-less : tie.Need-loop-less Inv-loop μ-loop
 loop-less c = omega arith
 
--- src/image.rt:33:5
 loop-again : tie.Need-loop-again Inv-loop μ-loop
 loop-again c =
     let at = c .before .before .before .before .before .before in
@@ -78,11 +66,9 @@ loop-again c =
       back ∙ ap (putPart (8 * i) bytes) (at .loop .inv .2) ∙ imaged-more i (a .table .now) (a .page .now) (omega arith) (omega arith),
     )
 
--- src/image.rt:28:1
 same-length : tie.Need-same-length Inv-loop μ-loop
 same-length c = omega arith
 
--- src/image.rt:28:1
 returns : tie.Need-returns Inv-loop μ-loop
 returns c =
     let at = c .before in

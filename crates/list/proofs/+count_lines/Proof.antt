@@ -88,37 +88,29 @@ below c j e = let a = c .before .before .before .before .before .before .before 
 fewer : {t : ℕ} (c : Asked t) → length (chunksOf (c .before .before .before .next2 .given .0 .1 .0)) < length (chunksOf (c .before .before .before .before .before .before .loop .rest))
 fewer c = let cut = ap length (next-chunk (c .before .before .before .before .before .before .loop .rest) _ _ (c .before .before .before .before .before .next .ensures) (c .before .before .before .next2 .given .1)) in omega (arith, cut)
 
--- src/lib.rt:93:9
 count-lines-count-pages-requires : (t : ℕ) → count-lines-lts.Need-count-pages-requires (calls t) (count-lines-at t) count-lines.Post count-lines-Inv-loop count-lines-μ-loop
 count-lines-count-pages-requires t c κs = omega arith
 
--- src/lib.rt:93:9
 count-lines-returns : (t : ℕ) → count-lines-lts.Need-returns (calls t) (count-lines-at t) count-lines.Post count-lines-Inv-loop count-lines-μ-loop
 count-lines-returns t c =
     let a = c .before .before .before .args in
     c .count-pages .ensures ∙ lines-pages (a .handle .base .0) (a .tables) (a .words .now) (a .level) (a .k) (a .region) (c .before .if1 .taken)
 
--- src/lib.rt:96:9
 count-lines-split-requires : (t : ℕ) → count-lines-lts.Need-split-requires (calls t) (count-lines-at t) count-lines.Post count-lines-Inv-loop count-lines-μ-loop
 count-lines-split-requires t c κs = omega arith
 
--- src/lib.rt:97:5
 count-lines-loop-holds : (t : ℕ) → count-lines-lts.Need-loop-holds (calls t) (count-lines-at t) count-lines.Post count-lines-Inv-loop count-lines-μ-loop
 count-lines-loop-holds t c = zero-add _
 
--- src/lib.rt:98:13
 count-lines-next-requires : (t : ℕ) → count-lines-lts.Need-next-requires (calls t) (count-lines-at t) count-lines.Post count-lines-Inv-loop count-lines-μ-loop
 count-lines-next-requires t c κs = omega arith
 
--- src/lib.rt:99:30
 count-lines-enum-known-next : (t : ℕ) → count-lines-lts.Need-enum-known-next (calls t) (count-lines-at t) count-lines.Post count-lines-Inv-loop count-lines-μ-loop
 count-lines-enum-known-next t c = c .match .keys1
 
--- src/lib.rt:100:13
 count-lines-enum-told : (t : ℕ) → count-lines-lts.Need-enum-told (calls t) (count-lines-at t) count-lines.Post count-lines-Inv-loop count-lines-μ-loop
 count-lines-enum-told t c = omega arith
 
--- src/lib.rt:100:13
 count-lines-returns-2 : (t : ℕ) → count-lines-lts.Need-returns-2 (calls t) (count-lines-at t) count-lines.Post count-lines-Inv-loop count-lines-μ-loop
 count-lines-returns-2 t c =
     let at = c .before .before .before in
@@ -128,37 +120,29 @@ count-lines-returns-2 t c =
     let total = all (at .before) in
     omega (arith, at .loop .inv)
 
--- src/lib.rt:103:13
 count-lines-get-entry-requires : (t : ℕ) → count-lines-lts.Need-get-entry-requires (calls t) (count-lines-at t) count-lines.Post count-lines-Inv-loop count-lines-μ-loop
 count-lines-get-entry-requires t c κs = omega arith
 
--- src/lib.rt:104:13
 count-lines-subtable-requires : (t : ℕ) → count-lines-lts.Need-subtable-requires (calls t) (count-lines-at t) count-lines.Post count-lines-Inv-loop count-lines-μ-loop
 count-lines-subtable-requires t c κs = omega arith
 
--- src/lib.rt:105:24
 count-lines-enum-known-kind : (t : ℕ) → count-lines-lts.Need-enum-known-kind (calls t) (count-lines-at t) count-lines.Post count-lines-Inv-loop count-lines-μ-loop
 count-lines-enum-known-kind t c = c .match2 .keys1
 
--- src/lib.rt:106:13
 count-lines-add-count : (t : ℕ) → count-lines-lts.Need-add-count (calls t) (count-lines-at t) count-lines.Post count-lines-Inv-loop count-lines-μ-loop
 count-lines-add-count t c = omega (arith, one (c .before) (no-table _ (c .match2 .keys2)), few (c .before .before .before .before .before .before .before .before))
 
--- src/lib.rt:97:5
 count-lines-loop-less : (t : ℕ) → count-lines-lts.Need-loop-less (calls t) (count-lines-at t) count-lines.Post count-lines-Inv-loop count-lines-μ-loop
 count-lines-loop-less t c = fewer (c .before)
 
--- src/lib.rt:97:5
 count-lines-loop-again : (t : ℕ) → count-lines-lts.Need-loop-again (calls t) (count-lines-at t) count-lines.Post count-lines-Inv-loop count-lines-μ-loop
 count-lines-loop-again t c = one (c .before) (no-table _ (c .match2 .keys2))
 
--- src/lib.rt:109:56
 count-lines-add-count-lines : (t : ℕ) → count-lines-lts.Need-add-count-lines (calls t) (count-lines-at t) count-lines.Post count-lines-Inv-loop count-lines-μ-loop
 count-lines-add-count-lines t c =
     let found = sub-found _ _ _ _ _ (sym (c .before .before .before .subtable .ensures) ∙ c .before .kind .given .1) in
     omega (arith, found .high)
 
--- src/lib.rt:109:18
 count-lines-count-lines-requires : (t : ℕ) → count-lines-lts.Need-count-lines-requires (calls t) (count-lines-at t) count-lines.Post count-lines-Inv-loop count-lines-μ-loop
 count-lines-count-lines-requires t c κs =
     let s = c .before .before .before in
@@ -167,15 +151,12 @@ count-lines-count-lines-requires t c κs =
     let found = sub-found _ _ _ _ _ (sym (s .subtable .ensures) ∙ table) in
     (omega (arith, found .high, p .0), (p .1 .0, found .below, omega (arith, found .high), omega (arith, below s _ table, few (c .before .before .before .before .before .before .before .before .before .before))))
 
--- src/lib.rt:109:9
 count-lines-add-count-2 : (t : ℕ) → count-lines-lts.Need-add-count-2 (calls t) (count-lines-at t) count-lines.Post count-lines-Inv-loop count-lines-μ-loop
 count-lines-add-count-2 t c = omega (arith, below (c .before .before .before .before) _ (c .before .before .kind .given .1), few (c .before .before .before .before .before .before .before .before .before .before .before), c .count-lines .ensures)
 
--- src/lib.rt:97:5
 count-lines-loop-less-2 : (t : ℕ) → count-lines-lts.Need-loop-less-2 (calls t) (count-lines-at t) count-lines.Post count-lines-Inv-loop count-lines-μ-loop
 count-lines-loop-less-2 t c = fewer (c .before .before .before .before)
 
--- src/lib.rt:97:5
 count-lines-loop-again-2 : (t : ℕ) → count-lines-lts.Need-loop-again-2 (calls t) (count-lines-at t) count-lines.Post count-lines-Inv-loop count-lines-μ-loop
 count-lines-loop-again-2 t c = omega (arith, below (c .before .before .before .before) _ (c .before .before .kind .given .1), c .count-lines .ensures)
 

@@ -84,31 +84,24 @@ room c =
     let inv = c .before .before .before .before .before .before .loop .inv in
     omega (arith, inv .0, inv .1, ap length (all (c .before .before .before .before .before .before .before)), c .before .before .before .before .before .before .before .before .before .before .pre .1 .3)
 
--- src/lib.rt:140:9
 visit-range-split-requires : (t : ℕ) → visit-range-lts.Need-split-requires (calls t) (visit-range-at t) visit-range.Post visit-range-Inv-loop visit-range-μ-loop
 visit-range-split-requires t c κs = omega arith
 
--- src/lib.rt:141:5
 visit-range-loop-holds : (t : ℕ) → visit-range-lts.Need-loop-holds (calls t) (visit-range-at t) visit-range.Post visit-range-Inv-loop visit-range-μ-loop
 visit-range-loop-holds t c = (refl, refl, refl)
 
--- src/lib.rt:142:13
 visit-range-next-requires : (t : ℕ) → visit-range-lts.Need-next-requires (calls t) (visit-range-at t) visit-range.Post visit-range-Inv-loop visit-range-μ-loop
 visit-range-next-requires t c κs = omega arith
 
--- src/lib.rt:143:30
 visit-range-enum-known-next : (t : ℕ) → visit-range-lts.Need-enum-known-next (calls t) (visit-range-at t) visit-range.Post visit-range-Inv-loop visit-range-μ-loop
 visit-range-enum-known-next t c = c .match .keys1
 
--- src/lib.rt:144:13
 visit-range-enum-told : (t : ℕ) → visit-range-lts.Need-enum-told (calls t) (visit-range-at t) visit-range.Post visit-range-Inv-loop visit-range-μ-loop
 visit-range-enum-told t c = omega arith
 
--- src/lib.rt:144:13
 visit-range-same-length : (t : ℕ) → visit-range-lts.Need-same-length (calls t) (visit-range-at t) visit-range.Post visit-range-Inv-loop visit-range-μ-loop
 visit-range-same-length t c = c .before .before .before .loop .inv .1
 
--- src/lib.rt:144:13
 visit-range-returns : (t : ℕ) → visit-range-lts.Need-returns (calls t) (visit-range-at t) visit-range.Post visit-range-Inv-loop visit-range-μ-loop
 unfolding writeLines
 visit-range-returns t c =
@@ -121,35 +114,28 @@ visit-range-returns t c =
     ap₂ written to (sym (write-done f (at .loop .to) (at .loop .list) none) ∙ at .loop .inv .2)
     ∙ ap (λ (ls : List Line). writeLines (a .from) ls (a .list .now)) (sym (all (at .before)))
 
--- src/lib.rt:147:13
 visit-range-get-entry-requires : (t : ℕ) → visit-range-lts.Need-get-entry-requires (calls t) (visit-range-at t) visit-range.Post visit-range-Inv-loop visit-range-μ-loop
 visit-range-get-entry-requires t c κs = omega arith
 
--- src/lib.rt:148:13
 visit-range-subtable-requires : (t : ℕ) → visit-range-lts.Need-subtable-requires (calls t) (visit-range-at t) visit-range.Post visit-range-Inv-loop visit-range-μ-loop
 visit-range-subtable-requires t c κs = omega arith
 
--- src/lib.rt:149:24
 visit-range-enum-known-kind : (t : ℕ) → visit-range-lts.Need-enum-known-kind (calls t) (visit-range-at t) visit-range.Post visit-range-Inv-loop visit-range-μ-loop
 visit-range-enum-known-kind t c = c .match2 .keys1
 
--- src/lib.rt:150:13
 visit-range-put-line-requires : (t : ℕ) → visit-range-lts.Need-put-line-requires (calls t) (visit-range-at t) visit-range.Post visit-range-Inv-loop visit-range-μ-loop
 visit-range-put-line-requires t c κs =
     let s = c .before .before in
     omega (arith, step s (one s (no-table _ (c .before .match2 .keys2))), room s)
 
--- src/lib.rt:151:13
 visit-range-add-to : (t : ℕ) → visit-range-lts.Need-add-to (calls t) (visit-range-at t) visit-range.Post visit-range-Inv-loop visit-range-μ-loop
 visit-range-add-to t c =
     let s = c .before .before .before .before .before in
     omega (arith, step s (one s (no-table _ (c .before .before .before .before .match2 .keys2))), room s, c .before .before .before .before .before .before .before .before .before .before .before .loop .inv .1, c .before .before .before .before .before .before .before .before .before .before .before .before .before .before .before .good .1 .1 .1 .1 .1 .1 .0 .0)
 
--- src/lib.rt:141:5
 visit-range-loop-less : (t : ℕ) → visit-range-lts.Need-loop-less (calls t) (visit-range-at t) visit-range.Post visit-range-Inv-loop visit-range-μ-loop
 visit-range-loop-less t c = let e = ap length (cut (c .before .before .before .before .before)) in omega (arith, e)
 
--- src/lib.rt:141:5
 visit-range-loop-again : (t : ℕ) → visit-range-lts.Need-loop-again (calls t) (visit-range-at t) visit-range.Post visit-range-Inv-loop visit-range-μ-loop
 visit-range-loop-again t c =
     let s = c .before .before .before .before .before in
@@ -158,13 +144,11 @@ visit-range-loop-again t c =
     let lines = one s (no-table _ (c .before .before .before .before .match2 .keys2)) in
     (omega (arith, at .inv .0, step s lines), omega arith, write-step (linesAt (a .handle .base .0) (a .tables) (a .words .now) (a .level) (a .k)) _ (cut s) lines (at .to) (at .list) (room s) refl (c .before .before .put-line .ensures) ∙ at .inv .2)
 
--- src/lib.rt:154:52
 visit-range-add-visit-range : (t : ℕ) → visit-range-lts.Need-add-visit-range (calls t) (visit-range-at t) visit-range.Post visit-range-Inv-loop visit-range-μ-loop
 visit-range-add-visit-range t c =
     let found = sub-found _ _ _ _ _ (sym (c .before .before .before .subtable .ensures) ∙ c .before .kind .given .1) in
     omega (arith, found .high)
 
--- src/lib.rt:154:9
 visit-range-visit-range-requires : (t : ℕ) → visit-range-lts.Need-visit-range-requires (calls t) (visit-range-at t) visit-range.Post visit-range-Inv-loop visit-range-μ-loop
 visit-range-visit-range-requires t c κs =
     let s = c .before .before .before .before in
@@ -173,11 +157,9 @@ visit-range-visit-range-requires t c κs =
     let found = sub-found _ _ _ _ _ (sym (s .subtable .ensures) ∙ table) in
     (omega (arith, found .high, p .0), (p .1 .0, found .below, omega (arith, found .high), omega (arith, step s (below s _ table), room s)))
 
--- src/lib.rt:141:5
 visit-range-loop-less-2 : (t : ℕ) → visit-range-lts.Need-loop-less-2 (calls t) (visit-range-at t) visit-range.Post visit-range-Inv-loop visit-range-μ-loop
 visit-range-loop-less-2 t c = let e = ap length (cut (c .before .before .before .before .before .before .before)) in omega (arith, e)
 
--- src/lib.rt:141:5
 visit-range-loop-again-2 : (t : ℕ) → visit-range-lts.Need-loop-again-2 (calls t) (visit-range-at t) visit-range.Post visit-range-Inv-loop visit-range-μ-loop
 unfolding writeLines
 visit-range-loop-again-2 t c =

@@ -8,23 +8,18 @@ use Rattle.list.proofs.count_pages.Tie as tie
 use Rattle.list.proofs.count_pages.Reads as reads
 use Rattle.list.proofs.count_pages.Lts as lts
 
--- src/lib.rt:82:9
 returns : tie.Need-returns
 returns c = let r = c .before .before .args .region in sym (met-none 3 (r .start .0) (r .end .0) (c .if1 .taken))
 
--- src/lib.rt:84:7
 sub-result : tie.Need-sub-result
 sub-result c = omega arith
 
--- src/lib.rt:84:6
 sub-result-2 : tie.Need-sub-result-2
 sub-result-2 c = omega arith
 
--- src/lib.rt:84:6
 add-result : tie.Need-add-result
 add-result c = omega arith
 
--- src/lib.rt:78:1
 returns-2 : tie.Need-returns-2
 unfolding met sizeAt
 returns-2 c = let r = c .before .before .before .before .args .region in rw (lt-ltb (r .start .0) (r .end .0) (omega arith))

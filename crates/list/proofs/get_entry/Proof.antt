@@ -16,27 +16,21 @@ slot : (c : tie.After-entry-index) → let a = c .before .before .args in c .ent
 unfolding entryIndex
 slot c = let a = c .before .before .args in c .entry-index .ensures ∙ sym (index-is (a .level) (a .va .0))
 
--- src/lib.rt:73:9
 entry-index-requires : tie.Need-entry-index-requires
 entry-index-requires c κs = omega arith
 
--- src/lib.rt:74:11
 mul-result : tie.Need-mul-result
 mul-result c = omega arith
 
--- src/lib.rt:74:11
 add-result : tie.Need-add-result
 add-result c = let a = c .before .before .args in let h = slot-below (a .level) (a .va .0) in omega (arith, slot c)
 
--- src/lib.rt:74:5
 mul-result-2 : tie.Need-mul-result-2
 mul-result-2 c = let a = c .before .before .args in let h = slot-below (a .level) (a .va .0) in omega (arith, slot c)
 
--- src/lib.rt:74:5
 shared-slice-read-result : tie.Need-shared-slice-read-result
 shared-slice-read-result c = let a = c .before .before .before .args in let h = slot-below (a .level) (a .va .0) in omega (arith, slot (c .before))
 
--- src/lib.rt:69:1
 returns : tie.Need-returns
 unfolding fetch
 returns c = let a = c .before .before .before .args in ap (λ (i : ℕ). getD (a .words .now) (512 * a .k + i) 0) (slot (c .before))

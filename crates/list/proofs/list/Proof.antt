@@ -22,25 +22,20 @@ good c = sym (c .before .is-shaped .ensures) ∙ not-false _ (c .if1 .left)
 shape : (c : tie.Else1) → let a = c .before .before .before .before .before .args in Shaped (a .handle) (st (a .words .now) (a .ledger .now))
 shape c = let a = c .before .before .before .before .before .args in shaped-says (a .handle) (st (a .words .now) (a .ledger .now)) (rw (good c) tt)
 
--- src/lib.rt:188:9
 is-shaped-requires : tie.Need-is-shaped-requires
 is-shaped-requires c κs = omega arith
 
--- src/lib.rt:189:9
 returns : tie.Need-returns
 returns c =
     let a = c .before .before .before .before .before .args in
     list-misshaped (a .handle) (st (a .words .now) (a .ledger .now)) (a .start) (a .end) (a .list .now) (sym (c .before .is-shaped .ensures) ∙ not-true _ (c .if1 .taken))
 
--- src/lib.rt:191:9
 verify-ends-requires : tie.Need-verify-ends-requires
 verify-ends-requires c κs = omega arith
 
--- src/lib.rt:192:29
 enum-known-verified : tie.Need-enum-known-verified
 enum-known-verified c = omega arith
 
--- src/lib.rt:193:9
 returns-2 : tie.Need-returns-2
 returns-2 c =
     let a = c .before .before .before .before .before .before .before .before .before .args in
@@ -49,32 +44,26 @@ returns-2 c =
 enum-told : tie.Need-enum-told
 enum-told c = omega arith
 
--- src/lib.rt:195:9
 is-sound-requires : tie.Need-is-sound-requires
 is-sound-requires c κs = shape (c .before .before .before)
 
--- src/lib.rt:196:9
 returns-3 : tie.Need-returns-3
 returns-3 c =
     let a = c .before .before .before .before .before .before .before .before .before .before .args in
     list-unsound (a .handle) (st (a .words .now) (a .ledger .now)) (a .start) (a .end) (a .list .now) (good (c .before .before .before .before .before)) (c .before .before .before .before .verify-ends .ensures) (c .before .before .enum-told .given .1) (sym (c .before .is-sound .ensures) ∙ not-true _ (c .if2 .taken))
 
--- src/lib.rt:198:45
 new-requires : tie.Need-new-requires
 new-requires c κs = omega arith
 
--- src/lib.rt:198:5
 list-lines-requires : tie.Need-list-lines-requires
 list-lines-requires c κs =
     let a = c .before .before .before .before .before .before .before .before .before .before .before .before .args in
     let p = shape (c .before .before .before .before .before .before .before) in
     (p .sized, p .some, p .level, verified-length (a .handle) (a .start) (a .end) (sym (c .before .before .before .before .before .before .verify-ends .ensures) ∙ c .before .before .before .before .enum-told .given .1) (c .before .new .ensures))
 
--- src/lib.rt:185:1
 same-length : tie.Need-same-length
 same-length c = omega arith
 
--- src/lib.rt:185:1
 returns-4 : tie.Need-returns-4
 returns-4 c =
     let a = c .before .before .before .before .before .before .before .before .before .before .before .before .before .before .before .args in

@@ -21,30 +21,24 @@ few c =
     let b = lines-bound (a .handle .base .0) (a .tables) (a .words .now) (3 - a .handle .level) 0 (a .region) in
     omega arith
 
--- src/lib.rt:176:9
 count-lines-requires : tie.Need-count-lines-requires
 count-lines-requires c κs = let f = few (c .before .before) in (omega arith, omega arith, omega arith, omega arith)
 
--- src/lib.rt:178:47
 mul-t11 : tie.Need-mul-t11
 mul-t11 c = let f = few (c .before .before .before .before) in omega (arith, c .before .count-lines .ensures)
 
--- src/lib.rt:178:9
 returns : tie.Need-returns
 returns c =
     let a = c .before .before .before .before .args in
     ap (λ (x : ℕ). listing (Refused (Short (4 * x))) (a .list .now)) (c .before .count-lines .ensures)
     ∙ list-short (linesFrom (a .handle .base .0) (a .tables) (a .words .now) (3 - a .handle .level) 0 (a .region)) (a .list .now) (omega (arith, c .before .count-lines .ensures))
 
--- src/lib.rt:180:5
 visit-range-requires : tie.Need-visit-range-requires
 visit-range-requires c κs = (omega arith, omega arith, omega arith, omega (arith, c .before .before .count-lines .ensures))
 
--- src/lib.rt:172:1
 same-length : tie.Need-same-length
 same-length c = omega arith
 
--- src/lib.rt:172:1
 returns-2 : tie.Need-returns-2
 unfolding writeLines
 returns-2 c =

@@ -7,55 +7,42 @@ use Rattle.list.proofs.put_line.Tie as tie
 use Rattle.list.proofs.put_line.Reads as reads
 use Rattle.list.proofs.put_line.Lts as lts
 
--- src/lib.rt:119:5
 mul-list : tie.Need-mul-list
 mul-list c = omega arith
 
--- src/lib.rt:119:5
 slice-write-list : tie.Need-slice-write-list
 slice-write-list c = omega arith
 
--- src/lib.rt:120:10
 add-list : tie.Need-add-list
 add-list c = omega arith
 
--- src/lib.rt:120:5
 mul-list-2 : tie.Need-mul-list-2
 mul-list-2 c = omega arith
 
--- src/lib.rt:120:5
 slice-write-list-2 : tie.Need-slice-write-list-2
 slice-write-list-2 c = simp length-set (omega arith)
 
--- src/lib.rt:121:10
 add-list-2 : tie.Need-add-list-2
 add-list-2 c = omega arith
 
--- src/lib.rt:121:5
 mul-list-3 : tie.Need-mul-list-3
 mul-list-3 c = omega arith
 
--- src/lib.rt:121:5
 slice-write-list-3 : tie.Need-slice-write-list-3
 slice-write-list-3 c = simp length-set (omega arith)
 
--- src/lib.rt:122:10
 add-list-3 : tie.Need-add-list-3
 add-list-3 c = omega arith
 
--- src/lib.rt:122:5
 mul-list-4 : tie.Need-mul-list-4
 mul-list-4 c = omega arith
 
--- src/lib.rt:122:5
 slice-write-list-4 : tie.Need-slice-write-list-4
 slice-write-list-4 c = simp length-set (omega arith)
 
--- src/lib.rt:115:1
 same-length : tie.Need-same-length
 same-length c = search needs
 
--- src/lib.rt:115:1
 returns : tie.Need-returns
 unfolding numbers
 returns c = let a = c .args in put-four (a .list .now) (a .to) _ _ _ _ (c .pre)

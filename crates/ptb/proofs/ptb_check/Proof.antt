@@ -9,23 +9,18 @@ use Rattle.checker.proofs.check.Reads as check-reads
 use Rattle.face.proofs.answer.answer_outcome.Reads as answer-outcome-reads
 use Rattle.face.proofs.handle.handle_of.Reads as handle-of-reads
 
--- src/lib.rt:73:9
 returns : tie.Need-returns
 returns c = let a = c .before .before .before .args in check-no-range (a .base) (a .level) (a .range) (st (a .words .now) (a .ledger .now)) (a .answer .now) (c .if1 .taken)
 
--- src/lib.rt:75:9
 handle-of-requires : tie.Need-handle-of-requires
 handle-of-requires c κs = tt
 
--- src/lib.rt:76:9
 check-requires : tie.Need-check-requires
 check-requires c κs = tt
 
--- src/lib.rt:77:5
 answer-outcome-requires : tie.Need-answer-outcome-requires
 answer-outcome-requires c κs = tt
 
--- src/lib.rt:61:1
 returns-2 : tie.Need-returns-2
 returns-2 c = let a = c .before .before .before .before .before .before .before .args in check-told (a .base) (a .level) (a .range) (st (a .words .now) (a .ledger .now)) (a .answer .now) (c .before .before .before .before .if1 .left) (c .before .before .before .handle-of .ensures) (c .before .before .check .ensures) (c .answer-outcome .ensures)
 

@@ -10,31 +10,24 @@ use Rattle.compact.proofs.compact.Reads as compact-reads
 use Rattle.face.proofs.answer.answer_counted.Reads as answer-counted-reads
 use Rattle.face.proofs.handle.handle_of.Reads as handle-of-reads
 
--- src/lib.rt:175:9
 returns : tie.Need-returns
 returns c = let a = c .before .before .before .args in compact-no-range (a .base) (a .level) (a .range) (st (a .words .now) (a .ledger .now)) (a .answer .now) (c .if1 .taken)
 
--- src/lib.rt:177:9
 handle-of-requires : tie.Need-handle-of-requires
 handle-of-requires c κs = tt
 
--- src/lib.rt:178:9
 compact-requires : tie.Need-compact-requires
 compact-requires c κs = tt
 
--- src/lib.rt:179:5
 answer-counted-requires : tie.Need-answer-counted-requires
 answer-counted-requires c κs = tt
 
--- src/lib.rt:163:1
 same-length : tie.Need-same-length
 same-length c = omega arith
 
--- src/lib.rt:163:1
 same-length-2 : tie.Need-same-length-2
 same-length-2 c = omega arith
 
--- src/lib.rt:163:1
 returns-2 : tie.Need-returns-2
 returns-2 c =
     let a = c .before .before .before .before .before .before .before .before .before .before .before .before .before .args in

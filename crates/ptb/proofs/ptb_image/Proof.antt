@@ -10,27 +10,21 @@ use Rattle.image.proofs.page_image.Reads as page-image-reads
 use Rattle.face.proofs.answer.answer_outcome.Reads as answer-outcome-reads
 use Rattle.face.proofs.handle.handle_of.Reads as handle-of-reads
 
--- src/lib.rt:95:9
 returns : tie.Need-returns
 returns c = let a = c .before .before .before .before .args in image-no-range (a .base) (a .level) (a .range) (st (a .words .now) (a .ledger .now)) (a .table) (a .page .now) (a .answer .now) (c .if1 .taken)
 
--- src/lib.rt:97:9
 handle-of-requires : tie.Need-handle-of-requires
 handle-of-requires c κs = tt
 
--- src/lib.rt:98:9
 page-image-requires : tie.Need-page-image-requires
 page-image-requires c κs = tt
 
--- src/lib.rt:99:5
 answer-outcome-requires : tie.Need-answer-outcome-requires
 answer-outcome-requires c κs = tt
 
--- src/lib.rt:81:1
 same-length : tie.Need-same-length
 same-length c = omega arith
 
--- src/lib.rt:81:1
 returns-2 : tie.Need-returns-2
 returns-2 c = let a = c .before .before .before .before .before .before .before .before .before .before .before .args in image-told (a .base) (a .level) (a .range) (st (a .words .now) (a .ledger .now)) (a .table) (a .page .now) (a .answer .now) (c .before .before .before .before .before .before .before .if1 .left) (c .before .before .before .before .before .before .handle-of .ensures) (c .before .before .before .before .page-image .ensures) (c .answer-outcome .ensures)
 

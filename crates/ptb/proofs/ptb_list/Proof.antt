@@ -10,27 +10,21 @@ use Rattle.list.proofs.list.Reads as list-reads
 use Rattle.face.proofs.answer.answer_listed.Reads as answer-listed-reads
 use Rattle.face.proofs.handle.handle_of.Reads as handle-of-reads
 
--- src/lib.rt:121:9
 returns : tie.Need-returns
 returns c = let a = c .before .before .before .before .args in list-no-range (a .base) (a .level) (a .range) (st (a .words .now) (a .ledger .now)) (a .start) (a .end) (a .lines .now) (a .answer .now) (c .if1 .taken)
 
--- src/lib.rt:123:9
 handle-of-requires : tie.Need-handle-of-requires
 handle-of-requires c κs = tt
 
--- src/lib.rt:124:9
 list-requires : tie.Need-list-requires
 list-requires c κs = tt
 
--- src/lib.rt:125:5
 answer-listed-requires : tie.Need-answer-listed-requires
 answer-listed-requires c κs = tt
 
--- src/lib.rt:106:1
 same-length : tie.Need-same-length
 same-length c = omega arith
 
--- src/lib.rt:106:1
 returns-2 : tie.Need-returns-2
 returns-2 c = let a = c .before .before .before .before .before .before .before .before .before .before .before .args in list-told (a .base) (a .level) (a .range) (st (a .words .now) (a .ledger .now)) (a .start) (a .end) (a .lines .now) (a .answer .now) (c .before .before .before .before .before .before .before .if1 .left) (c .before .before .before .before .before .before .handle-of .ensures) (c .before .before .before .before .list .ensures) (c .answer-listed .ensures)
 

@@ -9,23 +9,18 @@ use Rattle.face.proofs.answer.answer_looked.Reads as answer-looked-reads
 use Rattle.face.proofs.handle.handle_of.Reads as handle-of-reads
 use Rattle.walk.proofs.look_up.look_up.Reads as look-up-reads
 
--- src/lib.rt:98:9
 returns : tie.Need-returns
 returns c = let a = c .before .before .before .args in look-up-no-range (a .base) (a .level) (a .range) (st (a .words .now) (a .ledger .now)) (a .va) (a .answer .now) (c .if1 .taken)
 
--- src/lib.rt:100:9
 handle-of-requires : tie.Need-handle-of-requires
 handle-of-requires c κs = tt
 
--- src/lib.rt:101:9
 look-up-requires : tie.Need-look-up-requires
 look-up-requires c κs = tt
 
--- src/lib.rt:102:5
 answer-looked-requires : tie.Need-answer-looked-requires
 answer-looked-requires c κs = tt
 
--- src/lib.rt:85:1
 returns-2 : tie.Need-returns-2
 returns-2 c = let a = c .before .before .before .before .before .before .before .args in look-up-told (a .base) (a .level) (a .range) (st (a .words .now) (a .ledger .now)) (a .va) (a .answer .now) (c .before .before .before .before .if1 .left) (c .before .before .before .handle-of .ensures) (c .before .before .look-up .ensures) (c .answer-looked .ensures)
 

@@ -10,31 +10,24 @@ use Rattle.pool.proofs.make.make.Reads as make-reads
 use Rattle.face.proofs.answer.answer_outcome.Reads as answer-outcome-reads
 use Rattle.face.proofs.handle.handle_of.Reads as handle-of-reads
 
--- src/lib.rt:53:9
 returns : tie.Need-returns
 returns c = let a = c .before .before .before .args in make-no-range (a .base) (a .level) (a .range) (st (a .words .now) (a .ledger .now)) (a .answer .now) (c .if1 .taken)
 
--- src/lib.rt:55:9
 handle-of-requires : tie.Need-handle-of-requires
 handle-of-requires c κs = tt
 
--- src/lib.rt:56:9
 make-requires : tie.Need-make-requires
 make-requires c κs = tt
 
--- src/lib.rt:57:5
 answer-outcome-requires : tie.Need-answer-outcome-requires
 answer-outcome-requires c κs = tt
 
--- src/lib.rt:41:1
 same-length : tie.Need-same-length
 same-length c = omega arith
 
--- src/lib.rt:41:1
 same-length-2 : tie.Need-same-length-2
 same-length-2 c = omega arith
 
--- src/lib.rt:41:1
 returns-2 : tie.Need-returns-2
 returns-2 c = let a = c .before .before .before .before .before .before .before .before .before .before .before .before .before .args in make-told (a .base) (a .level) (a .range) (st (a .words .now) (a .ledger .now)) (a .answer .now) (c .before .before .before .before .before .before .before .before .before .before .if1 .left) (c .before .before .before .before .before .before .before .before .before .handle-of .ensures) (c .before .before .before .before .before .before .make .ensures) (c .answer-outcome .ensures)
 

@@ -10,31 +10,24 @@ use Rattle.map.proofs.call.map.Reads as map-reads
 use Rattle.face.proofs.answer.answer_counted.Reads as answer-counted-reads
 use Rattle.face.proofs.handle.handle_of.Reads as handle-of-reads
 
--- src/lib.rt:146:9
 returns : tie.Need-returns
 returns c = let a = c .before .before .before .args in map-no-range (a .base) (a .level) (a .range) (a .start) (a .end) (a .frame) (a .flags) (a .constraints) (st (a .words .now) (a .ledger .now)) (a .answer .now) (c .if1 .taken)
 
--- src/lib.rt:148:9
 handle-of-requires : tie.Need-handle-of-requires
 handle-of-requires c κs = tt
 
--- src/lib.rt:149:9
 map-requires : tie.Need-map-requires
 map-requires c κs = tt
 
--- src/lib.rt:159:5
 answer-counted-requires : tie.Need-answer-counted-requires
 answer-counted-requires c κs = tt
 
--- src/lib.rt:129:1
 same-length : tie.Need-same-length
 same-length c = omega arith
 
--- src/lib.rt:129:1
 same-length-2 : tie.Need-same-length-2
 same-length-2 c = omega arith
 
--- src/lib.rt:129:1
 returns-2 : tie.Need-returns-2
 returns-2 c = let a = c .before .before .before .before .before .before .before .before .before .before .before .before .before .args in map-told (a .base) (a .level) (a .range) (a .start) (a .end) (a .frame) (a .flags) (a .constraints) (st (a .words .now) (a .ledger .now)) (a .answer .now) (c .before .before .before .before .before .before .before .before .before .before .if1 .left) (c .before .before .before .before .before .before .before .before .before .handle-of .ensures) (c .before .before .before .before .before .before .map .ensures) (c .answer-counted .ensures)
 

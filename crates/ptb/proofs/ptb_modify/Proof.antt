@@ -9,35 +9,27 @@ use Rattle.modify.proofs.call.modify.Reads as modify-reads
 use Rattle.face.proofs.answer.answer_modified.Reads as answer-modified-reads
 use Rattle.face.proofs.handle.handle_of.Reads as handle-of-reads
 
--- src/lib.rt:181:9
 returns : tie.Need-returns
 returns c = let a = c .before .before .before .before .args in modify-no-range (a .base) (a .level) (a .range) (a .start) (a .end) (a .set) (a .clear) (a .live) (st (a .words .now) (a .ledger .now)) (a .list .now) (a .answer .now) (c .if1 .taken)
 
--- src/lib.rt:183:9
 handle-of-requires : tie.Need-handle-of-requires
 handle-of-requires c κs = tt
 
--- src/lib.rt:184:9
 modify-requires : tie.Need-modify-requires
 modify-requires c κs = tt
 
--- src/lib.rt:195:5
 answer-modified-requires : tie.Need-answer-modified-requires
 answer-modified-requires c κs = tt
 
--- src/lib.rt:163:1
 same-length : tie.Need-same-length
 same-length c = c .before .before .before .before .before .before .before .before .modify .kept .0
 
--- src/lib.rt:163:1
 same-length-2 : tie.Need-same-length-2
 same-length-2 c = c .before .before .before .before .before .before .before .before .modify .kept .1 .0
 
--- src/lib.rt:163:1
 same-length-3 : tie.Need-same-length-3
 same-length-3 c = c .before .before .before .before .before .before .before .before .modify .kept .1 .1 .1 .1 .1 .1 .1 .1 .0
 
--- src/lib.rt:163:1
 returns-2 : tie.Need-returns-2
 returns-2 c =
     let a = c .before .before .before .before .before .before .before .before .before .before .before .before .before .before .before .before .before .args in

@@ -5,15 +5,12 @@ use Rattle.put.proofs.is_stirred.Tie as tie
 use Rattle.put.proofs.is_stirred.Reads as reads
 use Rattle.put.proofs.is_stirred.Lts as lts
 
--- src/lib.rt:65:9
 returns : tie.Need-returns
 returns c = λ e. absurd (true≢false e)
 
--- src/lib.rt:68:9
 returns-2 : tie.Need-returns-2
 returns-2 c = λ e. absurd (true≢false e)
 
--- src/lib.rt:61:1
 returns-3 : tie.Need-returns-3
 returns-3 c = search needs
 

@@ -7,29 +7,23 @@ use Rattle.region.proofs.chunk_end.Reads as reads
 use Rattle.region.proofs.chunk_end.Lts as lts
 use Rattle.region.proofs.entry_last.Reads as entry-last-reads
 
--- src/lib.rt:40:9
 returns : tie.Need-returns
 unfolding chunkEnd
 returns c = omega arith
 
--- src/lib.rt:42:9
 entry-last-requires : tie.Need-entry-last-requires
 entry-last-requires c κs = search needs
 
--- src/lib.rt:43:8
 sub-if2 : tie.Need-sub-if2
 sub-if2 c = search needs
 
--- src/lib.rt:43:39
 add-result : tie.Need-add-result
 add-result c = search needs
 
--- src/lib.rt:36:1
 returns-2 : tie.Need-returns-2
 unfolding chunkEnd
 returns-2 c = omega (arith, c .before .entry-last .ensures)
 
--- src/lib.rt:36:1
 returns-3 : tie.Need-returns-3
 unfolding chunkEnd
 returns-3 c = omega (arith, c .before .entry-last .ensures)

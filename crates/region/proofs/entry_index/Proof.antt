@@ -7,22 +7,18 @@ use Rattle.region.proofs.entry_index.Tie as tie
 use Rattle.region.proofs.entry_index.Reads as reads
 use Rattle.region.proofs.entry_index.Lts as lts
 
--- src/lib.rt:36:1
 returns : tie.Need-returns
 unfolding entryIndex sizeAt
 returns c = sym (ap (λ (l : ℕ). entryIndex l (c .before .args .va)) (c .match .keys1))
 
--- src/lib.rt:36:1
 returns-2 : tie.Need-returns-2
 unfolding entryIndex sizeAt
 returns-2 c = sym (ap (λ (l : ℕ). entryIndex l (c .before .args .va)) (c .match .keys2))
 
--- src/lib.rt:36:1
 returns-3 : tie.Need-returns-3
 unfolding entryIndex sizeAt
 returns-3 c = sym (ap (λ (l : ℕ). entryIndex l (c .before .args .va)) (c .match .keys3))
 
--- src/lib.rt:36:1
 returns-4 : tie.Need-returns-4
 unfolding entryIndex
 returns-4 c =

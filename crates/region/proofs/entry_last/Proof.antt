@@ -11,15 +11,12 @@ use Rattle.region.proofs.entry_last.Reads as reads
 use Rattle.region.proofs.entry_last.Lts as lts
 use Rattle.address.proofs.granularity_at_level.Reads as granularity-at-level-reads
 
--- src/lib.rt:32:11
 granularity-at-level-requires : tie.Need-granularity-at-level-requires
 granularity-at-level-requires c κs = search needs
 
--- src/lib.rt:32:11
 sub-result : tie.Need-sub-result
 sub-result c = omega (arith, c .granularity-at-level .ensures, size-pos (c .before .args .level))
 
--- src/lib.rt:29:1
 returns : tie.Need-returns
 unfolding entryLast
 returns c =

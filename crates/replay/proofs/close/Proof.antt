@@ -16,47 +16,36 @@ Inv-loop tallies kind₀ t3 kind = kind ≤ 12
 abbrev μ-loop : tie.MeasureT-loop
 μ-loop tallies kind₀ t3 kind = 12 - kind
 
--- src/main.rt:230:5
 loop-holds : tie.Need-loop-holds Inv-loop μ-loop
 loop-holds c = omega arith
 
--- src/main.rt:231:9
 say-kind-requires : tie.Need-say-kind-requires Inv-loop μ-loop
 say-kind-requires c κs = tt
 
--- src/main.rt:232:30
 mul-print-decimal : tie.Need-mul-print-decimal Inv-loop μ-loop
 mul-print-decimal c = omega arith
 
--- src/main.rt:232:30
 element-copy-out-print-decimal : tie.Need-element-copy-out-print-decimal Inv-loop μ-loop
 element-copy-out-print-decimal c = omega arith
 
--- src/main.rt:232:9
 print-decimal-requires : tie.Need-print-decimal-requires Inv-loop μ-loop
 print-decimal-requires c κs = tt
 
--- src/main.rt:233:9
 add-kind : tie.Need-add-kind Inv-loop μ-loop
 add-kind c = omega arith
 
--- src/main.rt:230:5
 loop-less : tie.Need-loop-less Inv-loop μ-loop
 loop-less c = omega arith
 
--- src/main.rt:230:5
 loop-again : tie.Need-loop-again Inv-loop μ-loop
 loop-again c = omega arith
 
--- src/main.rt:235:22
 slice-aggregate-write-all : tie.Need-slice-aggregate-write-all Inv-loop μ-loop
 slice-aggregate-write-all c = search needs
 
--- src/main.rt:235:5
 write-all-requires : tie.Need-write-all-requires Inv-loop μ-loop
 write-all-requires c κs = tt
 
--- src/main.rt:228:1
 returns : tie.Need-returns Inv-loop μ-loop
 returns c = tt
 

@@ -8,63 +8,48 @@ use Rattle.replay.proofs.lend.Lts as lts
 use Rattle.replay.proofs.answer_of.Reads as answer-of-reads
 use Rattle.replay.proofs.list_of.Reads as list-of-reads
 
--- src/main.rt:124:9
 list-of-requires : tie.Need-list-of-requires
 list-of-requires c κs = tt
 
--- src/main.rt:126:9
 returns : tie.Need-returns
 returns c = tt
 
--- src/main.rt:129:9
 returns-2 : tie.Need-returns-2
 returns-2 c = tt
 
--- src/main.rt:132:9
 returns-3 : tie.Need-returns-3
 returns-3 c = tt
 
--- src/main.rt:136:9
 slice-relend-prefix-answer-of : tie.Need-slice-relend-prefix-answer-of
 slice-relend-prefix-answer-of c = omega arith
 
--- src/main.rt:136:9
 slice-aggregate-answer-of : tie.Need-slice-aggregate-answer-of
 slice-aggregate-answer-of c = simp length-take (omega arith)
 
--- src/main.rt:137:9
 slice-relend-prefix-answer-of-2 : tie.Need-slice-relend-prefix-answer-of-2
 slice-relend-prefix-answer-of-2 c = omega arith
 
--- src/main.rt:137:9
 slice-aggregate-answer-of-2 : tie.Need-slice-aggregate-answer-of-2
 slice-aggregate-answer-of-2 c = simp length-take (omega arith)
 
--- src/main.rt:138:9
 slice-relend-prefix-answer-of-3 : tie.Need-slice-relend-prefix-answer-of-3
 slice-relend-prefix-answer-of-3 c = omega arith
 
--- src/main.rt:138:9
 slice-aggregate-answer-of-3 : tie.Need-slice-aggregate-answer-of-3
 slice-aggregate-answer-of-3 c = simp length-take (omega arith)
 
--- src/main.rt:134:5
 answer-of-requires : tie.Need-answer-of-requires
 answer-of-requires c κs = tt
 
--- src/main.rt:113:1
 same-length : tie.Need-same-length
 same-length c = omega arith
 
--- src/main.rt:113:1
 same-length-2 : tie.Need-same-length-2
 same-length-2 c = omega arith
 
--- src/main.rt:113:1
 same-length-3 : tie.Need-same-length-3
 same-length-3 c = omega arith
 
--- src/main.rt:113:1
 returns-4 : tie.Need-returns-4
 returns-4 c = tt
 

@@ -16,75 +16,57 @@ Inv-loop words₀ ledger₀ tallies₀ text₀ pool₀ number₀ words ledger ta
 abbrev μ-loop : tie.MeasureT-loop
 μ-loop words₀ ledger₀ tallies₀ text₀ pool₀ number₀ words ledger tallies text pool number = 4294967295 - number
 
--- src/main.rt:197:5
 loop-holds : tie.Need-loop-holds Inv-loop μ-loop
 loop-holds c = omega arith
 
--- src/main.rt:198:9
 add-number : tie.Need-add-number Inv-loop μ-loop
 add-number c = omega arith
 
--- src/main.rt:199:9
 array-write-text : tie.Need-array-write-text Inv-loop μ-loop
 array-write-text c = omega arith
 
--- src/main.rt:200:36
 read-line-requires : tie.Need-read-line-requires Inv-loop μ-loop
 read-line-requires c κs = tt
 
--- src/main.rt:200:26
 enum-known-length : tie.Need-enum-known-length Inv-loop μ-loop
 enum-known-length c = omega arith
 
--- src/main.rt:201:13
 enum-told : tie.Need-enum-told Inv-loop μ-loop
 enum-told c = omega arith
 
--- src/main.rt:201:13
 same-length : tie.Need-same-length Inv-loop μ-loop
 same-length c = omega arith
 
--- src/main.rt:201:13
 same-length-2 : tie.Need-same-length-2 Inv-loop μ-loop
 same-length-2 c = omega arith
 
--- src/main.rt:201:13
 returns : tie.Need-returns Inv-loop μ-loop
 returns c = tt
 
--- src/main.rt:203:12
 array-read-if1 : tie.Need-array-read-if1 Inv-loop μ-loop
 array-read-if1 c = omega arith
 
--- src/main.rt:197:5
 loop-less : tie.Need-loop-less Inv-loop μ-loop
 loop-less c = omega arith
 
--- src/main.rt:197:5
 loop-again : tie.Need-loop-again Inv-loop μ-loop
 loop-again c = omega arith
 
--- src/main.rt:206:9
 turn-requires : tie.Need-turn-requires Inv-loop μ-loop
 turn-requires c κs = tt
 
--- src/main.rt:197:5
 loop-less-2 : tie.Need-loop-less-2 Inv-loop μ-loop
 loop-less-2 c = omega arith
 
--- src/main.rt:197:5
 loop-again-2 : tie.Need-loop-again-2 Inv-loop μ-loop
 loop-again-2 c = omega arith
 
--- src/main.rt:187:1
 same-length-3 : tie.Need-same-length-3 Inv-loop μ-loop
 same-length-3 c = omega arith
 
--- src/main.rt:187:1
 same-length-4 : tie.Need-same-length-4 Inv-loop μ-loop
 same-length-4 c = omega arith
 
--- src/main.rt:187:1
 returns-2 : tie.Need-returns-2 Inv-loop μ-loop
 returns-2 c = tt
 

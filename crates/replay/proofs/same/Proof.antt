@@ -12,43 +12,33 @@ Inv-loop came numbers place₀ place = (7 ≤ place) × (place ≤ 13)
 abbrev μ-loop : tie.MeasureT-loop
 μ-loop came numbers place₀ place = 13 - place
 
--- src/main.rt:54:5
 loop-holds : tie.Need-loop-holds Inv-loop μ-loop
 loop-holds c = omega arith
 
--- src/main.rt:55:12
 mul-if1 : tie.Need-mul-if1 Inv-loop μ-loop
 mul-if1 c = omega arith
 
--- src/main.rt:55:12
 element-copy-out-if1 : tie.Need-element-copy-out-if1 Inv-loop μ-loop
 element-copy-out-if1 c = omega arith
 
--- src/main.rt:55:27
 mul-if1-2 : tie.Need-mul-if1-2 Inv-loop μ-loop
 mul-if1-2 c = omega arith
 
--- src/main.rt:55:27
 element-copy-out-if1-2 : tie.Need-element-copy-out-if1-2 Inv-loop μ-loop
 element-copy-out-if1-2 c = omega arith
 
--- src/main.rt:56:13
 returns : tie.Need-returns Inv-loop μ-loop
 returns c = tt
 
--- src/main.rt:58:9
 add-place : tie.Need-add-place Inv-loop μ-loop
 add-place c = omega arith
 
--- src/main.rt:54:5
 loop-less : tie.Need-loop-less Inv-loop μ-loop
 loop-less c = omega arith
 
--- src/main.rt:54:5
 loop-again : tie.Need-loop-again Inv-loop μ-loop
 loop-again c = omega arith
 
--- src/main.rt:52:1
 returns-2 : tie.Need-returns-2 Inv-loop μ-loop
 returns-2 c = tt
 

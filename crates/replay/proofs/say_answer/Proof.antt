@@ -15,43 +15,33 @@ Inv-loop numbers place₀ t3 place = (7 ≤ place) × (place ≤ 13)
 abbrev μ-loop : tie.MeasureT-loop
 μ-loop numbers place₀ t3 place = 13 - place
 
--- src/main.rt:65:5
 loop-holds : tie.Need-loop-holds Inv-loop μ-loop
 loop-holds c = omega arith
 
--- src/main.rt:66:26
 slice-aggregate-write-all : tie.Need-slice-aggregate-write-all Inv-loop μ-loop
 slice-aggregate-write-all c = search needs
 
--- src/main.rt:66:9
 write-all-requires : tie.Need-write-all-requires Inv-loop μ-loop
 write-all-requires c κs = tt
 
--- src/main.rt:67:26
 mul-print-hex : tie.Need-mul-print-hex Inv-loop μ-loop
 mul-print-hex c = omega arith
 
--- src/main.rt:67:26
 element-copy-out-print-hex : tie.Need-element-copy-out-print-hex Inv-loop μ-loop
 element-copy-out-print-hex c = omega arith
 
--- src/main.rt:67:9
 print-hex-requires : tie.Need-print-hex-requires Inv-loop μ-loop
 print-hex-requires c κs = tt
 
--- src/main.rt:68:9
 add-place : tie.Need-add-place Inv-loop μ-loop
 add-place c = omega arith
 
--- src/main.rt:65:5
 loop-less : tie.Need-loop-less Inv-loop μ-loop
 loop-less c = omega arith
 
--- src/main.rt:65:5
 loop-again : tie.Need-loop-again Inv-loop μ-loop
 loop-again c = omega arith
 
--- src/main.rt:63:1
 returns : tie.Need-returns Inv-loop μ-loop
 returns c = tt
 

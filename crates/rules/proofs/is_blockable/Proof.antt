@@ -18,25 +18,20 @@ aligned c =
     let a = c .before .args in
     ap (λ (g : ℕ). bitAnd (a .map .frame .0) (g - 1)) (c .granularity-at-level .ensures) ∙ size-mod (a .level) (a .map .frame .0)
 
--- src/lib.rt:44:23
 granularity-at-level-requires : tie.Need-granularity-at-level-requires
 granularity-at-level-requires c κs = search needs
 
--- src/lib.rt:44:23
 sub-if1 : tie.Need-sub-if1
 sub-if1 c = omega (arith, c .granularity-at-level .ensures, size-pos (c .before .args .level))
 
--- src/lib.rt:45:9
 returns : tie.Need-returns
 unfolding blockable
 returns c = rw (ne-eqb _ 0 (λ e. c .if1 .taken (aligned (c .before .before) ∙ e)))
 
--- src/lib.rt:48:9
 returns-2 : tie.Need-returns-2
 unfolding blockable
 returns-2 c = rw (eq-eqb _ 0 (sym (aligned (c .before .before .before .before)) ∙ c .before .before .if1 .left), not-true (c .before .before .before .before .before .args .map .blocks) (c .if2 .taken))
 
--- src/lib.rt:41:1
 returns-3 : tie.Need-returns-3
 unfolding blockable
 returns-3 c = rw (eq-eqb _ 0 (sym (aligned (c .before .before .before .before)) ∙ c .before .before .if1 .left), not-false (c .before .before .before .before .before .args .map .blocks) (c .if2 .left))

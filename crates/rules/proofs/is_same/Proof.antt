@@ -20,34 +20,27 @@ offset c =
     let a = c .before .before .before .before .before .args in
     ap (λ (g : ℕ). bitAnd (a .map .region .start .0) (g - 1)) (c .granularity-at-level .ensures) ∙ size-mod (a .level) (a .map .region .start .0)
 
--- src/lib.rt:28:9
 returns : tie.Need-returns
 returns c = let a = c .before .args in same-table (a .level) (a .map) (a .word) (c .if1 .taken)
 
--- src/lib.rt:30:8
 flags-requires : tie.Need-flags-requires
 flags-requires c κs = search needs
 
--- src/lib.rt:31:9
 returns-2 : tie.Need-returns-2
 returns-2 c = let a = c .before .before .before .before .args in same-flags (a .level) (a .map) (a .word) (c .before .before .before .if1 .left) (λ e. c .if2 .taken (c .before .before .flags .ensures ∙ e))
 
--- src/lib.rt:33:40
 granularity-at-level-requires : tie.Need-granularity-at-level-requires
 granularity-at-level-requires c κs = search needs
 
--- src/lib.rt:33:40
 sub-offset : tie.Need-sub-offset
 sub-offset c = omega (arith, c .granularity-at-level .ensures, size-pos (c .before .before .before .before .before .args .level))
 
--- src/lib.rt:35:9
 returns-3 : tie.Need-returns-3
 returns-3 c =
     let a = c .before .before .before .before .before .before .before .before .args in
     let e = offset (c .before .before .before) in
     same-below (a .level) (a .map) (a .word) (c .before .before .before .before .before .before .before .if1 .left) (sym (c .before .before .before .before .before .before .flags .ensures) ∙ c .before .before .before .before .if2 .left) (omega arith)
 
--- src/lib.rt:24:1
 returns-4 : tie.Need-returns-4
 returns-4 c =
     let a = c .before .before .before .before .before .before .before .before .before .args in

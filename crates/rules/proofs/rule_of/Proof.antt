@@ -20,50 +20,39 @@ use Rattle.region.proofs.MemoryRegion.is_block.Reads as is-block-reads
 leaf-needs : (c : tie.Start) → (c .args .map .frame .0 % 4096 ≡ 0) × (c .args .map .frame .0 < 2 ^ 48) × Plain (c .args .map .flags)
 leaf-needs c = let p = c .pre .0 in (p .frame, omega (arith, p .room, c .pre .1), p .flags)
 
--- src/lib.rt:59:28
 leaf-word-requires : tie.Need-leaf-word-requires
 leaf-word-requires c κs = leaf-needs (c .before)
 
--- src/lib.rt:59:9
 returns : tie.Need-returns
 returns c = let a = c .before .before .args in ap Write (c .leaf-word .ensures) ∙ rule-page (a .level) (a .map) (a .word) (c .before .if1 .taken)
 
--- src/lib.rt:61:8
 is-same-requires : tie.Need-is-same-requires
 is-same-requires c κs = search needs
 
--- src/lib.rt:62:9
 returns-2 : tie.Need-returns-2
 returns-2 c = let a = c .before .before .before .args in rule-keep (a .level) (a .map) (a .word) (omega arith) (sym (c .before .is-same .ensures) ∙ c .if2 .taken)
 
--- src/lib.rt:65:9
 is-block-requires : tie.Need-is-block-requires
 is-block-requires c κs = search needs
 
--- src/lib.rt:66:9
 returns-3 : tie.Need-returns-3
 unfolding whole
 returns-3 c = let a = c .before .before .before .before .before .before .args in rule-part (a .level) (a .map) (a .word) (omega arith) (sym (c .before .before .before .before .is-same .ensures) ∙ c .before .before .before .if2 .left) (sym (c .before .is-block .ensures) ∙ not-true _ (c .if3 .taken))
 
--- src/lib.rt:70:13
 returns-4 : tie.Need-returns-4
 unfolding whole
 returns-4 c = let a = c .before .before .before .before .before .before .before .before .before .args in rule-drop (a .level) (a .map) (a .word) (omega arith) (sym (c .before .before .before .before .before .before .before .is-same .ensures) ∙ c .before .before .before .before .before .before .if2 .left) (sym (c .before .before .before .before .is-block .ensures) ∙ not-false _ (c .before .before .before .if3 .left)) (c .before .before .if4 .taken) (c .if5 .taken)
 
--- src/lib.rt:72:9
 returns-5 : tie.Need-returns-5
 unfolding whole
 returns-5 c = let a = c .before .before .before .before .before .before .before .before .before .args in rule-into (a .level) (a .map) (a .word) (omega arith) (sym (c .before .before .before .before .before .before .before .is-same .ensures) ∙ c .before .before .before .before .before .before .if2 .left) (sym (c .before .before .before .before .is-block .ensures) ∙ not-false _ (c .before .before .before .if3 .left)) (c .before .before .if4 .taken) (c .if5 .left)
 
--- src/lib.rt:74:8
 is-blockable-requires : tie.Need-is-blockable-requires
 is-blockable-requires c κs = search needs
 
--- src/lib.rt:75:28
 leaf-word-requires-2 : tie.Need-leaf-word-requires-2
 leaf-word-requires-2 c κs = leaf-needs (c .before .before .before .before .before .before .before .before .before)
 
--- src/lib.rt:75:9
 returns-6 : tie.Need-returns-6
 unfolding whole
 returns-6 c =
@@ -72,7 +61,6 @@ returns-6 c =
     ∙ rule-block (a .level) (a .map) (a .word) (omega arith) (sym (c .before .before .before .before .before .before .before .before .is-same .ensures) ∙ c .before .before .before .before .before .before .before .if2 .left) (sym (c .before .before .before .before .before .is-block .ensures) ∙ not-false _ (c .before .before .before .before .if3 .left)) (c .before .before .before .if4 .left)
     (sym (c .before .before .is-blockable .ensures) ∙ c .before .if6 .taken)
 
--- src/lib.rt:54:1
 returns-7 : tie.Need-returns-7
 unfolding whole
 returns-7 c =

@@ -16,38 +16,30 @@ high set (suc zero) a b c = absurd (b refl)
 high set (suc (suc zero)) a b c = absurd (c refl)
 high set (suc (suc (suc l))) a b c = refl
 
--- src/check.rt:32:14
 add-result : tie.Need-add-result
 add-result c = omega arith
 
--- src/check.rt:33:14
 add-result-2 : tie.Need-add-result-2
 add-result-2 c = omega arith
 
--- src/check.rt:34:14
 add-result-3 : tie.Need-add-result-3
 add-result-3 c = omega arith
 
--- src/check.rt:34:14
 add-result-4 : tie.Need-add-result-4
 add-result-4 c = omega arith
 
--- src/check.rt:26:1
 returns : tie.Need-returns
 unfolding allowedAt
 returns c = sym (ap (allowedAt (c .before .args .set)) (c .match .keys1))
 
--- src/check.rt:26:1
 returns-2 : tie.Need-returns-2
 unfolding allowedAt sizeAt
 returns-2 c = sym (ap (allowedAt (c .before .args .set)) (c .match .keys2))
 
--- src/check.rt:26:1
 returns-3 : tie.Need-returns-3
 unfolding allowedAt sizeAt
 returns-3 c = sym (ap (allowedAt (c .before .args .set)) (c .match .keys3))
 
--- src/check.rt:26:1
 returns-4 : tie.Need-returns-4
 returns-4 c = let r = c .match .rest in high (c .before .args .set) (c .before .args .level) (r .0 .0 .1) (r .0 .1) (r .1)
 

@@ -13,30 +13,24 @@ use Rattle.scan.proofs.scan_free.Reads as scan-free-reads
 use Rattle.scan.proofs.scan_links.Reads as scan-links-reads
 use Rattle.scan.proofs.scan_pages.Reads as scan-pages-reads
 
--- src/check.rt:107:9
 scan-free-requires : tie.Need-scan-free-requires
 scan-free-requires c κs = omega arith
 
--- src/check.rt:107:9
 returns : tie.Need-returns
 unfolding freeRun
 returns c =
     let a = c .before .before .before .args in
     c .scan-free .ensures ∙ sym (ap (λ (y : ℕ). runOf (a .set) y (a .run .now)) (c .before .if1 .taken) ∙ free-run (a .set) (a .run .now))
 
--- src/check.rt:109:17
 cast-level : tie.Need-cast-level
 cast-level c = omega arith
 
--- src/check.rt:110:9
 allowed-at-requires : tie.Need-allowed-at-requires
 allowed-at-requires c κs = omega arith
 
--- src/check.rt:112:9
 scan-pages-requires : tie.Need-scan-pages-requires
 scan-pages-requires c κs = omega arith
 
--- src/check.rt:112:9
 returns-2 : tie.Need-returns-2
 unfolding pagesRun
 returns-2 c =
@@ -46,11 +40,9 @@ returns-2 c =
     c .scan-pages .ensures ∙ ap (λ (m : ℕ). pagesRun m (a .run .now)) allowed
     ∙ sym (pages-run (a .set) (a .number) (c .before .before .before .before .before .pre) (omega arith) level (a .run .now) (λ i h. c .before .before .before .before .shared-slice-known .given i .fits))
 
--- src/check.rt:114:5
 scan-links-requires : tie.Need-scan-links-requires
 scan-links-requires c κs = omega arith
 
--- src/check.rt:102:1
 returns-3 : tie.Need-returns-3
 unfolding linksRun
 returns-3 c =

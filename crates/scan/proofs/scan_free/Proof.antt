@@ -22,39 +22,31 @@ abbrev μ-loop : tie.MeasureT-loop
 whole : (c : tie.After-loop Inv-loop μ-loop) → c .before .loop .any ≡ union (c .before .before .args .run .now)
 whole c = c .before .loop .inv .1 ∙ ap union (take-all (c .before .loop .i) (c .before .before .args .run .now) (omega arith))
 
--- src/check.rt:44:5
 loop-holds : tie.Need-loop-holds Inv-loop μ-loop
 loop-holds c = (omega arith, sym (union-none (c .args .run .now)))
 
--- src/check.rt:45:16
 mul-any : tie.Need-mul-any Inv-loop μ-loop
 mul-any c = omega arith
 
--- src/check.rt:45:16
 shared-slice-read-any : tie.Need-shared-slice-read-any Inv-loop μ-loop
 shared-slice-read-any c = omega arith
 
--- src/check.rt:46:9
 add-i : tie.Need-add-i Inv-loop μ-loop
 add-i c = omega arith
 
--- src/check.rt:44:5
 loop-less : tie.Need-loop-less Inv-loop μ-loop
 loop-less c = omega arith
 
--- src/check.rt:44:5
 loop-again : tie.Need-loop-again Inv-loop μ-loop
 loop-again c =
     let at = c .before .before in
     let l = at .before .args .run .now in
     (omega arith, ap (λ (x : ℕ). bitOr x (getD l (at .loop .i) 0)) (at .loop .inv .1) ∙ sym (union-more l (at .loop .i) (omega arith)))
 
--- src/check.rt:39:1
 returns : tie.Need-returns Inv-loop μ-loop
 unfolding freeRun
 returns c = rw (eq-eqb (union (c .before .before .before .args .run .now)) 0 (sym (whole (c .before)) ∙ c .if1 .taken))
 
--- src/check.rt:39:1
 returns-2 : tie.Need-returns-2 Inv-loop μ-loop
 unfolding freeRun
 returns-2 c = rw (ne-eqb (union (c .before .before .before .args .run .now)) 0 (λ e. c .if1 .left (whole (c .before) ∙ e)))

@@ -28,31 +28,24 @@ all c = c .before .loop .inv .2 ∙ ap leaves (take-all (c .before .loop .i) (c 
 count : (c : tie.After-loop Inv-loop μ-loop) → c .before .loop .links ≡ linksIn (c .before .before .args .run .now)
 count c = c .before .loop .inv .3 ∙ ap linksIn (take-all (c .before .loop .i) (c .before .before .args .run .now) (omega arith))
 
--- src/check.rt:85:5
 loop-holds : tie.Need-loop-holds Inv-loop μ-loop
 loop-holds c = (omega arith, omega arith, sym (leaves-none (c .args .run .now)), sym (links-none (c .args .run .now)))
 
--- src/check.rt:86:20
 mul-word : tie.Need-mul-word Inv-loop μ-loop
 mul-word c = omega arith
 
--- src/check.rt:86:20
 shared-slice-read-word : tie.Need-shared-slice-read-word Inv-loop μ-loop
 shared-slice-read-word c = omega arith
 
--- src/check.rt:88:13
 add-links : tie.Need-add-links Inv-loop μ-loop
 add-links c = omega arith
 
--- src/check.rt:92:9
 add-i : tie.Need-add-i Inv-loop μ-loop
 add-i c = omega arith
 
--- src/check.rt:85:5
 loop-less : tie.Need-loop-less Inv-loop μ-loop
 loop-less c = omega arith
 
--- src/check.rt:85:5
 loop-again : tie.Need-loop-again Inv-loop μ-loop
 loop-again c =
     let at = c .before .before .before in
@@ -64,7 +57,6 @@ loop-again c =
     (λ t. (omega arith, omega arith, t .1 ∙ ap (λ (x : ℕ). bitOr x w) (at .loop .inv .2) ∙ sym (leaves-leaf l i (omega arith) (t .0 .left)), t .2 ∙ at .loop .inv .3 ∙ sym (links-leaf l i (omega arith) (t .0 .left))))
     (c .if1 .came)
 
--- src/check.rt:79:1
 returns : tie.Need-returns Inv-loop μ-loop
 unfolding linksRun only
 returns c =
@@ -72,7 +64,6 @@ returns c =
     let end = c .before in
     rw (eq-eqb (bitAnd (leaves (a .run .now)) (a .allowed)) (leaves (a .run .now)) (sym (ap (λ (x : ℕ). bitAnd x (a .allowed)) (all end)) ∙ c .if2 .taken ∙ all end)) (ap Passed (count end))
 
--- src/check.rt:79:1
 returns-2 : tie.Need-returns-2 Inv-loop μ-loop
 unfolding linksRun only
 returns-2 c =

@@ -26,27 +26,21 @@ all c = c .before .loop .inv .1 ∙ ap union (take-all (c .before .loop .i) (c .
 odd : (c : tie.After-loop Inv-loop μ-loop) → c .before .loop .stray ≡ strays (c .before .before .args .run .now)
 odd c = c .before .loop .inv .2 ∙ ap strays (take-all (c .before .loop .i) (c .before .before .args .run .now) (omega arith))
 
--- src/check.rt:62:5
 loop-holds : tie.Need-loop-holds Inv-loop μ-loop
 loop-holds c = (omega arith, sym (union-none (c .args .run .now)), sym (strays-none (c .args .run .now)))
 
--- src/check.rt:63:20
 mul-word : tie.Need-mul-word Inv-loop μ-loop
 mul-word c = omega arith
 
--- src/check.rt:63:20
 shared-slice-read-word : tie.Need-shared-slice-read-word Inv-loop μ-loop
 shared-slice-read-word c = omega arith
 
--- src/check.rt:66:9
 add-i : tie.Need-add-i Inv-loop μ-loop
 add-i c = omega arith
 
--- src/check.rt:62:5
 loop-less : tie.Need-loop-less Inv-loop μ-loop
 loop-less c = omega arith
 
--- src/check.rt:62:5
 loop-again : tie.Need-loop-again Inv-loop μ-loop
 loop-again c =
     let at = c .before .before in
@@ -58,14 +52,12 @@ loop-again c =
       ap (λ (x : ℕ). bitOr x (bitAnd w (2 ^ 64 - 1 - w / 2))) (at .loop .inv .2) ∙ sym (strays-more l i (omega arith)),
     )
 
--- src/check.rt:69:9
 returns : tie.Need-returns Inv-loop μ-loop
 unfolding pagesRun only
 returns c =
     let a = c .before .before .before .args in
     rw (ne-eqb (bitAnd (union (a .run .now)) (a .allowed)) (union (a .run .now)) (λ e. c .if1 .taken (ap (λ (x : ℕ). bitAnd x (a .allowed)) (all (c .before)) ∙ e ∙ sym (all (c .before)))))
 
--- src/check.rt:56:1
 returns-2 : tie.Need-returns-2 Inv-loop μ-loop
 unfolding pagesRun only
 returns-2 c =
@@ -76,7 +68,6 @@ returns-2 c =
       eq-eqb (strays (a .run .now) % 2) 0 (sym (ap (λ (x : ℕ). x % 2) (odd end)) ∙ c .if2 .taken),
     )
 
--- src/check.rt:56:1
 returns-3 : tie.Need-returns-3 Inv-loop μ-loop
 unfolding pagesRun only
 returns-3 c =

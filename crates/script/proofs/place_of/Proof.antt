@@ -15,39 +15,30 @@ Inv-loop text word names place₀ place = Unit {0}
 abbrev μ-loop : tie.MeasureT-loop
 μ-loop text word names place₀ place = 64 - place
 
--- src/lib.rt:115:5
 loop-holds : tie.Need-loop-holds Inv-loop μ-loop
 loop-holds c = tt
 
--- src/lib.rt:116:13
 line-of-requires : tie.Need-line-of-requires Inv-loop μ-loop
 line-of-requires c κs = tt
 
--- src/lib.rt:117:13
 next-word-requires : tie.Need-next-word-requires Inv-loop μ-loop
 next-word-requires c κs = tt
 
--- src/lib.rt:118:12
 same-requires : tie.Need-same-requires Inv-loop μ-loop
 same-requires c κs = tt
 
--- src/lib.rt:119:13
 returns : tie.Need-returns Inv-loop μ-loop
 returns c = tt
 
--- src/lib.rt:121:9
 add-place : tie.Need-add-place Inv-loop μ-loop
 add-place c = omega arith
 
--- src/lib.rt:115:5
 loop-less : tie.Need-loop-less Inv-loop μ-loop
 loop-less c = omega arith
 
--- src/lib.rt:115:5
 loop-again : tie.Need-loop-again Inv-loop μ-loop
 loop-again c = tt
 
--- src/lib.rt:113:1
 returns-2 : tie.Need-returns-2 Inv-loop μ-loop
 returns-2 c = tt
 

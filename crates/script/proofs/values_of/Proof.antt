@@ -14,71 +14,54 @@ Inv-loop text at end values₀ place₀ count₀ values place count = count ≤ 
 abbrev μ-loop : tie.MeasureT-loop
 μ-loop text at end values₀ place₀ count₀ values place count = 6 - count
 
--- src/lib.rt:118:5
 loop-holds : tie.Need-loop-holds Inv-loop μ-loop
 loop-holds c = omega arith
 
--- src/lib.rt:119:13
 next-word-requires : tie.Need-next-word-requires Inv-loop μ-loop
 next-word-requires c κs = tt
 
--- src/lib.rt:121:13
 returns : tie.Need-returns Inv-loop μ-loop
 returns c = tt
 
--- src/lib.rt:124:15
 value-of-requires : tie.Need-value-of-requires Inv-loop μ-loop
 value-of-requires c κs = tt
 
--- src/lib.rt:125:27
 enum-known-value : tie.Need-enum-known-value Inv-loop μ-loop
 enum-known-value c = omega arith
 
--- src/lib.rt:125:37
 mul-values : tie.Need-mul-values Inv-loop μ-loop
 mul-values c = omega arith
 
--- src/lib.rt:125:37
 element-write-values : tie.Need-element-write-values Inv-loop μ-loop
 element-write-values c = omega arith
 
--- src/lib.rt:126:33
 enum-told : tie.Need-enum-told Inv-loop μ-loop
 enum-told c = omega arith
 
--- src/lib.rt:126:33
 returns-2 : tie.Need-returns-2 Inv-loop μ-loop
 returns-2 c = tt
 
--- src/lib.rt:127:30
 enum-told-2 : tie.Need-enum-told-2 Inv-loop μ-loop
 enum-told-2 c = omega arith
 
--- src/lib.rt:127:30
 returns-3 : tie.Need-returns-3 Inv-loop μ-loop
 returns-3 c = tt
 
--- src/lib.rt:129:9
 add-count : tie.Need-add-count Inv-loop μ-loop
 add-count c = omega arith
 
--- src/lib.rt:118:5
 loop-less : tie.Need-loop-less Inv-loop μ-loop
 loop-less c = omega arith
 
--- src/lib.rt:118:5
 loop-again : tie.Need-loop-again Inv-loop μ-loop
 loop-again c = omega arith
 
--- src/lib.rt:131:9
 next-word-requires-2 : tie.Need-next-word-requires-2 Inv-loop μ-loop
 next-word-requires-2 c κs = tt
 
--- src/lib.rt:133:9
 returns-4 : tie.Need-returns-4 Inv-loop μ-loop
 returns-4 c = tt
 
--- src/lib.rt:115:1
 returns-5 : tie.Need-returns-5 Inv-loop μ-loop
 returns-5 c = tt
 

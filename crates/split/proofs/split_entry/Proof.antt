@@ -57,43 +57,33 @@ plain c = let a = c .before .before .before .before .before .before .args in fla
 first : (c : tie.After-leaf-word) → let w = word (c .before) in let level = c .before .before .before .before .before .before .before .args .level in c .leaf-word .result ≡ leafWord (level + 1) (down (addressOf w) (sizeAt level)) (flagsOf w)
 first c = c .leaf-word .ensures ∙ ap₂ (leafWord (c .before .before .before .before .before .before .before .args .level + 1)) (cleared (c .before)) (c .before .before .before .flags .ensures)
 
--- src/lib.rt:26:22
 mul-word : tie.Need-mul-word
 mul-word c = omega arith
 
--- src/lib.rt:26:22
 add-word : tie.Need-add-word
 add-word c = omega arith
 
--- src/lib.rt:26:16
 mul-word-2 : tie.Need-mul-word-2
 mul-word-2 c = omega arith
 
--- src/lib.rt:26:16
 slice-read-word : tie.Need-slice-read-word
 slice-read-word c = omega arith
 
--- src/lib.rt:27:9
 flags-requires : tie.Need-flags-requires
 flags-requires c κs = tt
 
--- src/lib.rt:29:57
 add-take-table : tie.Need-add-take-table
 add-take-table c = omega arith
 
--- src/lib.rt:29:9
 take-table-requires : tie.Need-take-table-requires
 take-table-requires c κs = let p = c .before .before .before .before .before .before .before .pre in (p .0, up _ (p .1), p .2, p .3, omega arith)
 
--- src/lib.rt:29:9
 same-length : tie.Need-same-length
 same-length c = c .before .before .before .before .take-table .kept .0
 
--- src/lib.rt:29:9
 same-length-2 : tie.Need-same-length-2
 same-length-2 c = c .before .before .before .before .take-table .kept .1 .0
 
--- src/lib.rt:29:9
 returns : tie.Need-returns
 returns c =
     let a = c .before .before .before .before .before .before .before .before .before .before .before .before .args in
@@ -102,38 +92,30 @@ returns c =
     c .before .before .before .before .take-table .ensures
     ∙ split-is (a .handle) (a .level) (a .k) (a .i) s _ (ap (λ (f : ℕ). rising 512 f 0) (c .before .before .before .before .before .before .before .before .flags .ensures) ∙ fill-hole (a .level) w (c .before .before .before .before .before .before .before .if1 .taken))
 
--- src/lib.rt:31:52
 granularity-at-level-requires : tie.Need-granularity-at-level-requires
 granularity-at-level-requires c κs = tt
 
--- src/lib.rt:31:52
 sub-address : tie.Need-sub-address
 sub-address c = omega (arith, c .granularity-at-level .ensures, size-pos (c .before .before .before .before .before .before .args .level))
 
--- src/lib.rt:32:34
 add-leaf-word : tie.Need-add-leaf-word
 add-leaf-word c = omega arith
 
--- src/lib.rt:32:9
 leaf-word-requires : tie.Need-leaf-word-requires
 leaf-word-requires c κs =
     let a = c .before .before .before .before .before .before .args in
     let at = cleared c in
     (ap (λ (x : ℕ). x % 4096) at ∙ down-paged (a .level) (addressOf (word c)), subst⁻¹ (λ (x : ℕ). x < 2 ^ 48) at (top-below (a .level) (word c)), subst⁻¹ Plain (c .before .before .flags .ensures) (plain c))
 
--- src/lib.rt:33:46
 add-granularity-at-level : tie.Need-add-granularity-at-level
 add-granularity-at-level c = omega arith
 
--- src/lib.rt:33:9
 granularity-at-level-requires-2 : tie.Need-granularity-at-level-requires-2
 granularity-at-level-requires-2 c κs = tt
 
--- src/lib.rt:34:46
 add-take-table-2 : tie.Need-add-take-table-2
 add-take-table-2 c = omega arith
 
--- src/lib.rt:34:5
 take-table-requires-2 : tie.Need-take-table-requires-2
 take-table-requires-2 c κs =
     let p = c .before .before .before .before .before .before .before .before .before .before .pre in
@@ -142,15 +124,12 @@ take-table-requires-2 c κs =
     let fits = subst⁻¹ (λ (n : ℕ). n < 2 ^ 64) (ap₂ (λ (x s : ℕ). x + 511 * s) (first (c .before .before .before)) (c .before .before .granularity-at-level2 .ensures)) (last-fits level (word g) (p .1) (plain g)) in
     (p .0, up level (p .1), p .2, p .3, fits)
 
--- src/lib.rt:22:1
 same-length-3 : tie.Need-same-length-3
 same-length-3 c = c .before .before .before .before .take-table2 .kept .0
 
--- src/lib.rt:22:1
 same-length-4 : tie.Need-same-length-4
 same-length-4 c = c .before .before .before .before .take-table2 .kept .1 .0
 
--- src/lib.rt:22:1
 returns-2 : tie.Need-returns-2
 returns-2 c =
     let a = c .before .before .before .before .before .before .before .before .before .before .before .before .before .before .before .args in

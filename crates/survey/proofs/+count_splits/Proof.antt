@@ -72,50 +72,39 @@ facts t c =
           ∙ sym (each-step (a .level + 1) f (at .loop .at) (a .region .end .0) (at .loop .count) low) ∙ at .loop .inv .2;
     }
 
--- src/lib.rt:47:9
 count-splits-returns : (t : ℕ) → count-splits-lts.Need-returns (calls t) (count-splits-at t) count-splits.Post count-splits-Inv-loop count-splits-μ-loop
 count-splits-returns t c = let a = c .before .args in splits-page (a .level) (a .region) (c .if1 .taken)
 
--- src/lib.rt:49:8
 count-splits-is-block-requires : (t : ℕ) → count-splits-lts.Need-is-block-requires (calls t) (count-splits-at t) count-splits.Post count-splits-Inv-loop count-splits-μ-loop
 count-splits-is-block-requires t c κs = tt
 
--- src/lib.rt:50:9
 count-splits-returns-2 : (t : ℕ) → count-splits-lts.Need-returns-2 (calls t) (count-splits-at t) count-splits.Post count-splits-Inv-loop count-splits-μ-loop
 count-splits-returns-2 t c = let a = c .before .before .before .args in splits-whole (a .level) (a .region) (omega arith) (whole-is (a .level) (a .region) ∙ sym (c .before .is-block .ensures) ∙ c .if2 .taken)
 
--- src/lib.rt:55:5
 count-splits-loop-holds : (t : ℕ) → count-splits-lts.Need-loop-holds (calls t) (count-splits-at t) count-splits.Post count-splits-Inv-loop count-splits-μ-loop
 count-splits-loop-holds t c = let p = c .before .before .before .pre .1 in (p, omega arith, refl)
 
--- src/lib.rt:56:47
 count-splits-add-chunk-end : (t : ℕ) → count-splits-lts.Need-add-chunk-end (calls t) (count-splits-at t) count-splits.Post count-splits-Inv-loop count-splits-μ-loop
 count-splits-add-chunk-end t c = omega arith
 
--- src/lib.rt:56:13
 count-splits-chunk-end-requires : (t : ℕ) → count-splits-lts.Need-chunk-end-requires (calls t) (count-splits-at t) count-splits.Post count-splits-Inv-loop count-splits-μ-loop
 count-splits-chunk-end-requires t c κs = tt
 
--- src/lib.rt:62:31
 count-splits-add-count-splits : (t : ℕ) → count-splits-lts.Need-add-count-splits (calls t) (count-splits-at t) count-splits.Post count-splits-Inv-loop count-splits-μ-loop
 count-splits-add-count-splits t c = omega (arith, facts t c .high)
 
--- src/lib.rt:62:18
 count-splits-count-splits-requires : (t : ℕ) → count-splits-lts.Need-count-splits-requires (calls t) (count-splits-at t) count-splits.Post count-splits-Inv-loop count-splits-μ-loop
 count-splits-count-splits-requires t c κs = let f = facts t c in (omega (arith, f .high, c .before .before .before .before .before .before .pre .0), omega (arith, f .under, c .before .before .loop .inv .0))
 
--- src/lib.rt:62:9
 count-splits-add-count : (t : ℕ) → count-splits-lts.Need-add-count (calls t) (count-splits-at t) count-splits.Post count-splits-Inv-loop count-splits-μ-loop
 count-splits-add-count t c =
     let f = facts t (c .before) in
     let most = splits-most (c .before .before .before .before .before .before .before .args .level + 1) (region (c .before .before .before .loop .at) (c .before .chunk-end .result)) (f .above) in
     omega (arith, c .count-splits .ensures, most, f .above, f .under, c .before .before .before .loop .inv .1)
 
--- src/lib.rt:55:5
 count-splits-loop-less : (t : ℕ) → count-splits-lts.Need-loop-less (calls t) (count-splits-at t) count-splits.Post count-splits-Inv-loop count-splits-μ-loop
 count-splits-loop-less t c = let f = facts t (c .before) in omega (arith, f .above, f .under)
 
--- src/lib.rt:55:5
 count-splits-loop-again : (t : ℕ) → count-splits-lts.Need-loop-again (calls t) (count-splits-at t) count-splits.Post count-splits-Inv-loop count-splits-μ-loop
 count-splits-loop-again t c =
     let f = facts t (c .before) in
@@ -128,7 +117,6 @@ count-splits-loop-again t c =
       ap (eachChunk (a .level + 1) (adding (splitsIn (3 - (a .level + 1)))) (region (c .before .chunk-end .result) (a .region .end .0))) step ∙ f .next,
     )
 
--- src/lib.rt:42:1
 count-splits-returns-3 : (t : ℕ) → count-splits-lts.Need-returns-3 (calls t) (count-splits-at t) count-splits.Post count-splits-Inv-loop count-splits-μ-loop
 count-splits-returns-3 t c =
     let at = c .before in

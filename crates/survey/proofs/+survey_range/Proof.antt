@@ -102,53 +102,42 @@ again t c x adds e =
       ap (eachChunk (a .level) (stepAt (a .level) (a .handle) (st (a .words .now) (a .ledger .now)) (a .k) (a .edit)) (region (c .before .chunk-end .result) (a .edit .region .end .0))) e ∙ f .next,
     )
 
--- src/lib.rt:149:5
 survey-range-loop-holds : (t : ℕ) → survey-range-lts.Need-loop-holds (calls t) (survey-range-at t) survey-range.Post survey-range-Inv-loop survey-range-μ-loop
 survey-range-loop-holds t c = (c .before .before .pre .1 .3, refl)
 
--- src/lib.rt:150:13
 survey-range-chunk-end-requires : (t : ℕ) → survey-range-lts.Need-chunk-end-requires (calls t) (survey-range-at t) survey-range.Post survey-range-Inv-loop survey-range-μ-loop
 survey-range-chunk-end-requires t c κs = tt
 
--- src/lib.rt:160:13
 survey-range-entry-index-requires : (t : ℕ) → survey-range-lts.Need-entry-index-requires (calls t) (survey-range-at t) survey-range.Post survey-range-Inv-loop survey-range-μ-loop
 survey-range-entry-index-requires t c κs = tt
 
 survey-range-chunk-edit-requires : (t : ℕ) → survey-range-lts.Need-chunk-edit-requires (calls t) (survey-range-at t) survey-range.Post survey-range-Inv-loop survey-range-μ-loop
 survey-range-chunk-edit-requires t c κs = tt
 
--- src/lib.rt:162:26
 survey-range-mul-word : (t : ℕ) → survey-range-lts.Need-mul-word (calls t) (survey-range-at t) survey-range.Post survey-range-Inv-loop survey-range-μ-loop
 survey-range-mul-word t c = let p = c .before .before .before .before .before .before .before .pre .1 in omega (arith, facts t (c .before) .slot, p .0, p .1)
 
--- src/lib.rt:162:26
 survey-range-add-word : (t : ℕ) → survey-range-lts.Need-add-word (calls t) (survey-range-at t) survey-range.Post survey-range-Inv-loop survey-range-μ-loop
 survey-range-add-word t c = let p = c .before .before .before .before .before .before .before .pre .1 in omega (arith, facts t (c .before) .slot, p .0, p .1)
 
--- src/lib.rt:162:20
 survey-range-mul-word-2 : (t : ℕ) → survey-range-lts.Need-mul-word-2 (calls t) (survey-range-at t) survey-range.Post survey-range-Inv-loop survey-range-μ-loop
 survey-range-mul-word-2 t c = let p = c .before .before .before .before .before .before .before .pre .1 in omega (arith, facts t (c .before) .slot, p .0, p .1)
 
--- src/lib.rt:162:20
 survey-range-shared-slice-read-word : (t : ℕ) → survey-range-lts.Need-shared-slice-read-word (calls t) (survey-range-at t) survey-range.Post survey-range-Inv-loop survey-range-μ-loop
 survey-range-shared-slice-read-word t c = let p = c .before .before .before .before .before .before .before .before .pre .1 in omega (arith, facts t (c .before .before) .slot, p .0, p .1)
 
--- src/lib.rt:163:13
 survey-range-subtable-requires : (t : ℕ) → survey-range-lts.Need-subtable-requires (calls t) (survey-range-at t) survey-range.Post survey-range-Inv-loop survey-range-μ-loop
 survey-range-subtable-requires t c κs = tt
 
--- src/lib.rt:164:24
 survey-range-enum-known-kind : (t : ℕ) → survey-range-lts.Need-enum-known-kind (calls t) (survey-range-at t) survey-range.Post survey-range-Inv-loop survey-range-μ-loop
 survey-range-enum-known-kind t c = c .match .keys1
 
 survey-range-enum-told : (t : ℕ) → survey-range-lts.Need-enum-told (calls t) (survey-range-at t) survey-range.Post survey-range-Inv-loop survey-range-μ-loop
 survey-range-enum-told t c = c .match2 .keys1
 
--- src/lib.rt:149:5
 survey-range-loop-less : (t : ℕ) → survey-range-lts.Need-loop-less (calls t) (survey-range-at t) survey-range.Post survey-range-Inv-loop survey-range-μ-loop
 survey-range-loop-less t c = let f = facts t (c .before .before .before .before .before) in omega (arith, f .above, f .under)
 
--- src/lib.rt:149:5
 survey-range-loop-again : (t : ℕ) → survey-range-lts.Need-loop-again (calls t) (survey-range-at t) survey-range.Post survey-range-Inv-loop survey-range-μ-loop
 survey-range-loop-again t c =
     let a = c .before .before .before .before .before .before .before .before .before .before .before .args in
@@ -157,17 +146,14 @@ survey-range-loop-again t c =
     let r = region (c .before .before .before .before .before .before .before .before .loop .at) (c .before .before .before .before .before .before .chunk-end .result) in
     again t (c .before .before .before .before .before) (c .before .before .before .before .before .before .before .before .loop .seen) (same-adds r (c .before .before .before .before .before .before .before .before .loop .seen)) (step-outside (a .handle) s (a .level) (a .k) (a .edit) r (c .before .before .before .before .before .before .before .before .loop .seen) (f .index) (c .before .before .subtable .ensures) (is-outside _ (c .before .match .keys2) (c .match2 .keys2)))
 
--- src/lib.rt:168:13
 survey-range-survey-entry-requires : (t : ℕ) → survey-range-lts.Need-survey-entry-requires (calls t) (survey-range-at t) survey-range.Post survey-range-Inv-loop survey-range-μ-loop
 survey-range-survey-entry-requires t c κs =
     let f = facts t (c .before .before .before .before .before .before) in
     subst⁻¹ (λ (e : Edit). (e .region .start .0 < e .region .end .0) × Room (e .region) (c .before .before .before .before .before .before .before .before .before .loop .seen)) (c .before .before .before .before .before .chunk-edit .ensures) (f .above, f .room)
 
--- src/lib.rt:149:5
 survey-range-loop-less-2 : (t : ℕ) → survey-range-lts.Need-loop-less-2 (calls t) (survey-range-at t) survey-range.Post survey-range-Inv-loop survey-range-μ-loop
 survey-range-loop-less-2 t c = let f = facts t (c .before .before .before .before .before .before .before) in omega (arith, f .above, f .under)
 
--- src/lib.rt:149:5
 survey-range-loop-again-2 : (t : ℕ) → survey-range-lts.Need-loop-again-2 (calls t) (survey-range-at t) survey-range.Post survey-range-Inv-loop survey-range-μ-loop
 survey-range-loop-again-2 t c =
     let a = c .before .before .before .before .before .before .before .before .before .before .before .before .before .args in
@@ -180,13 +166,11 @@ survey-range-loop-again-2 t c =
     let adds = subst⁻¹ (Adds r seen) done (entry-adds (a .handle) (a .level) (chunkEdit (a .edit) r) _ seen (f .above)) in
     again t place _ adds (done ∙ step-entry (a .handle) s (a .level) (a .k) (a .edit) r seen (f .index) (c .before .before .before .before .subtable .ensures) (c .before .enum-told .given .1))
 
--- src/lib.rt:171:55
 survey-range-add-survey-range : (t : ℕ) → survey-range-lts.Need-add-survey-range (calls t) (survey-range-at t) survey-range.Post survey-range-Inv-loop survey-range-μ-loop
 survey-range-add-survey-range t c =
     let found = sub-found _ _ _ _ _ (sym (c .before .before .before .subtable .ensures) ∙ c .before .kind .given .1) in
     omega (arith, found .high)
 
--- src/lib.rt:171:9
 survey-range-survey-range-requires : (t : ℕ) → survey-range-lts.Need-survey-range-requires (calls t) (survey-range-at t) survey-range.Post survey-range-Inv-loop survey-range-μ-loop
 survey-range-survey-range-requires t c κs =
     let p = c .before .before .before .before .before .before .before .before .before .before .before .before .pre in
@@ -194,11 +178,9 @@ survey-range-survey-range-requires t c κs =
     let room = subst⁻¹ (λ (e : Edit). Room (e .region) (c .before .before .before .before .before .before .before .before .before .loop .seen)) (c .before .before .before .before .before .chunk-edit .ensures) (facts t (c .before .before .before .before .before .before) .room) in
     (omega (arith, found .high, p .0), (p .1 .0, found .below, omega (arith, found .high), room))
 
--- src/lib.rt:149:5
 survey-range-loop-less-3 : (t : ℕ) → survey-range-lts.Need-loop-less-3 (calls t) (survey-range-at t) survey-range.Post survey-range-Inv-loop survey-range-μ-loop
 survey-range-loop-less-3 t c = let f = facts t (c .before .before .before .before .before .before .before) in omega (arith, f .above, f .under)
 
--- src/lib.rt:149:5
 survey-range-loop-again-3 : (t : ℕ) → survey-range-lts.Need-loop-again-3 (calls t) (survey-range-at t) survey-range.Post survey-range-Inv-loop survey-range-μ-loop
 survey-range-loop-again-3 t c =
     let a = c .before .before .before .before .before .before .before .before .before .before .before .before .before .args in
@@ -213,7 +195,6 @@ survey-range-loop-again-3 t c =
     let adds = subst⁻¹ (Adds r seen) done (range-adds (3 - (a .level + 1)) (a .handle) s j (chunkEdit (a .edit) r) seen) in
     again t place _ adds (done ∙ step-table (a .handle) s (a .level) (a .k) (a .edit) r seen (f .index) (c .before .before .before .before .subtable .ensures) j (c .before .before .kind .given .1) (found .high))
 
--- src/lib.rt:134:1
 survey-range-returns : (t : ℕ) → survey-range-lts.Need-returns (calls t) (survey-range-at t) survey-range.Post survey-range-Inv-loop survey-range-μ-loop
 survey-range-returns t c =
     let at = c .before in

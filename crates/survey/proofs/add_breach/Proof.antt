@@ -5,11 +5,9 @@ use Rattle.survey.proofs.add_breach.Tie as tie
 use Rattle.survey.proofs.add_breach.Reads as reads
 use Rattle.survey.proofs.add_breach.Lts as lts
 
--- src/lib.rt:72:9
 returns : tie.Need-returns
 returns c = let a = c .before .args in breach-kept (a .word) (a .found) (c .if1 .taken)
 
--- src/lib.rt:68:1
 returns-2 : tie.Need-returns-2
 returns-2 c = let a = c .before .args in breach-first (a .word) (a .found) (c .if1 .left)
 

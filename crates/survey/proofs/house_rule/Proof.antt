@@ -4,7 +4,6 @@ use Rattle.survey.proofs.house_rule.Tie as tie
 use Rattle.survey.proofs.house_rule.Reads as reads
 use Rattle.survey.proofs.house_rule.Lts as lts
 
--- src/lib.rt:28:1
 returns : tie.Need-returns
 returns c = house-is (c .args .handle)
 

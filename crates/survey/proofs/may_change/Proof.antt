@@ -7,15 +7,12 @@ use Rattle.survey.proofs.may_change.Lts as lts
 use Rattle.entry.proofs.are_from.Reads as are-from-reads
 use Rattle.survey.proofs.house_rule.Reads as house-rule-reads
 
--- src/lib.rt:38:32
 house-rule-requires : tie.Need-house-rule-requires
 house-rule-requires c κs = tt
 
--- src/lib.rt:38:5
 are-from-requires : tie.Need-are-from-requires
 are-from-requires c κs = tt
 
--- src/lib.rt:35:1
 returns : tie.Need-returns
 returns c = let a = c .before .before .args in c .are-from .ensures ∙ change-is (a .handle) (a .old) (a .new) (c .before .house-rule .ensures)
 

@@ -8,23 +8,18 @@ use Rattle.region.proofs.MemoryRegion.is_block.Reads as is-block-reads
 use Rattle.survey.proofs.survey_part.Reads as survey-part-reads
 use Rattle.survey.proofs.survey_whole.Reads as survey-whole-reads
 
--- src/lib.rt:127:8
 is-block-requires : tie.Need-is-block-requires
 is-block-requires c κs = tt
 
--- src/lib.rt:128:9
 survey-whole-requires : tie.Need-survey-whole-requires
 survey-whole-requires c κs = c .before .before .before .pre
 
--- src/lib.rt:128:9
 returns : tie.Need-returns
 returns c = let a = c .before .before .before .before .args in c .survey-whole .ensures ∙ entry-whole (a .handle) (a .level) (a .edit) (a .word) (a .seen) (whole-is (a .level) (a .edit .region) ∙ sym (c .before .before .is-block .ensures) ∙ c .before .if1 .taken)
 
--- src/lib.rt:130:5
 survey-part-requires : tie.Need-survey-part-requires
 survey-part-requires c κs = c .before .before .before .pre
 
--- src/lib.rt:122:1
 returns-2 : tie.Need-returns-2
 returns-2 c = let a = c .before .before .before .before .args in c .survey-part .ensures ∙ entry-part (a .handle) (a .level) (a .edit) (a .word) (a .seen) (whole-is (a .level) (a .edit .region) ∙ sym (c .before .before .is-block .ensures) ∙ c .before .if1 .left)
 

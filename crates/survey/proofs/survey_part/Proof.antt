@@ -24,30 +24,24 @@ no-block Block (inr (inr e)) = absurd (omega arith)
 no-block Page e = inr (inl refl)
 no-block Hole e = inr (inr refl)
 
--- src/lib.rt:88:31
 count-splits-requires : tie.Need-count-splits-requires
 count-splits-requires c κs = c .pre .1 .span
 
--- src/lib.rt:88:17
 add-t8 : tie.Need-add-t8
 add-t8 c = let a = c .before .before .args in let p = c .before .before .pre in omega (arith, c .before .count-splits .ensures, splits-most (a .level) (a .region) (p .0), p .1 .splits)
 
--- src/lib.rt:93:9
 kind-of-requires : tie.Need-kind-of-requires
 kind-of-requires c κs = tt
 
 enum-told : tie.Need-enum-told
 enum-told c = c .match .keys1
 
--- src/lib.rt:95:9
 returns : tie.Need-returns
 returns c = let a = c .before .before .before .before .args in part-other (a .level) (a .region) (a .word) (a .seen) (c .before .before .before .count-splits .ensures) (c .before .kind-of .ensures) (no-block (c .before .kind-of .result) (c .match .keys2))
 
--- src/lib.rt:97:5
 add-breach-requires : tie.Need-add-breach-requires
 add-breach-requires c κs = tt
 
--- src/lib.rt:83:1
 returns-2 : tie.Need-returns-2
 returns-2 c = let a = c .before .before .before .before .before .before .args in c .add-breach .ensures ∙ part-block (a .level) (a .region) (a .word) (a .seen) (c .before .before .before .before .before .count-splits .ensures) (c .before .before .before .kind-of .ensures) (c .before .enum-told .given .1)
 

@@ -9,31 +9,24 @@ use Rattle.edit.proofs.edit_word.Reads as edit-word-reads
 use Rattle.survey.proofs.add_breach.Reads as add-breach-reads
 use Rattle.survey.proofs.may_change.Reads as may-change-reads
 
--- src/lib.rt:105:9
 edit-word-requires : tie.Need-edit-word-requires
 edit-word-requires c κs = tt
 
--- src/lib.rt:107:9
 returns : tie.Need-returns
 returns c = let a = c .before .before .args in whole-same (a .handle) (a .level) (a .edit) (a .word) (a .seen) (c .before .edit-word .ensures) (c .if1 .taken)
 
--- src/lib.rt:111:18
 add-t9 : tie.Need-add-t9
 add-t9 c = let p = c .before .before .before .pre in omega (arith, p .0, p .1 .numbers)
 
--- src/lib.rt:115:8
 may-change-requires : tie.Need-may-change-requires
 may-change-requires c κs = tt
 
--- src/lib.rt:116:9
 returns-2 : tie.Need-returns-2
 returns-2 c = let a = c .before .before .before .before .before .args in whole-allowed (a .handle) (a .level) (a .edit) (a .word) (a .seen) (c .before .before .before .before .edit-word .ensures) (c .before .before .before .if1 .left) (sym (c .before .may-change .ensures) ∙ c .if2 .taken)
 
--- src/lib.rt:118:5
 add-breach-requires : tie.Need-add-breach-requires
 add-breach-requires c κs = tt
 
--- src/lib.rt:101:1
 returns-3 : tie.Need-returns-3
 returns-3 c = let a = c .before .before .before .before .before .before .args in c .add-breach .ensures ∙ whole-breach (a .handle) (a .level) (a .edit) (a .word) (a .seen) (c .before .before .before .before .before .edit-word .ensures) (c .before .before .before .before .if1 .left) (sym (c .before .before .may-change .ensures) ∙ c .before .if2 .left)
 

@@ -48,61 +48,47 @@ free-μ-loop words₀ ledger₀ handle k level i₀ words ledger i = 512 - i
 lower : {level t : ℕ} → 3 - level ≡ t → level < 3 → (3 - (level + 1) < t) × (level + 1 ≤ 3)
 lower e h = (omega arith, omega arith)
 
--- src/table.rt:93:9
 free-clear-table-requires : (t : ℕ) → free-lts.Need-clear-table-requires (calls t) (free-at t) free.Post free-Inv-loop free-μ-loop
 free-clear-table-requires t c κs = let p = c .before .before .before .before .before .pre .1 in (p .0, p .1)
 
--- src/table.rt:94:9
 free-same-length : (t : ℕ) → free-lts.Need-same-length (calls t) (free-at t) free.Post free-Inv-loop free-μ-loop
 free-same-length t c = c .before .before .before .before .clear-table .kept .0
 
--- src/table.rt:94:9
 free-same-length-2 : (t : ℕ) → free-lts.Need-same-length-2 (calls t) (free-at t) free.Post free-Inv-loop free-μ-loop
 free-same-length-2 t c = c .before .before .before .before .clear-table .kept .1 .0
 
--- src/table.rt:94:9
 free-returns : (t : ℕ) → free-lts.Need-returns (calls t) (free-at t) free.Post free-Inv-loop free-μ-loop
 free-returns t c =
     let a = c .before .before .before .before .before .before .before .before .before .before .args in
     c .before .before .before .before .clear-table .ensures ∙ free-last (a .level) (a .handle) (a .k) (st (a .words .now) (a .ledger .now)) (omega arith)
 
--- src/table.rt:97:5
 free-loop-holds : (t : ℕ) → free-lts.Need-loop-holds (calls t) (free-at t) free.Post free-Inv-loop free-μ-loop
 free-loop-holds t c = (omega arith, refl, refl, iter-none _ _)
 
--- src/table.rt:98:26
 free-mul-word : (t : ℕ) → free-lts.Need-mul-word (calls t) (free-at t) free.Post free-Inv-loop free-μ-loop
 free-mul-word t c = omega arith
 
--- src/table.rt:98:26
 free-add-word : (t : ℕ) → free-lts.Need-add-word (calls t) (free-at t) free.Post free-Inv-loop free-μ-loop
 free-add-word t c = omega arith
 
--- src/table.rt:98:20
 free-mul-word-2 : (t : ℕ) → free-lts.Need-mul-word-2 (calls t) (free-at t) free.Post free-Inv-loop free-μ-loop
 free-mul-word-2 t c = omega arith
 
--- src/table.rt:98:20
 free-slice-read-word : (t : ℕ) → free-lts.Need-slice-read-word (calls t) (free-at t) free.Post free-Inv-loop free-μ-loop
 free-slice-read-word t c = omega arith
 
--- src/table.rt:99:9
 free-add-i : (t : ℕ) → free-lts.Need-add-i (calls t) (free-at t) free.Post free-Inv-loop free-μ-loop
 free-add-i t c = omega arith
 
--- src/table.rt:100:13
 free-subtable-requires : (t : ℕ) → free-lts.Need-subtable-requires (calls t) (free-at t) free.Post free-Inv-loop free-μ-loop
 free-subtable-requires t c κs = tt
 
--- src/table.rt:101:24
 free-enum-known-kind : (t : ℕ) → free-lts.Need-enum-known-kind (calls t) (free-at t) free.Post free-Inv-loop free-μ-loop
 free-enum-known-kind t c = c .match .keys1
 
--- src/table.rt:97:5
 free-loop-less : (t : ℕ) → free-lts.Need-loop-less (calls t) (free-at t) free.Post free-Inv-loop free-μ-loop
 free-loop-less t c = omega arith
 
--- src/table.rt:97:5
 free-loop-again : (t : ℕ) → free-lts.Need-loop-again (calls t) (free-at t) free.Post free-Inv-loop free-μ-loop
 free-loop-again t c =
     let at = c .before .before .before .before in
@@ -118,11 +104,9 @@ free-loop-again t c =
           (no-table (sub .result) (c .match .keys2))),
     )
 
--- src/table.rt:104:40
 free-add-free : (t : ℕ) → free-lts.Need-add-free (calls t) (free-at t) free.Post free-Inv-loop free-μ-loop
 free-add-free t c = omega arith
 
--- src/table.rt:104:9
 free-free-requires : (t : ℕ) → free-lts.Need-free-requires (calls t) (free-at t) free.Post free-Inv-loop free-μ-loop
 free-free-requires t c κs =
     let told = c .before .before .before in
@@ -132,11 +116,9 @@ free-free-requires t c κs =
     let low = lower (p .0) (found .high) in
     (low .0, (inv .1 ∙ p .1 .0 ∙ ap (λ (n : ℕ). 512 * n) (sym (inv .2)), found .below, low .1))
 
--- src/table.rt:97:5
 free-loop-less-2 : (t : ℕ) → free-lts.Need-loop-less-2 (calls t) (free-at t) free.Post free-Inv-loop free-μ-loop
 free-loop-less-2 t c = omega arith
 
--- src/table.rt:97:5
 free-loop-again-2 : (t : ℕ) → free-lts.Need-loop-again-2 (calls t) (free-at t) free.Post free-Inv-loop free-μ-loop
 free-loop-again-2 t c =
     let at = c .before .before .before .before .before .before .before .before .before .before .before .before .before in
@@ -150,22 +132,18 @@ free-loop-again-2 t c =
           (called .free .ensures ∙ slot-table (below (a .level) (a .handle)) (a .handle) (a .level) (a .k) (at .loop .i) s (c .before .before .before .before .before .before .before .before .before .before .subtable .ensures) _ (c .before .before .before .before .before .before .before .before .kind .given .1)),
     )
 
--- src/table.rt:106:5
 free-clear-table-requires-2 : (t : ℕ) → free-lts.Need-clear-table-requires-2 (calls t) (free-at t) free.Post free-Inv-loop free-μ-loop
 free-clear-table-requires-2 t c κs =
     let inv = c .before .before .before .loop .inv in
     let p = c .before .before .before .before .before .before .before .pre .1 in
     (inv .1 ∙ p .0 ∙ ap (λ (n : ℕ). 512 * n) (sym (inv .2)), subst⁻¹ (λ (n : ℕ). c .before .before .before .before .before .before .before .args .k < n) (inv .2) (p .1))
 
--- src/table.rt:88:1
 free-same-length-3 : (t : ℕ) → free-lts.Need-same-length-3 (calls t) (free-at t) free.Post free-Inv-loop free-μ-loop
 free-same-length-3 t c = c .before .before .before .before .clear-table2 .kept .0 ∙ c .before .before .before .before .before .before .before .before .loop .inv .1
 
--- src/table.rt:88:1
 free-same-length-4 : (t : ℕ) → free-lts.Need-same-length-4 (calls t) (free-at t) free.Post free-Inv-loop free-μ-loop
 free-same-length-4 t c = c .before .before .before .before .clear-table2 .kept .1 .0 ∙ c .before .before .before .before .before .before .before .before .loop .inv .2
 
--- src/table.rt:88:1
 free-returns-2 : (t : ℕ) → free-lts.Need-returns-2 (calls t) (free-at t) free.Post free-Inv-loop free-μ-loop
 free-returns-2 t c =
     let at = c .before .before .before .before .before .before .before .before in

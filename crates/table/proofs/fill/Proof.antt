@@ -26,31 +26,24 @@ fits-below at =
     let bound : (i + 1) * step ≤ 511 * step = mul-le-mul-right step (omega arith) in
     omega (arith, at .before .loop .inv .3, next-multiple i step, at .before .before .pre .1)
 
--- src/table.rt:42:5
 loop-holds : tie.Need-loop-holds Inv-loop μ-loop
 loop-holds c = (omega arith, omega arith, refl, omega arith)
 
--- src/table.rt:43:9
 mul-table : tie.Need-mul-table Inv-loop μ-loop
 mul-table c = omega arith
 
--- src/table.rt:43:9
 slice-write-table : tie.Need-slice-write-table Inv-loop μ-loop
 slice-write-table c = omega arith
 
--- src/table.rt:44:9
 add-word : tie.Need-add-word Inv-loop μ-loop
 add-word c = record { fits = fits-below c }
 
--- src/table.rt:45:9
 add-i : tie.Need-add-i Inv-loop μ-loop
 add-i c = omega arith
 
--- src/table.rt:42:5
 loop-less : tie.Need-loop-less Inv-loop μ-loop
 loop-less c = omega arith
 
--- src/table.rt:42:5
 loop-again : tie.Need-loop-again Inv-loop μ-loop
 loop-again c =
     let at = c .before in
@@ -64,15 +57,12 @@ loop-again c =
       omega (arith, at .loop .inv .3, next-multiple i (a .step)),
     )
 
--- src/table.rt:47:5
 slice-write-table-2 : tie.Need-slice-write-table-2 Inv-loop μ-loop
 slice-write-table-2 c = omega arith
 
--- src/table.rt:36:1
 same-length : tie.Need-same-length Inv-loop μ-loop
 same-length c = simp length-set (omega arith)
 
--- src/table.rt:36:1
 returns : tie.Need-returns Inv-loop μ-loop
 returns c =
     let at = c .before in

@@ -37,122 +37,93 @@ fits n level p i most low inside slot = record { front = omega arith; row = omeg
 parts : (c : tie.Start) → let a = c .args in Fits (a .level) (a .p) (a .i)
 parts c = let p = c .pre in fits _ _ _ _ (p .0 .limit) (p .1) (p .2) (p .3)
 
--- src/table.rt:75:9
 lowest-free-requires : tie.Need-lowest-free-requires
 lowest-free-requires c κs = omega arith
 
--- src/table.rt:76:19
 enum-known-free : tie.Need-enum-known-free
 enum-known-free c = c .match .keys1
 
--- src/table.rt:77:9
 enum-told : tie.Need-enum-told
 enum-told c = c .match .keys2
 
--- src/table.rt:77:9
 same-length : tie.Need-same-length
 same-length c = omega arith
 
--- src/table.rt:77:9
 returns : tie.Need-returns
 returns c =
     let a = c .before .before .before .before .before .before .args in
     take-none (a .handle) (a .level) (a .p) (a .i) (rising 512 (a .first) (a .step)) (st (a .words .now) (a .ledger .now)) (c .before .before .lowest-free .ensures) (c .enum-told .given .1)
 
--- src/table.rt:79:13
 mul-a : tie.Need-mul-a
 mul-a c = omega (arith, lowest c .inside)
 
--- src/table.rt:80:13
 add-e : tie.Need-add-e
 add-e c = omega (arith, lowest c .inside)
 
--- src/table.rt:81:10
 mul-fill : tie.Need-mul-fill
 mul-fill c = omega (arith, lowest c .inside)
 
--- src/table.rt:81:10
 sub-fill : tie.Need-sub-fill
 sub-fill c = omega arith
 
--- src/table.rt:81:10
 part-fill-start : tie.Need-part-fill-start
 part-fill-start c = omega arith
 
--- src/table.rt:81:10
 part-fill-end : tie.Need-part-fill-end
 part-fill-end c = omega (arith, lowest c .inside)
 
--- src/table.rt:81:5
 fill-requires : tie.Need-fill-requires
 fill-requires c κs = omega arith
 
--- src/table.rt:82:18
 add-ledger : tie.Need-add-ledger
 add-ledger c = record { fits = parts (c .before .before .before .before .before .before .before .before .before .before .before) .front }
 
--- src/table.rt:82:35
 mul-ledger : tie.Need-mul-ledger
 mul-ledger c = record { fits = parts (c .before .before .before .before .before .before .before .before .before .before .before) .row }
 
--- src/table.rt:82:35
 add-ledger-2 : tie.Need-add-ledger-2
 add-ledger-2 c = record { fits = parts (c .before .before .before .before .before .before .before .before .before .before .before) .slot }
 
--- src/table.rt:82:35
 add-ledger-3 : tie.Need-add-ledger-3
 add-ledger-3 c = omega arith
 
--- src/table.rt:82:30
 mul-ledger-2 : tie.Need-mul-ledger-2
 mul-ledger-2 c = omega arith
 
--- src/table.rt:82:18
 add-ledger-4 : tie.Need-add-ledger-4
 add-ledger-4 c = omega arith
 
--- src/table.rt:82:17
 cast-ledger : tie.Need-cast-ledger
 unfolding maxTables
 cast-ledger c = omega (arith, c .before .before .before .before .before .before .before .before .before .before .before .pre .0 .limit)
 
--- src/table.rt:82:5
 mul-ledger-3 : tie.Need-mul-ledger-3
 mul-ledger-3 c = let h = lowest (c .before .before .before .before) .inside in omega arith
 
--- src/table.rt:82:5
 slice-write-ledger : tie.Need-slice-write-ledger
 slice-write-ledger c = let h = lowest (c .before .before .before .before) .inside in omega arith
 
--- src/table.rt:83:26
 link-requires : tie.Need-link-requires
 link-requires c κs = tt
 
--- src/table.rt:83:11
 mul-words : tie.Need-mul-words
 mul-words c = record { fits = parts (c .before .before .before .before .before .before .before .before .before .before .before .before) .row }
 
--- src/table.rt:83:11
 add-words : tie.Need-add-words
 add-words c = omega arith
 
--- src/table.rt:83:5
 mul-words-2 : tie.Need-mul-words-2
 mul-words-2 c = omega arith
 
--- src/table.rt:83:5
 slice-write-words : tie.Need-slice-write-words
 slice-write-words c = omega arith
 
--- src/table.rt:62:1
 same-length-2 : tie.Need-same-length-2
 same-length-2 c = search needs
 
--- src/table.rt:62:1
 same-length-3 : tie.Need-same-length-3
 same-length-3 c = search needs
 
--- src/table.rt:62:1
 returns-2 : tie.Need-returns-2
 unfolding takeAt numberOf
 returns-2 c =

@@ -4,11 +4,9 @@ use Rattle.verify.proofs.end_fits.Reads as reads
 use Rattle.verify.proofs.end_fits.Lts as lts
 use Rattle.verify.specs.Verify.{end-zero, end-some}
 
--- src/lib.rt:16:9
 returns : tie.Need-returns
 returns c = end-zero (c .before .args .end) (c .if1 .taken)
 
--- src/lib.rt:12:1
 returns-2 : tie.Need-returns-2
 returns-2 c = end-some (c .before .args .end) (c .if1 .left)
 

@@ -7,51 +7,41 @@ use Rattle.verify.proofs.in_range.Reads as reads
 use Rattle.verify.proofs.in_range.Lts as lts
 use Rattle.address.proofs.granularity_at_level.Reads as granularity-at-level-reads
 
--- src/lib.rt:25:22
 granularity-at-level-requires : tie.Need-granularity-at-level-requires
 granularity-at-level-requires c κs = omega arith
 
--- src/lib.rt:25:16
 mul-span : tie.Need-mul-span
 mul-span c = omega (arith, c .granularity-at-level .ensures, size-high (c .before .args .level))
 
--- src/lib.rt:28:16
 enum-told : tie.Need-enum-told
 enum-told c = omega arith
 
--- src/lib.rt:29:17
 returns : tie.Need-returns
 returns c =
     let a = c .before .before .before .before .before .args in
     lower-start (a .range) (a .level) (a .region) (c .before .before .before .before .granularity-at-level .ensures) (c .before .before .enum-told .given .1) (c .if1 .taken)
 
--- src/lib.rt:32:17
 returns-2 : tie.Need-returns-2
 returns-2 c =
     let a = c .before .before .before .before .before .before .before .args in
     lower-end (a .range) (a .level) (a .region) (c .before .before .before .before .before .before .granularity-at-level .ensures) (c .before .before .before .before .enum-told .given .1) (omega arith) (c .if2 .taken)
 
--- src/lib.rt:37:34
 enum-told-2 : tie.Need-enum-told-2
 enum-told-2 c = omega arith
 
--- src/lib.rt:37:34
 sub-if3 : tie.Need-sub-if3
 sub-if3 c = omega (arith, c .before .before .granularity-at-level .ensures, size-high (c .before .before .before .args .level))
 
--- src/lib.rt:38:17
 returns-3 : tie.Need-returns-3
 returns-3 c =
     let a = c .before .before .before .before .before .args in
     upper-start (a .range) (a .level) (a .region) (c .before .before .before .before .granularity-at-level .ensures) (c .before .before .enum-told2 .given .1) (c .if3 .taken)
 
--- src/lib.rt:22:1
 returns-4 : tie.Need-returns-4
 returns-4 c =
     let a = c .before .before .before .before .before .before .before .args in
     lower-in (a .range) (a .level) (a .region) (c .before .before .before .before .before .before .granularity-at-level .ensures) (c .before .before .before .before .enum-told .given .1) (omega arith) (omega arith)
 
--- src/lib.rt:22:1
 returns-5 : tie.Need-returns-5
 returns-5 c =
     let a = c .before .before .before .before .before .args in

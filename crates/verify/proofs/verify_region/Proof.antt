@@ -7,15 +7,12 @@ use Rattle.verify.proofs.verify_region.Reads as reads
 use Rattle.verify.proofs.verify_region.Lts as lts
 use Rattle.verify.proofs.in_range.Reads as in-range-reads
 
--- src/lib.rt:50:9
 returns : tie.Need-returns
 returns c = let a = c .before .before .args in verify-backwards (a .handle) (a .region) (c .if1 .taken)
 
--- src/lib.rt:53:5
 in-range-requires : tie.Need-in-range-requires
 in-range-requires c κs = omega arith
 
--- src/lib.rt:46:1
 returns-2 : tie.Need-returns-2
 returns-2 c = let a = c .before .before .before .args in c .in-range .ensures ∙ verify-forwards (a .handle) (a .region) (omega arith)
 

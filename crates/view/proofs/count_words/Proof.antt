@@ -13,43 +13,33 @@ Inv-loop words count₀ i₀ count i = (i ≤ length words) × (count ≤ i)
 abbrev μ-loop : tie.MeasureT-loop
 μ-loop words count₀ i₀ count i = length words - i
 
--- src/lib.rt:116:5
 loop-holds : tie.Need-loop-holds Inv-loop μ-loop
 loop-holds c = omega arith
 
--- src/lib.rt:117:20
 mul-word : tie.Need-mul-word Inv-loop μ-loop
 mul-word c = omega arith
 
--- src/lib.rt:117:20
 shared-slice-read-word : tie.Need-shared-slice-read-word Inv-loop μ-loop
 shared-slice-read-word c = omega arith
 
--- src/lib.rt:118:9
 add-i : tie.Need-add-i Inv-loop μ-loop
 add-i c = omega arith
 
--- src/lib.rt:116:5
 loop-less : tie.Need-loop-less Inv-loop μ-loop
 loop-less c = omega arith
 
--- src/lib.rt:116:5
 loop-again : tie.Need-loop-again Inv-loop μ-loop
 loop-again c = omega arith
 
--- src/lib.rt:122:9
 add-count : tie.Need-add-count Inv-loop μ-loop
 add-count c = omega arith
 
--- src/lib.rt:116:5
 loop-less-2 : tie.Need-loop-less-2 Inv-loop μ-loop
 loop-less-2 c = omega arith
 
--- src/lib.rt:116:5
 loop-again-2 : tie.Need-loop-again-2 Inv-loop μ-loop
 loop-again-2 c = omega arith
 
--- src/lib.rt:113:1
 returns : tie.Need-returns Inv-loop μ-loop
 returns c = tt
 

@@ -14,35 +14,27 @@ Inv-loop ledger table₀ table = (table ≤ length ledger)
 abbrev μ-loop : tie.MeasureT-loop
 μ-loop ledger table₀ table = length ledger - table
 
--- src/lib.rt:170:5
 loop-holds : tie.Need-loop-holds Inv-loop μ-loop
 loop-holds c = omega arith
 
--- src/lib.rt:171:24
 mul-say-row : tie.Need-mul-say-row Inv-loop μ-loop
 mul-say-row c = omega arith
 
--- src/lib.rt:171:24
 shared-slice-read-say-row : tie.Need-shared-slice-read-say-row Inv-loop μ-loop
 shared-slice-read-say-row c = omega arith
 
--- src/lib.rt:171:9
 say-row-requires : tie.Need-say-row-requires Inv-loop μ-loop
 say-row-requires c κs = tt
 
--- src/lib.rt:172:9
 add-table : tie.Need-add-table Inv-loop μ-loop
 add-table c = omega arith
 
--- src/lib.rt:170:5
 loop-less : tie.Need-loop-less Inv-loop μ-loop
 loop-less c = omega arith
 
--- src/lib.rt:170:5
 loop-again : tie.Need-loop-again Inv-loop μ-loop
 loop-again c = omega arith
 
--- src/lib.rt:168:1
 returns : tie.Need-returns Inv-loop μ-loop
 returns c = tt
 

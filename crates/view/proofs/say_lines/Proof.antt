@@ -14,31 +14,24 @@ Inv-loop lines count line₀ line = Unit {0}
 abbrev μ-loop : tie.MeasureT-loop
 μ-loop lines count line₀ line = count - line
 
--- src/lib.rt:54:5
 loop-holds : tie.Need-loop-holds Inv-loop μ-loop
 loop-holds c = tt
 
--- src/lib.rt:55:13
 after-run-requires : tie.Need-after-run-requires Inv-loop μ-loop
 after-run-requires c κs = tt
 
--- src/lib.rt:57:13
 returns : tie.Need-returns Inv-loop μ-loop
 returns c = tt
 
--- src/lib.rt:59:9
 say-run-requires : tie.Need-say-run-requires Inv-loop μ-loop
 say-run-requires c κs = tt
 
--- src/lib.rt:54:5
 loop-less : tie.Need-loop-less Inv-loop μ-loop
 loop-less c = omega arith
 
--- src/lib.rt:54:5
 loop-again : tie.Need-loop-again Inv-loop μ-loop
 loop-again c = tt
 
--- src/lib.rt:52:1
 returns-2 : tie.Need-returns-2 Inv-loop μ-loop
 returns-2 c = tt
 

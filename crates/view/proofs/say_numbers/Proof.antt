@@ -14,39 +14,30 @@ Inv-loop list count place₀ place = (place ≤ length list)
 abbrev μ-loop : tie.MeasureT-loop
 μ-loop list count place₀ place = length list - place
 
--- src/lib.rt:198:5
 loop-holds : tie.Need-loop-holds Inv-loop μ-loop
 loop-holds c = omega arith
 
--- src/lib.rt:200:13
 returns : tie.Need-returns Inv-loop μ-loop
 returns c = tt
 
--- src/lib.rt:202:20
 mul-say-number : tie.Need-mul-say-number Inv-loop μ-loop
 mul-say-number c = omega arith
 
--- src/lib.rt:202:20
 shared-slice-read-say-number : tie.Need-shared-slice-read-say-number Inv-loop μ-loop
 shared-slice-read-say-number c = omega arith
 
--- src/lib.rt:202:9
 say-number-requires : tie.Need-say-number-requires Inv-loop μ-loop
 say-number-requires c κs = tt
 
--- src/lib.rt:203:9
 add-place : tie.Need-add-place Inv-loop μ-loop
 add-place c = omega arith
 
--- src/lib.rt:198:5
 loop-less : tie.Need-loop-less Inv-loop μ-loop
 loop-less c = omega arith
 
--- src/lib.rt:198:5
 loop-again : tie.Need-loop-again Inv-loop μ-loop
 loop-again c = omega arith
 
--- src/lib.rt:196:1
 returns-2 : tie.Need-returns-2 Inv-loop μ-loop
 returns-2 c = tt
 

@@ -13,43 +13,33 @@ Inv-loop words table first count done₀ done = Unit {0}
 abbrev μ-loop : tie.MeasureT-loop
 μ-loop words table first count done₀ done = count - done
 
--- src/lib.rt:98:5
 loop-holds : tie.Need-loop-holds Inv-loop μ-loop
 loop-holds c = tt
 
--- src/lib.rt:100:13
 returns : tie.Need-returns Inv-loop μ-loop
 returns c = tt
 
--- src/lib.rt:103:13
 returns-2 : tie.Need-returns-2 Inv-loop μ-loop
 returns-2 c = tt
 
--- src/lib.rt:105:39
 add-say-word-at : tie.Need-add-say-word-at Inv-loop μ-loop
 add-say-word-at c = omega arith
 
--- src/lib.rt:105:13
 say-word-at-requires : tie.Need-say-word-at-requires Inv-loop μ-loop
 say-word-at-requires c κs = tt
 
--- src/lib.rt:106:13
 returns-3 : tie.Need-returns-3 Inv-loop μ-loop
 returns-3 c = tt
 
--- src/lib.rt:108:9
 add-done : tie.Need-add-done Inv-loop μ-loop
 add-done c = omega arith
 
--- src/lib.rt:98:5
 loop-less : tie.Need-loop-less Inv-loop μ-loop
 loop-less c = omega arith
 
--- src/lib.rt:98:5
 loop-again : tie.Need-loop-again Inv-loop μ-loop
 loop-again c = tt
 
--- src/lib.rt:96:1
 returns-4 : tie.Need-returns-4 Inv-loop μ-loop
 returns-4 c = tt
 

@@ -7,47 +7,36 @@ use Rattle.bench.proofs.command.lend.Reads as reads
 use Rattle.bench.proofs.command.lend.Lts as lts
 use Rattle.bench.proofs.command.on_pool.Reads as on-pool-reads
 
--- src/command.rt:66:9
 returns : tie.Need-returns
 returns c = tt
 
--- src/command.rt:69:9
 returns-2 : tie.Need-returns-2
 returns-2 c = tt
 
--- src/command.rt:73:22
 mul-on-pool : tie.Need-mul-on-pool
 mul-on-pool c = omega arith
 
--- src/command.rt:73:9
 slice-relend-prefix-on-pool : tie.Need-slice-relend-prefix-on-pool
 slice-relend-prefix-on-pool c = omega arith
 
--- src/command.rt:73:9
 slice-aggregate-on-pool : tie.Need-slice-aggregate-on-pool
 slice-aggregate-on-pool c = simp length-take (omega arith)
 
--- src/command.rt:74:9
 slice-relend-prefix-on-pool-2 : tie.Need-slice-relend-prefix-on-pool-2
 slice-relend-prefix-on-pool-2 c = omega arith
 
--- src/command.rt:74:9
 slice-aggregate-on-pool-2 : tie.Need-slice-aggregate-on-pool-2
 slice-aggregate-on-pool-2 c = simp length-take (omega arith)
 
--- src/command.rt:71:5
 on-pool-requires : tie.Need-on-pool-requires
 on-pool-requires c κs = tt
 
--- src/command.rt:56:1
 same-length : tie.Need-same-length
 same-length c = omega arith
 
--- src/command.rt:56:1
 same-length-2 : tie.Need-same-length-2
 same-length-2 c = omega arith
 
--- src/command.rt:56:1
 returns-3 : tie.Need-returns-3
 returns-3 c = tt
 

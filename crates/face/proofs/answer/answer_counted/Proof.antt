@@ -7,28 +7,22 @@ use Rattle.face.proofs.answer.answer_counted.Lts as lts
 use Rattle.face.proofs.answer.answer_refusal.Reads as answer-refusal-reads
 use Rattle.face.proofs.answer.one.Reads as one-reads
 
--- src/answer.rt:73:25
 enum-known-counted : tie.Need-enum-known-counted
 enum-known-counted c = c .match .keys1
 
--- src/answer.rt:73:36
 one-requires : tie.Need-one-requires
 one-requires c κs = tt
 
--- src/answer.rt:74:26
 enum-known-counted-2 : tie.Need-enum-known-counted-2
 enum-known-counted-2 c = c .match .keys2
 
--- src/answer.rt:74:38
 answer-refusal-requires : tie.Need-answer-refusal-requires
 answer-refusal-requires c κs = tt
 
--- src/answer.rt:69:1
 returns : tie.Need-returns
 unfolding toldCounted accepted
 returns c = rw (c .before .before .before .counted .given .1) (c .one .ensures)
 
--- src/answer.rt:69:1
 returns-2 : tie.Need-returns-2
 unfolding toldCounted
 returns-2 c = rw (c .before .before .before .counted2 .given .1) (c .answer-refusal .ensures)

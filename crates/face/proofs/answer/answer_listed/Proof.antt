@@ -7,28 +7,22 @@ use Rattle.face.proofs.answer.answer_listed.Lts as lts
 use Rattle.face.proofs.answer.answer_refusal.Reads as answer-refusal-reads
 use Rattle.face.proofs.answer.one.Reads as one-reads
 
--- src/answer.rt:95:23
 enum-known-listed : tie.Need-enum-known-listed
 enum-known-listed c = c .match .keys1
 
--- src/answer.rt:95:33
 one-requires : tie.Need-one-requires
 one-requires c κs = tt
 
--- src/answer.rt:96:25
 enum-known-listed-2 : tie.Need-enum-known-listed-2
 enum-known-listed-2 c = c .match .keys2
 
--- src/answer.rt:96:37
 answer-refusal-requires : tie.Need-answer-refusal-requires
 answer-refusal-requires c κs = tt
 
--- src/answer.rt:91:1
 returns : tie.Need-returns
 unfolding toldListed accepted
 returns c = rw (c .before .before .before .listed .given .1) (c .one .ensures)
 
--- src/answer.rt:91:1
 returns-2 : tie.Need-returns-2
 unfolding toldListed
 returns-2 c = rw (c .before .before .before .listed2 .given .1) (c .answer-refusal .ensures)

@@ -7,54 +7,42 @@ use Rattle.face.proofs.answer.answer_looked.Lts as lts
 use Rattle.face.proofs.answer.answer_refusal.Reads as answer-refusal-reads
 use Rattle.face.proofs.answer.four.Reads as four-reads
 
--- src/answer.rt:83:22
 enum-known-looked : tie.Need-enum-known-looked
 enum-known-looked c = c .match .keys1
 
--- src/answer.rt:83:39
 four-requires : tie.Need-four-requires
 four-requires c κs = tt
 
--- src/answer.rt:84:23
 enum-known-looked-2 : tie.Need-enum-known-looked-2
 enum-known-looked-2 c = c .match .keys2
 
--- src/answer.rt:84:47
 four-requires-2 : tie.Need-four-requires-2
 four-requires-2 c κs = tt
 
--- src/answer.rt:85:22
 enum-known-looked-3 : tie.Need-enum-known-looked-3
 enum-known-looked-3 c = c .match .keys3
 
--- src/answer.rt:85:46
 four-requires-3 : tie.Need-four-requires-3
 four-requires-3 c κs = tt
 
--- src/answer.rt:86:25
 enum-known-looked-4 : tie.Need-enum-known-looked-4
 enum-known-looked-4 c = c .match .keys4
 
--- src/answer.rt:86:37
 answer-refusal-requires : tie.Need-answer-refusal-requires
 answer-refusal-requires c κs = tt
 
--- src/answer.rt:79:1
 returns : tie.Need-returns
 unfolding toldLooked
 returns c = rw (c .before .before .before .looked .given .1) (c .four .ensures)
 
--- src/answer.rt:79:1
 returns-2 : tie.Need-returns-2
 unfolding toldLooked
 returns-2 c = rw (c .before .before .before .looked2 .given .1) (c .four2 .ensures)
 
--- src/answer.rt:79:1
 returns-3 : tie.Need-returns-3
 unfolding toldLooked
 returns-3 c = rw (c .before .before .before .looked3 .given .1) (c .four3 .ensures)
 
--- src/answer.rt:79:1
 returns-4 : tie.Need-returns-4
 unfolding toldLooked
 returns-4 c = rw (c .before .before .before .looked4 .given .1) (c .answer-refusal .ensures)

@@ -8,41 +8,32 @@ use Rattle.face.proofs.answer.answer_refusal.Reads as answer-refusal-re
 use Rattle.face.proofs.answer.one.Reads as one-reads
 use Rattle.face.proofs.answer.two.Reads as two-reads
 
--- src/answer.rt:106:26
 enum-known-modified : tie.Need-enum-known-modified
 enum-known-modified c = c .match .keys1
 
--- src/answer.rt:106:37
 one-requires : tie.Need-one-requires
 one-requires c κs = tt
 
--- src/answer.rt:107:24
 enum-known-modified-2 : tie.Need-enum-known-modified-2
 enum-known-modified-2 c = c .match .keys2
 
--- src/answer.rt:107:44
 two-requires : tie.Need-two-requires
 two-requires c κs = tt
 
--- src/answer.rt:108:27
 enum-known-modified-3 : tie.Need-enum-known-modified-3
 enum-known-modified-3 c = c .match .keys3
 
--- src/answer.rt:108:39
 answer-refusal-requires : tie.Need-answer-refusal-requires
 answer-refusal-requires c κs = tt
 
--- src/answer.rt:102:1
 returns : tie.Need-returns
 unfolding toldModified accepted
 returns c = rw (c .before .before .before .modified .given .1) (c .one .ensures)
 
--- src/answer.rt:102:1
 returns-2 : tie.Need-returns-2
 unfolding toldModified accepted
 returns-2 c = rw (c .before .before .before .modified2 .given .1) (c .two .ensures)
 
--- src/answer.rt:102:1
 returns-3 : tie.Need-returns-3
 unfolding toldModified
 returns-3 c = rw (c .before .before .before .modified3 .given .1) (c .answer-refusal .ensures)

@@ -6,24 +6,19 @@ use Rattle.face.proofs.answer.answer_outcome.Reads as reads
 use Rattle.face.proofs.answer.answer_outcome.Lts as lts
 use Rattle.face.proofs.answer.answer_refusal.Reads as answer-refusal-reads
 
--- src/answer.rt:49:30
 enum-told : tie.Need-enum-told
 enum-told c = c .match .keys1
 
--- src/answer.rt:50:26
 enum-known-outcome : tie.Need-enum-known-outcome
 enum-known-outcome c = c .match .keys2
 
--- src/answer.rt:50:38
 answer-refusal-requires : tie.Need-answer-refusal-requires
 answer-refusal-requires c κs = tt
 
--- src/answer.rt:45:1
 returns : tie.Need-returns
 unfolding told accepted over
 returns c = rw (c .enum-told .given .1)
 
--- src/answer.rt:45:1
 returns-2 : tie.Need-returns-2
 unfolding told
 returns-2 c = rw (c .before .before .before .outcome .given .1) (c .answer-refusal .ensures)

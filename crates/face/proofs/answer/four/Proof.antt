@@ -7,23 +7,18 @@ use Rattle.face.proofs.answer.four.Tie as tie
 use Rattle.face.proofs.answer.four.Reads as reads
 use Rattle.face.proofs.answer.four.Lts as lts
 
--- src/answer.rt:32:5
 element-write-answer : tie.Need-element-write-answer
 element-write-answer c = omega arith
 
--- src/answer.rt:33:5
 element-write-answer-2 : tie.Need-element-write-answer-2
 element-write-answer-2 c = omega arith
 
--- src/answer.rt:34:5
 element-write-answer-3 : tie.Need-element-write-answer-3
 element-write-answer-3 c = omega arith
 
--- src/answer.rt:35:5
 element-write-answer-4 : tie.Need-element-write-answer-4
 element-write-answer-4 c = omega arith
 
--- src/answer.rt:29:1
 returns : tie.Need-returns
 unfolding accepted
 returns c = let a = c .args in ap (slip 0) (over-four (a .answer .now) (a .first) (a .second) (a .third) (a .fourth))

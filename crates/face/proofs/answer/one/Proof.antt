@@ -7,11 +7,9 @@ use Rattle.face.proofs.answer.one.Tie as tie
 use Rattle.face.proofs.answer.one.Reads as reads
 use Rattle.face.proofs.answer.one.Lts as lts
 
--- src/answer.rt:12:5
 element-write-answer : tie.Need-element-write-answer
 element-write-answer c = omega arith
 
--- src/answer.rt:9:1
 returns : tie.Need-returns
 returns c = let a = c .args in ap (slip (a .number)) (over-one (a .answer .now) (a .first))
 

@@ -7,15 +7,12 @@ use Rattle.face.proofs.answer.two.Tie as tie
 use Rattle.face.proofs.answer.two.Reads as reads
 use Rattle.face.proofs.answer.two.Lts as lts
 
--- src/answer.rt:20:5
 element-write-answer : tie.Need-element-write-answer
 element-write-answer c = omega arith
 
--- src/answer.rt:21:5
 element-write-answer-2 : tie.Need-element-write-answer-2
 element-write-answer-2 c = omega arith
 
--- src/answer.rt:17:1
 returns : tie.Need-returns
 returns c = let a = c .args in ap (slip (a .number)) (over-two (a .answer .now) (a .first) (a .second))
 

@@ -6,12 +6,10 @@ use Rattle.face.proofs.handle.range_of.Tie as tie
 use Rattle.face.proofs.handle.range_of.Reads as reads
 use Rattle.face.proofs.handle.range_of.Lts as lts
 
--- src/lib.rt:19:1
 returns : tie.Need-returns
 unfolding rangeOf
 returns c = rw (eq-eqb (c .before .args .range) 0 (c .if1 .taken))
 
--- src/lib.rt:19:1
 returns-2 : tie.Need-returns-2
 unfolding rangeOf
 returns-2 c = rw (ne-eqb (c .before .args .range) 0 (c .if1 .left))

@@ -5,19 +5,15 @@ use Rattle.map.proofs.ask.verify_frame.Tie as tie
 use Rattle.map.proofs.ask.verify_frame.Reads as reads
 use Rattle.map.proofs.ask.verify_frame.Lts as lts
 
--- src/ask.rt:16:9
 returns : tie.Need-returns
 returns c = let a = c .before .args in frame-part (a .frame) (a .length) (c .if1 .taken)
 
--- src/ask.rt:19:9
 returns-2 : tie.Need-returns-2
 returns-2 c = let a = c .before .before .args in frame-past (a .frame) (a .length) (omega arith) (omega arith)
 
--- src/ask.rt:22:9
 returns-3 : tie.Need-returns-3
 returns-3 c = let a = c .before .before .before .args in frame-past (a .frame) (a .length) (omega arith) (omega arith)
 
--- src/ask.rt:12:1
 returns-4 : tie.Need-returns-4
 returns-4 c = let a = c .before .before .before .args in frame-fits (a .frame) (a .length) (omega arith) (omega arith)
 

@@ -25,54 +25,42 @@ from : (c : tie.Else3) → let a = c .before .before .before .before .before .be
 from c = let a = c .before .before .before .before .before .before .before .args in
     ap (λ (x : ℕ). only x (a .map .flags)) (sym (c .before .before .flag-set .ensures)) ∙ sym (c .before .are-from .ensures) ∙ not-false _ (c .if3 .left)
 
--- src/ask.rt:31:9
 end-fits-requires : tie.Need-end-fits-requires
 end-fits-requires c κs = search needs
 
--- src/ask.rt:32:9
 returns : tie.Need-returns
 returns c = let a = c .before .before .args in ask-end (a .handle) (a .end) (a .map) (sym (c .before .end-fits .ensures) ∙ not-true _ (c .if1 .taken))
 
--- src/ask.rt:35:9
 returns-2 : tie.Need-returns-2
 returns-2 c = let a = c .before .before .before .before .args in ask-invalid (a .handle) (a .end) (a .map) (ends (c .before .before)) (c .if2 .taken)
 
--- src/ask.rt:37:36
 flag-set-requires : tie.Need-flag-set-requires
 flag-set-requires c κs = search needs
 
--- src/ask.rt:37:9
 are-from-requires : tie.Need-are-from-requires
 are-from-requires c κs = search needs
 
--- src/ask.rt:38:9
 returns-3 : tie.Need-returns-3
 returns-3 c = let a = c .before .before .before .before .before .before .before .args in ask-set (a .handle) (a .end) (a .map) (ends (c .before .before .before .before .before)) (c .before .before .before .if2 .left) (ap (λ (x : ℕ). only x (a .map .flags)) (sym (c .before .before .flag-set .ensures)) ∙ sym (c .before .are-from .ensures) ∙ not-true _ (c .if3 .taken))
 
--- src/ask.rt:41:9
 verify-region-requires : tie.Need-verify-region-requires
 verify-region-requires c κs = search needs
 
 enum-told : tie.Need-enum-told
 enum-told c = search needs
 
--- src/ask.rt:43:9
 enum-told-2 : tie.Need-enum-told-2
 enum-told-2 c = search needs
 
--- src/ask.rt:43:9
 returns-4 : tie.Need-returns-4
 returns-4 c = let a = c .before .before .before .before .before .before .before .before .before .before .before .args in ask-region (a .handle) (a .end) (a .map) (ends (c .before .before .before .before .before .before .before .before .before)) (c .before .before .before .before .before .before .before .if2 .left) (from (c .before .before .before .before)) (c .before .before .verify-region .ensures) _ (c .enum-told2 .given .1)
 
--- src/ask.rt:45:31
 len-requires : tie.Need-len-requires
 len-requires c κs = search needs
 
--- src/ask.rt:45:5
 verify-frame-requires : tie.Need-verify-frame-requires
 verify-frame-requires c κs = search needs
 
--- src/ask.rt:28:1
 returns-5 : tie.Need-returns-5
 returns-5 c = let a = c .before .before .before .before .before .before .before .before .before .before .before .before .before .args in c .verify-frame .ensures ∙ ap (λ (x : ℕ). frameAsked (a .map .frame .0) x) (c .before .len .ensures) ∙ ask-frame (a .handle) (a .end) (a .map) (ends (c .before .before .before .before .before .before .before .before .before .before .before)) (c .before .before .before .before .before .before .before .before .before .if2 .left) (from (c .before .before .before .before .before .before)) (c .before .before .before .before .verify-region .ensures) (c .before .before .enum-told .given .1)
 

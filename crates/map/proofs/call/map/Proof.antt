@@ -22,63 +22,48 @@ use Rattle.region.proofs.MemoryRegion.new.Reads as new-reads
 good : (c : tie.Else1) → let a = c .before .before .before .before .before .before .args in shaped (a .handle) (st (a .words .now) (a .ledger .now)) ≡ true
 good c = sym (c .before .is-shaped .ensures) ∙ not-false _ (c .if1 .left)
 
--- src/call.rt:54:9
 is-shaped-requires : tie.Need-is-shaped-requires
 is-shaped-requires c κs = tt
 
--- src/call.rt:55:9
 same-length : tie.Need-same-length
 same-length c = refl
 
--- src/call.rt:55:9
 same-length-2 : tie.Need-same-length-2
 same-length-2 c = refl
 
--- src/call.rt:55:9
 returns : tie.Need-returns
 returns c = let a = c .before .before .before .before .before .before .args in call-misshaped (a .handle) (a .start .0) (a .end .0) (a .frame .0) (a .flags) (a .constraints .0) (st (a .words .now) (a .ledger .now)) (sym (c .before .is-shaped .ensures) ∙ not-true _ (c .if1 .taken))
 
--- src/call.rt:58:17
 new-requires : tie.Need-new-requires
 new-requires c κs = tt
 
--- src/call.rt:63:9
 verify-map-requires : tie.Need-verify-map-requires
 verify-map-requires c κs = tt
 
--- src/call.rt:65:26
 enum-known-outcome : tie.Need-enum-known-outcome
 enum-known-outcome c = c .match .keys1
 
--- src/call.rt:66:40
 enum-told : tie.Need-enum-told
 enum-told c = c .match .keys2
 
--- src/call.rt:66:30
 map-sound-requires : tie.Need-map-sound-requires
 map-sound-requires c κs = let a = c .before .before .before .before .before .before .before .before .before .before .before .before .before .args in let e = asked-is (a .start .0) (a .end .0) (a .frame .0) (a .flags) (a .constraints .0) (c .before .before .before .before .before .before .new .ensures) in (shaped-says (a .handle) (st (a .words .now) (a .ledger .now)) (rw (good (c .before .before .before .before .before .before .before)) tt), subst Fit (sym e) (asked-fit (a .handle) (a .start .0) (a .end .0) (a .frame .0) (a .flags) (a .constraints .0) (omega arith) (ap (λ (m : Map). verifyMap (a .handle) (a .end .0) m) (sym e) ∙ sym (c .before .before .before .before .verify-map .ensures) ∙ c .before .before .enum-told .given .1)))
 
--- src/call.rt:39:1
 same-length-3 : tie.Need-same-length-3
 same-length-3 c = refl
 
--- src/call.rt:39:1
 same-length-4 : tie.Need-same-length-4
 same-length-4 c = refl
 
--- src/call.rt:39:1
 returns-2 : tie.Need-returns-2
 returns-2 c = let a = c .before .before .before .before .before .before .before .before .before .before .before .before .args in call-refused (a .handle) (a .start .0) (a .end .0) (a .frame .0) (a .flags) (a .constraints .0) (st (a .words .now) (a .ledger .now)) (good (c .before .before .before .before .before .before)) (c .before .before .before .verify-map .ensures ∙ ap (λ (m : Map). verifyMap (a .handle) (a .end .0) m) (asked-is (a .start .0) (a .end .0) (a .frame .0) (a .flags) (a .constraints .0) (c .before .before .before .before .before .new .ensures))) _ (c .before .outcome .given .1)
 
--- src/call.rt:39:1
 same-length-5 : tie.Need-same-length-5
 same-length-5 c = search needs
 
--- src/call.rt:39:1
 same-length-6 : tie.Need-same-length-6
 same-length-6 c = search needs
 
--- src/call.rt:39:1
 returns-3 : tie.Need-returns-3
 returns-3 c = let a = c .before .before .before .before .before .before .before .before .before .before .before .before .before .before .before .before .before .before .args in let e = asked-is (a .start .0) (a .end .0) (a .frame .0) (a .flags) (a .constraints .0) (c .before .before .before .before .before .before .before .before .before .before .before .new .ensures) in c .before .before .before .before .map-sound .ensures ∙ ap (λ (m : Map). mapSound (a .handle) m (st (a .words .now) (a .ledger .now))) e ∙ call-asked (a .handle) (a .start .0) (a .end .0) (a .frame .0) (a .flags) (a .constraints .0) (st (a .words .now) (a .ledger .now)) (good (c .before .before .before .before .before .before .before .before .before .before .before .before)) (c .before .before .before .before .before .before .before .before .before .verify-map .ensures ∙ ap (λ (m : Map). verifyMap (a .handle) (a .end .0) m) e) (c .before .before .before .before .before .before .before .enum-told .given .1)
 

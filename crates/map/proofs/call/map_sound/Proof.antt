@@ -33,34 +33,27 @@ counts h s m shape is = closed-needed h s shape (rw is tt) m
 room : (l : List ℕ) (n : ℕ) → n ≡ used l → length l - n ≡ free l
 room l n e = let u = used-free l in omega arith
 
--- src/call.rt:27:9
 count-sound-requires : tie.Need-count-sound-requires
 count-sound-requires c κs = c .before .before .before .before .pre .0
 
--- src/call.rt:28:20
 enum-known-found : tie.Need-enum-known-found
 enum-known-found c = c .match .keys1
 
--- src/call.rt:29:9
 enum-told : tie.Need-enum-told
 enum-told c = c .match .keys2
 
--- src/call.rt:29:9
 same-length : tie.Need-same-length
 same-length c = omega arith
 
--- src/call.rt:29:9
 same-length-2 : tie.Need-same-length-2
 same-length-2 c = omega arith
 
--- src/call.rt:29:9
 returns : tie.Need-returns
 returns c =
     let a = c .before .before .before .before .before .before .before .args in
     let s = st (a .words .now) (a .ledger .now) in
     sound-not (a .handle) (a .map) s (count-unsound (a .handle) s (c .before .before .count-sound .ensures) (c .enum-told .given .1))
 
--- src/call.rt:31:17
 sub-free : tie.Need-sub-free
 sub-free c =
     let start = c .before .before .before .before .before .before .before .before in
@@ -70,19 +63,15 @@ sub-free c =
     let u = used-free (a .ledger .now) in
     omega (arith, known .1)
 
--- src/call.rt:32:9
 count-over-requires : tie.Need-count-over-requires
 count-over-requires c κs = let p = c .before .before .before .before .before .before .before .before .before .before .pre in (p .0 .sized, p .0 .some, p .0 .level, p .1)
 
--- src/call.rt:34:9
 same-length-3 : tie.Need-same-length-3
 same-length-3 c = omega arith
 
--- src/call.rt:34:9
 same-length-4 : tie.Need-same-length-4
 same-length-4 c = omega arith
 
--- src/call.rt:34:9
 returns-2 : tie.Need-returns-2
 returns-2 c =
     let start = c .before .before .before .before .before .before .before .before .before .before .before .before in

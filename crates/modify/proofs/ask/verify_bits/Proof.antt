@@ -15,49 +15,39 @@ use Rattle.pool.proofs.shape.flag_set.Reads as flag-set-reads
 from : (c : tie.Else3) → let a = c .before .before .before .before .before .args in only (flagSet (a .handle)) (a .set) ≡ true
 from c = let a = c .before .before .before .before .before .args in ap (λ (x : ℕ). only x (a .set)) (sym (c .before .before .flag-set .ensures)) ∙ sym (c .before .are-from .ensures) ∙ not-false _ (c .if3 .left)
 
--- src/ask.rt:16:9
 returns : tie.Need-returns
 returns c = let a = c .before .args in bits-set-invalid (a .handle) (a .set) (a .clear) (c .if1 .taken)
 
--- src/ask.rt:19:9
 returns-2 : tie.Need-returns-2
 returns-2 c = let a = c .before .before .args in bits-clear-invalid (a .handle) (a .set) (a .clear) (c .before .if1 .left) (c .if2 .taken)
 
--- src/ask.rt:21:9
 flag-set-requires : tie.Need-flag-set-requires
 flag-set-requires c κs = tt
 
--- src/ask.rt:22:9
 are-from-requires : tie.Need-are-from-requires
 are-from-requires c κs = tt
 
--- src/ask.rt:23:9
 returns-3 : tie.Need-returns-3
 returns-3 c =
     let a = c .before .before .before .before .before .args in
     let outside : only (flagSet (a .handle)) (a .set) ≡ false = ap (λ (x : ℕ). only x (a .set)) (sym (c .before .before .flag-set .ensures)) ∙ sym (c .before .are-from .ensures) ∙ not-true _ (c .if3 .taken) in
     bits-set-outside (a .handle) (a .set) (a .clear) (c .before .before .before .before .if1 .left) (c .before .before .before .if2 .left) outside
 
--- src/ask.rt:26:9
 returns-4 : tie.Need-returns-4
 returns-4 c = let a = c .before .before .before .before .before .before .args in bits-set-valid (a .handle) (a .set) (a .clear) (c .before .before .before .before .before .if1 .left) (c .before .before .before .before .if2 .left) (from (c .before)) (c .if4 .taken)
 
--- src/ask.rt:29:9
 returns-5 : tie.Need-returns-5
 returns-5 c = let a = c .before .before .before .before .before .before .before .args in bits-clash (a .handle) (a .set) (a .clear) (c .before .before .before .before .before .before .if1 .left) (c .before .before .before .before .before .if2 .left) (from (c .before .before)) (c .before .if4 .left) (c .if5 .taken)
 
--- src/ask.rt:31:9
 are-from-requires-2 : tie.Need-are-from-requires-2
 are-from-requires-2 c κs = tt
 
--- src/ask.rt:32:9
 returns-6 : tie.Need-returns-6
 returns-6 c =
     let a = c .before .before .before .before .before .before .before .before .before .args in
     let outside : only (flagSet (a .handle)) (a .clear) ≡ false = ap (λ (x : ℕ). only x (a .clear)) (sym (c .before .before .before .before .before .before .flag-set .ensures)) ∙ sym (c .before .are-from2 .ensures) ∙ not-true _ (c .if6 .taken) in
     bits-clear-outside (a .handle) (a .set) (a .clear) (c .before .before .before .before .before .before .before .before .if1 .left) (c .before .before .before .before .before .before .before .if2 .left) (from (c .before .before .before .before)) (c .before .before .before .if4 .left) (c .before .before .if5 .left) outside
 
--- src/ask.rt:12:1
 returns-7 : tie.Need-returns-7
 returns-7 c =
     let a = c .before .before .before .before .before .before .before .before .before .args in

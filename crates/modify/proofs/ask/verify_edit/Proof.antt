@@ -14,34 +14,27 @@ use Rattle.verify.proofs.verify_region.Reads as verify-region-reads
 ends : (c : tie.Else1) → endFits (c .before .before .args .end) ≡ true
 ends c = sym (c .before .end-fits .ensures) ∙ not-false _ (c .if1 .left)
 
--- src/ask.rt:41:9
 end-fits-requires : tie.Need-end-fits-requires
 end-fits-requires c κs = tt
 
--- src/ask.rt:42:9
 returns : tie.Need-returns
 returns c = let a = c .before .before .args in edit-end (a .handle) (a .end) (a .edit) (sym (c .before .end-fits .ensures) ∙ not-true _ (c .if1 .taken))
 
--- src/ask.rt:44:9
 verify-bits-requires : tie.Need-verify-bits-requires
 verify-bits-requires c κs = tt
 
 enum-told : tie.Need-enum-told
 enum-told c = c .match .keys1
 
--- src/ask.rt:46:9
 enum-told-2 : tie.Need-enum-told-2
 enum-told-2 c = c .match .keys2
 
--- src/ask.rt:46:9
 returns-2 : tie.Need-returns-2
 returns-2 c = let a = c .before .before .before .before .before .args in edit-bits (a .handle) (a .end) (a .edit) (ends (c .before .before .before)) (c .before .before .verify-bits .ensures) _ (c .enum-told2 .given .1)
 
--- src/ask.rt:49:5
 verify-region-requires : tie.Need-verify-region-requires
 verify-region-requires c κs = tt
 
--- src/ask.rt:38:1
 returns-3 : tie.Need-returns-3
 returns-3 c = let a = c .before .before .before .before .before .before .before .args in c .verify-region .ensures ∙ edit-region (a .handle) (a .end) (a .edit) (ends (c .before .before .before .before .before)) (c .before .before .before .before .verify-bits .ensures) (c .before .before .enum-told .given .1)
 

@@ -6,23 +6,18 @@ use Rattle.modify.proofs.ask.verify_survey.Tie as tie
 use Rattle.modify.proofs.ask.verify_survey.Reads as reads
 use Rattle.modify.proofs.ask.verify_survey.Lts as lts
 
--- src/ask.rt:57:9
 returns : tie.Need-returns
 returns c = let a = c .before .before .args in survey-full (a .free) (a .room) (a .live) (a .found) (c .if1 .taken)
 
--- src/ask.rt:60:9
 returns-2 : tie.Need-returns-2
 returns-2 c = let a = c .before .before .before .args in survey-off (a .free) (a .room) (a .live) (a .found) (omega arith) (not-true _ (c .if2 .taken))
 
--- src/ask.rt:63:9
 returns-3 : tie.Need-returns-3
 returns-3 c = let a = c .before .before .before .before .args in survey-broken (a .free) (a .room) (a .live) (a .found) (omega arith) (not-false _ (c .before .if2 .left)) (c .if3 .taken)
 
--- src/ask.rt:66:9
 returns-4 : tie.Need-returns-4
 returns-4 c = let a = c .before .before .before .before .before .before .args in survey-short (a .free) (a .room) (a .live) (a .found) (omega arith) (not-false _ (c .before .before .before .if2 .left)) (c .before .before .if3 .left) (c .if4 .taken)
 
--- src/ask.rt:53:1
 returns-5 : tie.Need-returns-5
 returns-5 c = let a = c .before .before .before .before .before .before .args in survey-accepted (a .free) (a .room) (a .live) (a .found) (omega arith) (not-false _ (c .before .before .before .if2 .left)) (c .before .before .if3 .left) (omega arith)
 

@@ -9,44 +9,34 @@ use Rattle.modify.proofs.call.edit_tables.Lts as lts
 use Rattle.edit.proofs.modify_range.Reads as modify-range-reads
 use Rattle.pool.proofs.ledger.count_used.Reads as count-used-reads
 
--- src/call.rt:31:9
 modify-range-requires : tie.Need-modify-range-requires
 modify-range-requires c κs = let p = c .before .before .before .before .before .before .pre in (p, p .some, p .level)
 
--- src/call.rt:32:9
 count-used-requires : tie.Need-count-used-requires
 unfolding maxTables
 count-used-requires c κs = omega (arith, c .before .before .before .before .before .before .before .before .before .before .before .before .before .before .pre .limit)
 
--- src/call.rt:34:9
 same-length : tie.Need-same-length
 same-length c = c .before .before .before .before .before .before .before .before .before .modify-range .kept .0
 
--- src/call.rt:34:9
 same-length-2 : tie.Need-same-length-2
 same-length-2 c = c .before .before .before .before .before .before .before .before .before .modify-range .kept .1 .0
 
--- src/call.rt:34:9
 same-length-3 : tie.Need-same-length-3
 same-length-3 c = c .before .before .before .before .before .before .before .before .before .modify-range .kept .1 .1 .1 .1 .1 .1 .0
 
--- src/call.rt:34:9
 returns : tie.Need-returns
 returns c = let a = c .before .before .before .before .before .before .before .before .before .before .before .before .before .before .before .before .args in done-live (a .handle) (a .edit) (st (a .words .now) (a .ledger .now)) (a .list .now) (c .before .before .before .before .before .before .before .before .before .modify-range .ensures) (c .if1 .taken) (c .before .count-used .ensures)
 
--- src/call.rt:20:1
 same-length-4 : tie.Need-same-length-4
 same-length-4 c = c .before .before .before .before .before .before .before .before .before .modify-range .kept .0
 
--- src/call.rt:20:1
 same-length-5 : tie.Need-same-length-5
 same-length-5 c = c .before .before .before .before .before .before .before .before .before .modify-range .kept .1 .0
 
--- src/call.rt:20:1
 same-length-6 : tie.Need-same-length-6
 same-length-6 c = c .before .before .before .before .before .before .before .before .before .modify-range .kept .1 .1 .1 .1 .1 .1 .0
 
--- src/call.rt:20:1
 returns-2 : tie.Need-returns-2
 returns-2 c = let a = c .before .before .before .before .before .before .before .before .before .before .before .before .before .before .before .before .args in done-still (a .handle) (a .edit) (st (a .words .now) (a .ledger .now)) (a .list .now) (c .before .before .before .before .before .before .before .before .before .modify-range .ensures) (c .if1 .left) (c .before .count-used .ensures)
 

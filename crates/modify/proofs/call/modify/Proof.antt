@@ -29,70 +29,54 @@ edit c = let a = c .before .before .before .before .before .before .before .befo
 verified : (c : tie.After-verify-edit) → let a = c .before .before .before .before .before .before .before .before .before .args in c .verify-edit .result ≡ verifyEdit (a .handle) (a .end .0) (asked (a .start .0) (a .end .0) (a .set) (a .clear) (a .live))
 verified c = let a = c .before .before .before .before .before .before .before .before .before .args in c .verify-edit .ensures ∙ ap (verifyEdit (a .handle) (a .end .0)) (edit (c .before))
 
--- src/call.rt:84:9
 is-shaped-requires : tie.Need-is-shaped-requires
 is-shaped-requires c κs = tt
 
--- src/call.rt:85:9
 same-length : tie.Need-same-length
 same-length c = omega arith
 
--- src/call.rt:85:9
 same-length-2 : tie.Need-same-length-2
 same-length-2 c = omega arith
 
--- src/call.rt:85:9
 returns : tie.Need-returns
 returns c = let a = c .before .before .before .before .before .before .before .args in call-misshaped (a .handle) (a .start .0) (a .end .0) (a .set) (a .clear) (a .live) (st (a .words .now) (a .ledger .now)) (a .list .now) (sym (c .before .is-shaped .ensures) ∙ not-true _ (c .if1 .taken))
 
--- src/call.rt:88:17
 new-requires : tie.Need-new-requires
 new-requires c κs = tt
 
--- src/call.rt:93:9
 verify-edit-requires : tie.Need-verify-edit-requires
 verify-edit-requires c κs = tt
 
--- src/call.rt:95:26
 enum-known-outcome : tie.Need-enum-known-outcome
 enum-known-outcome c = c .match .keys1
 
--- src/call.rt:96:43
 enum-told : tie.Need-enum-told
 enum-told c = c .match .keys2
 
--- src/call.rt:96:30
 modify-sound-requires : tie.Need-modify-sound-requires
 modify-sound-requires c κs =
     let a = c .before .before .before .before .before .before .before .before .before .before .before .before .before .before .args in
     let span = asked-span (a .handle) (a .start .0) (a .end .0) (a .set) (a .clear) (a .live) (sym (verified (c .before .before .before .before .before)) ∙ c .before .before .before .enum-told .given .1) in
     (shaped-says (a .handle) (st (a .words .now) (a .ledger .now)) (rw (good (c .before .before .before .before .before .before .before)) tt), subst⁻¹ (λ (e : Edit). e .region .end .0 - e .region .start .0 ≤ 2 ^ 48) (edit (c .before .before .before .before .before .before)) span)
 
--- src/call.rt:70:1
 same-length-3 : tie.Need-same-length-3
 same-length-3 c = omega arith
 
--- src/call.rt:70:1
 same-length-4 : tie.Need-same-length-4
 same-length-4 c = omega arith
 
--- src/call.rt:70:1
 returns-2 : tie.Need-returns-2
 returns-2 c = let a = c .before .before .before .before .before .before .before .before .before .before .before .before .args in call-refused (a .handle) (a .start .0) (a .end .0) (a .set) (a .clear) (a .live) (st (a .words .now) (a .ledger .now)) (a .list .now) (good (c .before .before .before .before .before)) (verified (c .before .before .before)) _ (c .before .outcome .given .1)
 
--- src/call.rt:70:1
 same-length-5 : tie.Need-same-length-5
 same-length-5 c = c .before .before .before .before .before .before .modify-sound .kept .0
 
--- src/call.rt:70:1
 same-length-6 : tie.Need-same-length-6
 same-length-6 c = c .before .before .before .before .before .before .modify-sound .kept .1 .0
 
--- src/call.rt:70:1
 same-length-7 : tie.Need-same-length-7
 same-length-7 c = c .before .before .before .before .before .before .modify-sound .kept .1 .1 .1 .1 .0
 
--- src/call.rt:70:1
 returns-3 : tie.Need-returns-3
 returns-3 c =
     let a = c .before .before .before .before .before .before .before .before .before .before .before .before .before .before .before .before .before .before .before .before .before .args in

@@ -26,76 +26,58 @@ sound c = sym (c .before .is-sound .ensures) ∙ not-false _ (c .if1 .left)
 room : (c : tie.After-count-used) → let a = c .before .before .before .before .before .before .before .before .before .args in length (a .ledger .now) - c .count-used .result ≡ free (a .ledger .now)
 room c = let a = c .before .before .before .before .before .before .before .before .before .args in let u = used-free (a .ledger .now) in let e = c .count-used .ensures in omega arith
 
--- src/call.rt:51:9
 is-sound-requires : tie.Need-is-sound-requires
 is-sound-requires c κs = c .before .before .before .before .before .pre .0
 
--- src/call.rt:52:9
 same-length : tie.Need-same-length
 same-length c = omega arith
 
--- src/call.rt:52:9
 same-length-2 : tie.Need-same-length-2
 same-length-2 c = omega arith
 
--- src/call.rt:52:9
 returns : tie.Need-returns
 returns c = let a = c .before .before .before .before .before .before .before .args in sound-not (a .handle) (a .edit) (st (a .words .now) (a .ledger .now)) (a .list .now) (sym (c .before .is-sound .ensures) ∙ not-true _ (c .if1 .taken))
 
--- src/call.rt:54:32
 count-used-requires : tie.Need-count-used-requires
 unfolding maxTables
 count-used-requires c κs = omega (arith, c .before .before .before .before .before .before .before .before .pre .0 .limit)
 
--- src/call.rt:54:17
 sub-free : tie.Need-sub-free
 sub-free c = let a = c .before .before .before .before .before .before .before .before .before .args in let u = used-free (a .ledger .now) in let e = c .count-used .ensures in omega arith
 
--- src/call.rt:61:9
 survey-range-requires : tie.Need-survey-range-requires
 survey-range-requires c κs = let p = c .before .before .before .before .before .before .before .before .before .before .before .pre in (p .0 .sized, p .0 .some, p .0 .level, record { span = p .1; splits = omega (arith, p .1); numbers = omega (arith, p .1) })
 
--- src/call.rt:62:9
 verify-survey-requires : tie.Need-verify-survey-requires
 verify-survey-requires c κs = tt
 
--- src/call.rt:64:26
 enum-known-outcome : tie.Need-enum-known-outcome
 enum-known-outcome c = c .match .keys1
 
--- src/call.rt:65:42
 enum-told : tie.Need-enum-told
 enum-told c = c .match .keys2
 
--- src/call.rt:65:30
 edit-tables-requires : tie.Need-edit-tables-requires
 edit-tables-requires c κs = c .before .before .before .before .before .before .before .before .before .before .before .before .before .before .before .before .before .before .pre .0
 
--- src/call.rt:40:1
 same-length-3 : tie.Need-same-length-3
 same-length-3 c = omega arith
 
--- src/call.rt:40:1
 same-length-4 : tie.Need-same-length-4
 same-length-4 c = omega arith
 
--- src/call.rt:40:1
 returns-2 : tie.Need-returns-2
 returns-2 c = let a = c .before .before .before .before .before .before .before .before .before .before .before .before .before .before .before .before .args in sound-refused (a .handle) (a .edit) (st (a .words .now) (a .ledger .now)) (a .list .now) (sound (c .before .before .before .before .before .before .before .before .before)) (room (c .before .before .before .before .before .before .before)) (c .before .before .before .before .survey-range .ensures) (c .before .before .before .verify-survey .ensures) _ (c .before .outcome .given .1)
 
--- src/call.rt:40:1
 same-length-5 : tie.Need-same-length-5
 same-length-5 c = c .before .before .before .before .before .before .edit-tables .kept .0
 
--- src/call.rt:40:1
 same-length-6 : tie.Need-same-length-6
 same-length-6 c = c .before .before .before .before .before .before .edit-tables .kept .1 .0
 
--- src/call.rt:40:1
 same-length-7 : tie.Need-same-length-7
 same-length-7 c = c .before .before .before .before .before .before .edit-tables .kept .1 .1 .1 .1 .0
 
--- src/call.rt:40:1
 returns-3 : tie.Need-returns-3
 returns-3 c = let a = c .before .before .before .before .before .before .before .before .before .before .before .before .before .before .before .before .before .before .before .before .before .before .before .before .before .args in c .before .before .before .before .before .before .edit-tables .ensures ∙ sound-edited (a .handle) (a .edit) (st (a .words .now) (a .ledger .now)) (a .list .now) (sound (c .before .before .before .before .before .before .before .before .before .before .before .before .before .before .before .before .before .before)) (room (c .before .before .before .before .before .before .before .before .before .before .before .before .before .before .before .before)) (c .before .before .before .before .before .before .before .before .before .before .before .before .before .survey-range .ensures) (c .before .before .before .before .before .before .before .before .before .before .before .before .verify-survey .ensures) (c .before .before .before .before .before .before .before .before .before .before .enum-told .given .1)
 

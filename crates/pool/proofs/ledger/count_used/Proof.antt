@@ -15,31 +15,24 @@ Inv-loop ledger count₀ i₀ count i = (i ≤ length ledger) × (count ≤ i) �
 abbrev μ-loop : tie.MeasureT-loop
 μ-loop ledger count₀ i₀ count i = length ledger - i
 
--- src/ledger.rt:34:5
 loop-holds : tie.Need-loop-holds Inv-loop μ-loop
 loop-holds c = (omega arith, omega arith, omega arith)
 
--- src/ledger.rt:35:12
 mul-if1 : tie.Need-mul-if1 Inv-loop μ-loop
 mul-if1 c = omega arith
 
--- src/ledger.rt:35:12
 shared-slice-read-if1 : tie.Need-shared-slice-read-if1 Inv-loop μ-loop
 shared-slice-read-if1 c = omega arith
 
--- src/ledger.rt:36:13
 add-count : tie.Need-add-count Inv-loop μ-loop
 add-count c = omega arith
 
--- src/ledger.rt:38:9
 add-i : tie.Need-add-i Inv-loop μ-loop
 add-i c = omega arith
 
--- src/ledger.rt:34:5
 loop-less : tie.Need-loop-less Inv-loop μ-loop
 loop-less c = omega arith
 
--- src/ledger.rt:34:5
 loop-again : tie.Need-loop-again Inv-loop μ-loop
 loop-again c =
     let at = c .before .before .before in
@@ -51,11 +44,9 @@ loop-again c =
     (λ w. let same = used-miss l i (omega arith) (w .0 .left) in (omega arith, omega arith, omega arith))
     (c .if1 .came)
 
--- src/ledger.rt:45:5
 cast-result : tie.Need-cast-result Inv-loop μ-loop
 cast-result c = omega arith
 
--- src/ledger.rt:29:1
 returns : tie.Need-returns Inv-loop μ-loop
 returns c =
     let l = c .before .before .args .ledger .now in

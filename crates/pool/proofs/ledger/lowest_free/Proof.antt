@@ -16,34 +16,27 @@ Inv-loop ledger n i₀ i = (n ≡ length ledger) × (i ≤ n) × (lowestFree led
 abbrev μ-loop : tie.MeasureT-loop
 μ-loop ledger n i₀ i = n - i
 
--- src/ledger.rt:12:9
 loop-holds : tie.Need-loop-holds Inv-loop μ-loop
 unfolding lowestFree
 loop-holds c = (refl, omega arith, refl)
 
--- src/ledger.rt:16:12
 mul-if2 : tie.Need-mul-if2 Inv-loop μ-loop
 mul-if2 c = omega arith
 
--- src/ledger.rt:16:12
 shared-slice-read-if2 : tie.Need-shared-slice-read-if2 Inv-loop μ-loop
 shared-slice-read-if2 c = omega arith
 
--- src/ledger.rt:19:9
 add-i : tie.Need-add-i Inv-loop μ-loop
 add-i c = omega arith
 
--- src/ledger.rt:12:9
 loop-less : tie.Need-loop-less Inv-loop μ-loop
 loop-less c = omega arith
 
--- src/ledger.rt:12:9
 loop-again : tie.Need-loop-again Inv-loop μ-loop
 loop-again c =
     let at = c .before .before .before in
     (refl, omega arith, at .loop .inv .2 ∙ first-miss (at .before .args .ledger .now) (at .loop .i) (omega arith) (c .if2 .left))
 
--- src/ledger.rt:7:1
 returns : tie.Need-returns Inv-loop μ-loop
 returns c =
     let at = c .before .before in
@@ -52,7 +45,6 @@ returns c =
     (λ w. ap At (w .3) ∙ sym (at .loop .inv .2 ∙ first-hit l (at .loop .i) (omega arith) (w .2 .taken)))
     (c .before .if1 .came)
 
--- src/ledger.rt:7:1
 returns-2 : tie.Need-returns-2 Inv-loop μ-loop
 returns-2 c =
     let at = c .before .before in

@@ -24,51 +24,39 @@ use Rattle.pool.proofs.zero.zero_words.Reads as zero-words-reads
 shape : (c : tie.Else1) → let a = c .before .before .before .before .before .before .args in Shaped (a .handle) (st (a .words .now) (a .ledger .now))
 shape c = let a = c .before .before .before .before .before .before .args in shaped-says (a .handle) (st (a .words .now) (a .ledger .now)) (rw (sym (c .before .is-shaped .ensures) ∙ not-false _ (c .if1 .left)) tt)
 
--- src/make.rt:44:9
 is-shaped-requires : tie.Need-is-shaped-requires
 is-shaped-requires c κs = omega arith
 
--- src/make.rt:45:9
 same-length : tie.Need-same-length
 same-length c = omega arith
 
--- src/make.rt:45:9
 same-length-2 : tie.Need-same-length-2
 same-length-2 c = omega arith
 
--- src/make.rt:45:9
 returns : tie.Need-returns
 returns c = let a = c .before .before .before .before .before .before .args in make-refused (a .handle) (st (a .words .now) (a .ledger .now)) (sym (c .before .is-shaped .ensures) ∙ not-true _ (c .if1 .taken))
 
--- src/make.rt:47:5
 zero-words-requires : tie.Need-zero-words-requires
 zero-words-requires c κs = omega arith
 
--- src/make.rt:48:5
 zero-numbers-requires : tie.Need-zero-numbers-requires
 zero-numbers-requires c κs = omega arith
 
--- src/make.rt:49:18
 add-ledger : tie.Need-add-ledger
 add-ledger c = let p = shape (c .before .before .before .before .before .before .before .before .before) in omega (arith, p .level)
 
--- src/make.rt:49:17
 cast-ledger : tie.Need-cast-ledger
 cast-ledger c = let p = shape (c .before .before .before .before .before .before .before .before .before) in omega (arith, p .level)
 
--- src/make.rt:49:5
 slice-write-ledger : tie.Need-slice-write-ledger
 slice-write-ledger c = let p = shape (c .before .before .before .before .before .before .before .before .before) in omega (arith, p .some)
 
--- src/make.rt:41:1
 same-length-3 : tie.Need-same-length-3
 same-length-3 c = omega arith
 
--- src/make.rt:41:1
 same-length-4 : tie.Need-same-length-4
 same-length-4 c = search needs
 
--- src/make.rt:41:1
 returns-2 : tie.Need-returns-2
 unfolding fresh rootNumber
 returns-2 c =

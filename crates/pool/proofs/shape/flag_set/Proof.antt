@@ -6,7 +6,6 @@ use Rattle.pool.proofs.shape.flag_set.Tie as tie
 use Rattle.pool.proofs.shape.flag_set.Reads as reads
 use Rattle.pool.proofs.shape.flag_set.Lts as lts
 
--- src/check.rt:19:1
 returns : tie.Need-returns
 unfolding flagSet el1Flags
 returns c = refl

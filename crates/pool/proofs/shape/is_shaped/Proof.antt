@@ -15,52 +15,43 @@ use Rattle.pool.proofs.shape.is_shaped.Lts as lts
 misshaped : (h : Handle) (s : St) → (Shaped h s → ⊥) → false ≡ shaped h s
 misshaped h s n = sym (is-false (shaped h s) (λ t. n (shaped-says h s t)))
 
--- src/make.rt:20:9
 returns : tie.Need-returns
 returns c =
     let a = c .before .args in
     misshaped (a .handle) (st (a .words .now) (a .ledger .now)) (λ p. omega (arith, p .some))
 
--- src/make.rt:23:9
 returns-2 : tie.Need-returns-2
 unfolding maxTables
 returns-2 c =
     let a = c .before .before .args in
     misshaped (a .handle) (st (a .words .now) (a .ledger .now)) (λ p. omega (arith, p .limit))
 
--- src/make.rt:25:23
 mul-if3 : tie.Need-mul-if3
 mul-if3 c = omega arith
 
--- src/make.rt:26:9
 returns-3 : tie.Need-returns-3
 returns-3 c =
     let a = c .before .before .before .args in
     misshaped (a .handle) (st (a .words .now) (a .ledger .now)) (λ p. c .if3 .taken (p .sized))
 
--- src/make.rt:29:9
 returns-4 : tie.Need-returns-4
 returns-4 c =
     let a = c .before .before .before .before .before .args in
     misshaped (a .handle) (st (a .words .now) (a .ledger .now)) (λ p. c .if4 .taken (p .paged))
 
--- src/make.rt:32:9
 returns-5 : tie.Need-returns-5
 returns-5 c =
     let a = c .before .before .before .before .before .before .before .args in
     misshaped (a .handle) (st (a .words .now) (a .ledger .now)) (λ p. omega (arith, p .ended))
 
--- src/make.rt:34:45
 mul-if6 : tie.Need-mul-if6
 mul-if6 c = omega arith
 
--- src/make.rt:35:9
 returns-6 : tie.Need-returns-6
 returns-6 c =
     let a = c .before .before .before .before .before .before .before .before .before .args in
     misshaped (a .handle) (st (a .words .now) (a .ledger .now)) (λ p. omega (arith, p .ended))
 
--- src/make.rt:15:1
 returns-7 : tie.Need-returns-7
 unfolding maxTables
 returns-7 c =

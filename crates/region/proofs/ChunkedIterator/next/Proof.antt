@@ -7,15 +7,12 @@ use Rattle.region.proofs.ChunkedIterator.next.Reads as reads
 use Rattle.region.proofs.ChunkedIterator.next.Lts as lts
 use Rattle.region.proofs.chunk_end.Reads as chunk-end-reads
 
--- src/lib.rt:97:13
 returns : tie.Need-returns
 returns c = next-done (c .before .args .self) (c .if1 .taken)
 
--- src/lib.rt:99:13
 chunk-end-requires : tie.Need-chunk-end-requires
 chunk-end-requires c κs = search needs
 
--- src/lib.rt:90:5
 returns-2 : tie.Need-returns-2
 returns-2 c = next-cut (c .before .before .args .self) _ (omega arith) (c .chunk-end .ensures)
 

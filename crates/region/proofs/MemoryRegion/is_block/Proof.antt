@@ -11,15 +11,12 @@ use Rattle.region.proofs.MemoryRegion.is_block.Reads as reads
 use Rattle.region.proofs.MemoryRegion.is_block.Lts as lts
 use Rattle.address.proofs.granularity_at_level.Reads as granularity-at-level-reads
 
--- src/lib.rt:66:40
 granularity-at-level-requires : tie.Need-granularity-at-level-requires
 granularity-at-level-requires c κs = search needs
 
--- src/lib.rt:66:40
 sub-result : tie.Need-sub-result
 sub-result c = omega (arith, c .granularity-at-level .ensures, size-pos (c .before .before .args .level))
 
--- src/lib.rt:63:5
 returns : tie.Need-returns
 returns c =
     let a = c .before .before .args in

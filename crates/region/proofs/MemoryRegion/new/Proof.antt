@@ -9,15 +9,12 @@ use Rattle.region.proofs.MemoryRegion.new.Lts as lts
 use Rattle.address.proofs.align_down.Reads as align-down-reads
 use Rattle.address.proofs.align_up.Reads as align-up-reads
 
--- src/lib.rt:41:35
 align-down-requires : tie.Need-align-down-requires
 align-down-requires c κs = search needs
 
--- src/lib.rt:42:33
 align-up-requires : tie.Need-align-up-requires
 align-up-requires c κs = search needs
 
--- src/lib.rt:37:5
 returns : tie.Need-returns
 unfolding rounded
 returns c = ap₂ region (c .before .align-down .ensures) (c .align-up .ensures)

@@ -7,39 +7,30 @@ use Rattle.replay.proofs.call.with_page.Reads as reads
 use Rattle.replay.proofs.call.with_page.Lts as lts
 use Rattle.replay.proofs.call.image.Reads as image-reads
 
--- src/call.rt:96:18
 element-copy-out-length : tie.Need-element-copy-out-length
 element-copy-out-length c = omega arith
 
--- src/call.rt:98:9
 returns : tie.Need-returns
 returns c = tt
 
--- src/call.rt:104:9
 element-copy-out-image : tie.Need-element-copy-out-image
 element-copy-out-image c = omega arith
 
--- src/call.rt:105:9
 slice-relend-prefix-image : tie.Need-slice-relend-prefix-image
 slice-relend-prefix-image c = omega arith
 
--- src/call.rt:105:9
 slice-aggregate-image : tie.Need-slice-aggregate-image
 slice-aggregate-image c = simp length-take (omega arith)
 
--- src/call.rt:100:5
 image-requires : tie.Need-image-requires
 image-requires c κs = tt
 
--- src/call.rt:87:1
 same-length : tie.Need-same-length
 same-length c = omega arith
 
--- src/call.rt:87:1
 same-length-2 : tie.Need-same-length-2
 same-length-2 c = omega arith
 
--- src/call.rt:87:1
 returns-2 : tie.Need-returns-2
 returns-2 c = tt
 

@@ -14,31 +14,24 @@ Inv-loop text length asked numbers₀ count₀ place₀ numbers count place = Un
 abbrev μ-loop : tie.MeasureT-loop
 μ-loop text length asked numbers₀ count₀ place₀ numbers count place = length - place
 
--- src/numbers.rt:73:5
 loop-holds : tie.Need-loop-holds Inv-loop μ-loop
 loop-holds c = tt
 
--- src/numbers.rt:74:45
 byte-at-requires : tie.Need-byte-at-requires Inv-loop μ-loop
 byte-at-requires c κs = tt
 
--- src/numbers.rt:74:9
 step-requires : tie.Need-step-requires Inv-loop μ-loop
 step-requires c κs = tt
 
--- src/numbers.rt:75:9
 add-place : tie.Need-add-place Inv-loop μ-loop
 add-place c = omega arith
 
--- src/numbers.rt:73:5
 loop-less : tie.Need-loop-less Inv-loop μ-loop
 loop-less c = omega arith
 
--- src/numbers.rt:73:5
 loop-again : tie.Need-loop-again Inv-loop μ-loop
 loop-again c = tt
 
--- src/numbers.rt:70:1
 returns : tie.Need-returns Inv-loop μ-loop
 returns c = tt
 

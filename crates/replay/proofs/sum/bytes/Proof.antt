@@ -15,35 +15,27 @@ Inv-loop start bytes sum₀ place₀ sum place = place ≤ length bytes
 abbrev μ-loop : tie.MeasureT-loop
 μ-loop start bytes sum₀ place₀ sum place = length bytes - place
 
--- src/sum.rt:40:5
 loop-holds : tie.Need-loop-holds Inv-loop μ-loop
 loop-holds c = omega arith
 
--- src/sum.rt:41:31
 shared-slice-read-widest : tie.Need-shared-slice-read-widest Inv-loop μ-loop
 shared-slice-read-widest c = omega arith
 
--- src/sum.rt:41:24
 widest-requires : tie.Need-widest-requires Inv-loop μ-loop
 widest-requires c κs = tt
 
--- src/sum.rt:41:9
 mix-requires : tie.Need-mix-requires Inv-loop μ-loop
 mix-requires c κs = tt
 
--- src/sum.rt:42:9
 add-place : tie.Need-add-place Inv-loop μ-loop
 add-place c = omega arith
 
--- src/sum.rt:40:5
 loop-less : tie.Need-loop-less Inv-loop μ-loop
 loop-less c = omega arith
 
--- src/sum.rt:40:5
 loop-again : tie.Need-loop-again Inv-loop μ-loop
 loop-again c = omega arith
 
--- src/sum.rt:37:1
 returns : tie.Need-returns Inv-loop μ-loop
 returns c = tt
 

@@ -15,39 +15,30 @@ Inv-loop start ledger sum₀ place₀ sum place = place ≤ length ledger
 abbrev μ-loop : tie.MeasureT-loop
 μ-loop start ledger sum₀ place₀ sum place = length ledger - place
 
--- src/sum.rt:26:5
 loop-holds : tie.Need-loop-holds Inv-loop μ-loop
 loop-holds c = omega arith
 
--- src/sum.rt:27:29
 mul-wide : tie.Need-mul-wide Inv-loop μ-loop
 mul-wide c = omega arith
 
--- src/sum.rt:27:29
 shared-slice-read-wide : tie.Need-shared-slice-read-wide Inv-loop μ-loop
 shared-slice-read-wide c = omega arith
 
--- src/sum.rt:27:24
 wide-requires : tie.Need-wide-requires Inv-loop μ-loop
 wide-requires c κs = tt
 
--- src/sum.rt:27:9
 mix-requires : tie.Need-mix-requires Inv-loop μ-loop
 mix-requires c κs = tt
 
--- src/sum.rt:28:9
 add-place : tie.Need-add-place Inv-loop μ-loop
 add-place c = omega arith
 
--- src/sum.rt:26:5
 loop-less : tie.Need-loop-less Inv-loop μ-loop
 loop-less c = omega arith
 
--- src/sum.rt:26:5
 loop-again : tie.Need-loop-again Inv-loop μ-loop
 loop-again c = omega arith
 
--- src/sum.rt:23:1
 returns : tie.Need-returns Inv-loop μ-loop
 returns c = tt
 

@@ -14,35 +14,27 @@ Inv-loop start words sum₀ place₀ sum place = place ≤ length words
 abbrev μ-loop : tie.MeasureT-loop
 μ-loop start words sum₀ place₀ sum place = length words - place
 
--- src/sum.rt:16:5
 loop-holds : tie.Need-loop-holds Inv-loop μ-loop
 loop-holds c = omega arith
 
--- src/sum.rt:17:24
 mul-mix : tie.Need-mul-mix Inv-loop μ-loop
 mul-mix c = omega arith
 
--- src/sum.rt:17:24
 shared-slice-read-mix : tie.Need-shared-slice-read-mix Inv-loop μ-loop
 shared-slice-read-mix c = omega arith
 
--- src/sum.rt:17:9
 mix-requires : tie.Need-mix-requires Inv-loop μ-loop
 mix-requires c κs = tt
 
--- src/sum.rt:18:9
 add-place : tie.Need-add-place Inv-loop μ-loop
 add-place c = omega arith
 
--- src/sum.rt:16:5
 loop-less : tie.Need-loop-less Inv-loop μ-loop
 loop-less c = omega arith
 
--- src/sum.rt:16:5
 loop-again : tie.Need-loop-again Inv-loop μ-loop
 loop-again c = omega arith
 
--- src/sum.rt:13:1
 returns : tie.Need-returns Inv-loop μ-loop
 returns c = tt
 

@@ -13,27 +13,21 @@ Inv-loop flags rest₀ bit₀ rest bit = Unit {0}
 abbrev μ-loop : tie.MeasureT-loop
 μ-loop flags rest₀ bit₀ rest bit = 64 - bit
 
--- src/entry.rt:83:5
 loop-holds : tie.Need-loop-holds Inv-loop μ-loop
 loop-holds c = tt
 
--- src/entry.rt:84:9
 say-bit-requires : tie.Need-say-bit-requires Inv-loop μ-loop
 say-bit-requires c κs = tt
 
--- src/entry.rt:86:9
 add-bit : tie.Need-add-bit Inv-loop μ-loop
 add-bit c = omega arith
 
--- src/entry.rt:83:5
 loop-less : tie.Need-loop-less Inv-loop μ-loop
 loop-less c = omega arith
 
--- src/entry.rt:83:5
 loop-again : tie.Need-loop-again Inv-loop μ-loop
 loop-again c = tt
 
--- src/entry.rt:80:1
 returns : tie.Need-returns Inv-loop μ-loop
 returns c = tt
 

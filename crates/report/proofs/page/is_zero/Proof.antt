@@ -14,35 +14,27 @@ Inv-loop page at end place₀ place = Unit {0}
 abbrev μ-loop : tie.MeasureT-loop
 μ-loop page at end place₀ place = end - place
 
--- src/page.rt:12:9
 end-of-requires : tie.Need-end-of-requires Inv-loop μ-loop
 end-of-requires c κs = tt
 
--- src/page.rt:14:5
 loop-holds : tie.Need-loop-holds Inv-loop μ-loop
 loop-holds c = tt
 
--- src/page.rt:15:12
 page-byte-requires : tie.Need-page-byte-requires Inv-loop μ-loop
 page-byte-requires c κs = tt
 
--- src/page.rt:16:13
 returns : tie.Need-returns Inv-loop μ-loop
 returns c = tt
 
--- src/page.rt:18:9
 add-place : tie.Need-add-place Inv-loop μ-loop
 add-place c = omega arith
 
--- src/page.rt:14:5
 loop-less : tie.Need-loop-less Inv-loop μ-loop
 loop-less c = omega arith
 
--- src/page.rt:14:5
 loop-again : tie.Need-loop-again Inv-loop μ-loop
 loop-again c = tt
 
--- src/page.rt:11:1
 returns-2 : tie.Need-returns-2 Inv-loop μ-loop
 returns-2 c = tt
 

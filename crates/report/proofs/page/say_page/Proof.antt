@@ -13,27 +13,21 @@ Inv-loop page at₀ at = Unit {0}
 abbrev μ-loop : tie.MeasureT-loop
 μ-loop page at₀ at = 4096 - at
 
--- src/page.rt:56:5
 loop-holds : tie.Need-loop-holds Inv-loop μ-loop
 loop-holds c = tt
 
--- src/page.rt:57:9
 say-row-if-requires : tie.Need-say-row-if-requires Inv-loop μ-loop
 say-row-if-requires c κs = tt
 
--- src/page.rt:58:9
 add-at : tie.Need-add-at Inv-loop μ-loop
 add-at c = omega arith
 
--- src/page.rt:56:5
 loop-less : tie.Need-loop-less Inv-loop μ-loop
 loop-less c = omega arith
 
--- src/page.rt:56:5
 loop-again : tie.Need-loop-again Inv-loop μ-loop
 loop-again c = tt
 
--- src/page.rt:54:1
 returns : tie.Need-returns Inv-loop μ-loop
 returns c = tt
 

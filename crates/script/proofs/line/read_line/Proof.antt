@@ -14,63 +14,48 @@ Inv-loop text₀ length₀ passed₀ text length passed = length ≤ passed
 abbrev μ-loop : tie.MeasureT-loop
 μ-loop text₀ length₀ passed₀ text length passed = 4294967296 - passed
 
--- src/line.rt:37:5
 loop-holds : tie.Need-loop-holds Inv-loop μ-loop
 loop-holds c = omega arith
 
--- src/line.rt:38:9
 add-passed : tie.Need-add-passed Inv-loop μ-loop
 add-passed c = omega arith
 
--- src/line.rt:39:15
 next-byte-requires : tie.Need-next-byte-requires Inv-loop μ-loop
 next-byte-requires c κs = tt
 
--- src/line.rt:41:20
 enum-told : tie.Need-enum-told Inv-loop μ-loop
 enum-told c = omega arith
 
--- src/line.rt:42:21
 returns : tie.Need-returns Inv-loop μ-loop
 returns c = tt
 
--- src/line.rt:44:17
 returns-2 : tie.Need-returns-2 Inv-loop μ-loop
 returns-2 c = tt
 
--- src/line.rt:46:24
 enum-known-byte : tie.Need-enum-known-byte Inv-loop μ-loop
 enum-known-byte c = omega arith
 
--- src/line.rt:48:21
 returns-3 : tie.Need-returns-3 Inv-loop μ-loop
 returns-3 c = tt
 
--- src/line.rt:37:5
 loop-less : tie.Need-loop-less Inv-loop μ-loop
 loop-less c = omega arith
 
--- src/line.rt:37:5
 loop-again : tie.Need-loop-again Inv-loop μ-loop
 loop-again c = omega arith
 
--- src/line.rt:53:17
 put-requires : tie.Need-put-requires Inv-loop μ-loop
 put-requires c κs = tt
 
--- src/line.rt:54:17
 add-length : tie.Need-add-length Inv-loop μ-loop
 add-length c = omega arith
 
--- src/line.rt:37:5
 loop-less-2 : tie.Need-loop-less-2 Inv-loop μ-loop
 loop-less-2 c = omega arith
 
--- src/line.rt:37:5
 loop-again-2 : tie.Need-loop-again-2 Inv-loop μ-loop
 loop-again-2 c = omega arith
 
--- src/line.rt:34:1
 returns-4 : tie.Need-returns-4 Inv-loop μ-loop
 returns-4 c = tt
 

@@ -14,51 +14,39 @@ Inv-loop text start end hex value₀ place₀ value place = Unit {0}
 abbrev μ-loop : tie.MeasureT-loop
 μ-loop text start end hex value₀ place₀ value place = end - place
 
--- src/number.rt:66:5
 loop-holds : tie.Need-loop-holds Inv-loop μ-loop
 loop-holds c = tt
 
--- src/number.rt:67:29
 byte-at-requires : tie.Need-byte-at-requires Inv-loop μ-loop
 byte-at-requires c κs = tt
 
--- src/number.rt:67:15
 append-requires : tie.Need-append-requires Inv-loop μ-loop
 append-requires c κs = tt
 
--- src/number.rt:68:27
 enum-known-more : tie.Need-enum-known-more Inv-loop μ-loop
 enum-known-more c = omega arith
 
--- src/number.rt:69:33
 enum-told : tie.Need-enum-told Inv-loop μ-loop
 enum-told c = omega arith
 
--- src/number.rt:69:33
 returns : tie.Need-returns Inv-loop μ-loop
 returns c = tt
 
--- src/number.rt:70:30
 enum-told-2 : tie.Need-enum-told-2 Inv-loop μ-loop
 enum-told-2 c = omega arith
 
--- src/number.rt:70:30
 returns-2 : tie.Need-returns-2 Inv-loop μ-loop
 returns-2 c = tt
 
--- src/number.rt:72:9
 add-place : tie.Need-add-place Inv-loop μ-loop
 add-place c = omega arith
 
--- src/number.rt:66:5
 loop-less : tie.Need-loop-less Inv-loop μ-loop
 loop-less c = omega arith
 
--- src/number.rt:66:5
 loop-again : tie.Need-loop-again Inv-loop μ-loop
 loop-again c = tt
 
--- src/number.rt:63:1
 returns-3 : tie.Need-returns-3 Inv-loop μ-loop
 returns-3 c = tt
 

@@ -11,19 +11,15 @@ use Rattle.walk.proofs.look_up.frame.Reads as reads
 use Rattle.walk.proofs.look_up.frame.Lts as lts
 use Rattle.address.proofs.granularity_at_level.Reads as granularity-at-level-reads
 
--- src/look_up.rt:45:17
 granularity-at-level-requires : tie.Need-granularity-at-level-requires
 granularity-at-level-requires c κs = omega arith
 
--- src/look_up.rt:45:17
 sub-below : tie.Need-sub-below
 sub-below c = omega (arith, c .granularity-at-level .ensures, size-low (c .before .args .level))
 
--- src/look_up.rt:47:21
 sub-t7 : tie.Need-sub-t7
 sub-t7 c = and-le-l _ _
 
--- src/look_up.rt:47:42
 sub-t10 : tie.Need-sub-t10
 sub-t10 c =
     let a = c .before .before .before .args in
@@ -32,7 +28,6 @@ sub-t10 c =
     let o = size-offset (a .level) (a .va .0) in
     omega arith
 
--- src/look_up.rt:47:21
 add-t11 : tie.Need-add-t11
 add-t11 c =
     let a = c .before .before .before .args in
@@ -43,7 +38,6 @@ add-t11 c =
     let b = address-below (a .word) in
     omega arith
 
--- src/look_up.rt:42:1
 returns : tie.Need-returns
 returns c =
     let a = c .before .before .before .args in

@@ -7,33 +7,26 @@ use Rattle.walk.proofs.look_up.is_spanned.Reads as reads
 use Rattle.walk.proofs.look_up.is_spanned.Lts as lts
 use Rattle.address.proofs.granularity_at_level.Reads as granularity-at-level-reads
 
--- src/look_up.rt:34:22
 granularity-at-level-requires : tie.Need-granularity-at-level-requires
 granularity-at-level-requires c κs = omega arith
 
--- src/look_up.rt:34:16
 mul-span : tie.Need-mul-span
 mul-span c = omega (arith, c .granularity-at-level .ensures, size-high (c .before .args .level))
 
--- src/look_up.rt:36:27
 enum-told : tie.Need-enum-told
 enum-told c = omega arith
 
--- src/look_up.rt:37:27
 enum-told-2 : tie.Need-enum-told-2
 enum-told-2 c = omega arith
 
--- src/look_up.rt:37:27
 sub-result : tie.Need-sub-result
 sub-result c = omega (arith, c .before .before .granularity-at-level .ensures, size-high (c .before .before .before .args .level))
 
--- src/look_up.rt:31:1
 returns : tie.Need-returns
 returns c =
     let a = c .before .before .before .before .args in
     span-lower (a .range) (a .level) (a .va .0) _ (c .before .enum-told .given .1) (c .before .before .before .granularity-at-level .ensures)
 
--- src/look_up.rt:31:1
 returns-2 : tie.Need-returns-2
 returns-2 c =
     let a = c .before .before .before .before .args in

@@ -10,43 +10,34 @@ use Rattle.entry.proofs.kind_of.Reads as kind-of-reads
 use Rattle.walk.proofs.look_up.frame.Reads as frame-reads
 use Rattle.walk.proofs.look_up.plain_flags.Reads as plain-flags-reads
 
--- src/look_up.rt:62:9
 plain-flags-requires : tie.Need-plain-flags-requires
 plain-flags-requires c κs = search needs
 
--- src/look_up.rt:63:9
 kind-of-requires : tie.Need-kind-of-requires
 kind-of-requires c κs = search needs
 
--- src/look_up.rt:65:23
 enum-told : tie.Need-enum-told
 enum-told c = search needs
 
--- src/look_up.rt:66:52
 enum-told-2 : tie.Need-enum-told-2
 enum-told-2 c = search needs
 
--- src/look_up.rt:66:52
 frame-requires : tie.Need-frame-requires
 frame-requires c κs = search needs
 
--- src/look_up.rt:67:41
 frame-requires-2 : tie.Need-frame-requires-2
 frame-requires-2 c κs = search needs
 
--- src/look_up.rt:59:1
 returns : tie.Need-returns
 returns c =
     let a = c .before .before .before .before .args in
     leaf-hole (a .level) (a .word) (a .va .0) (c .before .before .before .plain-flags .ensures) (sym (c .before .before .kind-of .ensures) ∙ c .enum-told .given .1)
 
--- src/look_up.rt:59:1
 returns-2 : tie.Need-returns-2
 returns-2 c =
     let a = c .before .before .before .before .before .args in
     leaf-block (a .level) (a .word) (a .va .0) (c .before .before .before .before .plain-flags .ensures) (c .frame .ensures) (sym (c .before .before .before .kind-of .ensures) ∙ c .before .enum-told2 .given .1)
 
--- src/look_up.rt:59:1
 returns-3 : tie.Need-returns-3
 returns-3 c =
     let a = c .before .before .before .before .args in

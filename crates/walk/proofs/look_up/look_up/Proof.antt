@@ -20,33 +20,27 @@ good c = sym (c .before .is-shaped .ensures) ∙ not-false _ (c .if1 .left)
 shape : (c : tie.Else1) → let a = c .before .before .before .before .args in Shaped (a .handle) (st (a .words .now) (a .ledger .now))
 shape c = let a = c .before .before .before .before .args in shaped-says (a .handle) (st (a .words .now) (a .ledger .now)) (rw (good c) tt)
 
--- src/look_up.rt:98:9
 is-shaped-requires : tie.Need-is-shaped-requires
 is-shaped-requires c κs = search needs
 
--- src/look_up.rt:99:9
 returns : tie.Need-returns
 returns c =
     let a = c .before .before .before .before .args in
     look-misshaped (a .handle) (st (a .words .now) (a .ledger .now)) (a .va .0) (sym (c .before .is-shaped .ensures) ∙ not-true _ (c .if1 .taken))
 
--- src/look_up.rt:102:9
 is-spanned-requires : tie.Need-is-spanned-requires
 is-spanned-requires c κs = search needs
 
--- src/look_up.rt:103:9
 returns-2 : tie.Need-returns-2
 returns-2 c =
     let a = c .before .before .before .before .before .before .args in
     look-beyond (a .handle) (st (a .words .now) (a .ledger .now)) (a .va .0) (good (c .before .before)) (sym (c .before .is-spanned .ensures) ∙ not-true _ (c .if2 .taken))
 
--- src/look_up.rt:105:5
 walk-from-requires : tie.Need-walk-from-requires
 walk-from-requires c κs =
     let p = shape (c .before .before) in
     (p .some, p .sized, p .level)
 
--- src/look_up.rt:95:1
 returns-3 : tie.Need-returns-3
 returns-3 c =
     let a = c .before .before .before .before .before .before .before .args in

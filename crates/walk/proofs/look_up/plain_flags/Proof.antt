@@ -8,19 +8,15 @@ use Rattle.walk.proofs.look_up.plain_flags.Reads as reads
 use Rattle.walk.proofs.look_up.plain_flags.Lts as lts
 use Rattle.entry.proofs.flags.Reads as flags-reads
 
--- src/look_up.rt:54:9
 flags-requires : tie.Need-flags-requires
 flags-requires c κs = search needs
 
--- src/look_up.rt:55:5
 mul-result : tie.Need-mul-result
 mul-result c = search needs
 
--- src/look_up.rt:55:5
 add-result : tie.Need-add-result
 add-result c = search needs
 
--- src/look_up.rt:51:1
 returns : tie.Need-returns
 returns c = ap (λ (f : ℕ). f / 4 * 4 + f % 2) (c .flags .ensures) ∙ flags-is (c .before .args .word)
 

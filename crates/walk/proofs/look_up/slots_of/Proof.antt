@@ -7,23 +7,18 @@ use Rattle.walk.proofs.look_up.slots_of.Tie as tie
 use Rattle.walk.proofs.look_up.slots_of.Reads as reads
 use Rattle.walk.proofs.look_up.slots_of.Lts as lts
 
--- src/look_up.rt:23:14
 cast-s0 : tie.Need-cast-s0
 cast-s0 c = search needs
 
--- src/look_up.rt:24:14
 cast-s1 : tie.Need-cast-s1
 cast-s1 c = search needs
 
--- src/look_up.rt:25:14
 cast-s2 : tie.Need-cast-s2
 cast-s2 c = search needs
 
--- src/look_up.rt:26:14
 cast-s3 : tie.Need-cast-s3
 cast-s3 c = search needs
 
--- src/look_up.rt:20:1
 returns : tie.Need-returns
 unfolding slotsOf index bits lowBit
 returns c = refl

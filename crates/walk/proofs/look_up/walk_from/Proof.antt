@@ -40,56 +40,43 @@ word : (c : tie.At-loop Inv-loop μ-loop)
     ≡ fetch (c .before .before .before .args .words .now) (c .before .before .before .args .va .0) (c .loop .level) (c .loop .k)
 word c = fetch-is (c .before .before .before .args .words .now) (c .before .before .before .args .va .0) (c .loop .level) (c .loop .k) (c .loop .inv .2) (c .loop .inv .0)
 
--- src/look_up.rt:76:17
 slots-of-requires : tie.Need-slots-of-requires Inv-loop μ-loop
 slots-of-requires c κs = omega arith
 
--- src/look_up.rt:79:5
 loop-holds : tie.Need-loop-holds Inv-loop μ-loop
 unfolding walk reach
 loop-holds c = (omega arith, omega arith, c .slots-of .ensures, refl)
 
--- src/look_up.rt:80:20
 mul-slot : tie.Need-mul-slot Inv-loop μ-loop
 mul-slot c = omega arith
 
--- src/look_up.rt:80:20
 array-read-slot : tie.Need-array-read-slot Inv-loop μ-loop
 array-read-slot c = omega arith
 
--- src/look_up.rt:80:20
 cast-slot : tie.Need-cast-slot Inv-loop μ-loop
 cast-slot c = search needs
 
--- src/look_up.rt:81:26
 mul-word : tie.Need-mul-word Inv-loop μ-loop
 mul-word c = omega arith
 
--- src/look_up.rt:81:26
 add-word : tie.Need-add-word Inv-loop μ-loop
 add-word c = let h = slot c in omega arith
 
--- src/look_up.rt:81:20
 mul-word-2 : tie.Need-mul-word-2 Inv-loop μ-loop
 mul-word-2 c = let h = slot c in omega arith
 
--- src/look_up.rt:81:20
 shared-slice-read-word : tie.Need-shared-slice-read-word Inv-loop μ-loop
 shared-slice-read-word c = let h = slot (c .before) in omega arith
 
--- src/look_up.rt:82:13
 subtable-requires : tie.Need-subtable-requires Inv-loop μ-loop
 subtable-requires c κs = omega arith
 
--- src/look_up.rt:83:24
 enum-known-kind : tie.Need-enum-known-kind Inv-loop μ-loop
 enum-known-kind c = c .match .keys1
 
--- src/look_up.rt:85:40
 enum-told : tie.Need-enum-told Inv-loop μ-loop
 enum-told c = omega arith
 
--- src/look_up.rt:85:17
 returns : tie.Need-returns Inv-loop μ-loop
 unfolding answer says
 returns c =
@@ -98,11 +85,9 @@ returns c =
     ap answer (sym (ap (says (a .va .0)) (reach-outside (a .handle .base .0) (a .tables) (a .words .now) (a .va .0) (at .loop .level) (at .loop .k) (at .loop .inv .0) (word at)
     (sym (c .before .before .before .subtable .ensures) ∙ c .enum-told .given .1))) ∙ at .loop .inv .3)
 
--- src/look_up.rt:87:13
 leaf-requires : tie.Need-leaf-requires Inv-loop μ-loop
 leaf-requires c κs = omega arith
 
--- src/look_up.rt:87:13
 returns-2 : tie.Need-returns-2 Inv-loop μ-loop
 returns-2 c =
     let at = c .before .before .before .before .before in
@@ -111,15 +96,12 @@ returns-2 c =
     ∙ ap answer (sym (ap (says (a .va .0)) (reach-leaf (a .handle .base .0) (a .tables) (a .words .now) (a .va .0) (at .loop .level) (at .loop .k) (at .loop .inv .0) (word at)
     (sym (c .before .before .before .subtable .ensures) ∙ is-leaf _ (c .before .before .match .keys2) (c .before .match2 .keys2)))) ∙ at .loop .inv .3)
 
--- src/look_up.rt:90:9
 add-level : tie.Need-add-level Inv-loop μ-loop
 add-level c = omega (arith, c .before .before .before .before .before .loop .inv .0)
 
--- src/look_up.rt:79:5
 loop-less : tie.Need-loop-less Inv-loop μ-loop
 loop-less c = omega (arith, c .before .before .before .before .before .loop .inv .0)
 
--- src/look_up.rt:79:5
 loop-again : tie.Need-loop-again Inv-loop μ-loop
 loop-again c =
     let at = c .before .before .before .before .before in

@@ -69,7 +69,7 @@ returns-5 c =
     let kind = c .before .before .before .before .before .before .subtable .ensures in
     let table = c .before .before .before .before .kind .given .1 in
     let same = map-below (a .handle) (a .level) (a .k) (a .map) s (start .pre .2) (c .before .before .before .before .before .before .before .before .before .before .before .if1 .left) (sym (c .before .before .before .before .before .before .before .before .before .before .chunk-end .ensures) ∙ c .before .before .before .before .before .before .before .before .before .if2 .left)
-        (c .before .before .before .before .before .before .before .before .entry-index .ensures) (c .before .before .rule-of .ensures) (c .enum-told .given .1) kind _ table in
+    (c .before .before .before .before .before .before .before .before .entry-index .ensures) (c .before .before .rule-of .ensures) (c .enum-told .given .1) kind _ table in
     some-leads (a .handle) (a .level) (a .k) (a .map) s same (sub-below (a .handle .base .0) _ (a .level) _ _ (sym kind ∙ table))
 
 pub next-table-spec : {M : Type 1} → statement M

@@ -1,4 +1,4 @@
--- Document 01, "Bench cases", G: compact after it returns to 1 table. By computing the definitions. Leans on `Bench`. Assumes nothing.
+-- Document 01, "Bench cases", G: compact after it returns to 1 table. By computing the definitions. Leans on rows. Assumes nothing.
 use mathlib.Core.Path.{_≡_, refl}
 use Rattle.laws.specs.Size.{sizeAt}
 use Rattle.laws.specs.Slot.{iter}
@@ -13,7 +13,7 @@ use Rattle.pool.specs.declared.Counted.the-variants.{Tables}
 use Rattle.table.specs.Table.{putTable, zeros, clear}
 use Rattle.compact.specs.Compact.{allZero, releaseEmpty, compactSub, compactEntry, compactTable}
 use Rattle.compact.specs.Call.{compacted, compactSound, compactCall}
-use Rattle.cases.specs.Bench.{handle, fresh, word, table, poolG}
+use Rattle.rows.specs.Bench.{handle, fresh, word, table, poolG}
 
 -- both empty tables are freed, the lower one first, and the pool is as it was made
 abbrev pub G : Type 0

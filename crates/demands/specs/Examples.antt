@@ -1,4 +1,4 @@
--- The theorems are not empty: calls of the starred table that meet what they ask. Leans on cases' `Bench`, `Edited`. Assumes nothing.
+-- The theorems are not empty: calls of the starred table that meet what they ask. Leans on rows. Assumes nothing.
 use mathlib.Core.Path.{refl}
 use mathlib.Core.Bool.{true}
 use mathlib.Core.List.{[], _∷_}
@@ -10,8 +10,8 @@ use Rattle.pool.specs.State.{St}
 use Rattle.mapped.specs.Terms.{Call, Maps, Apart, InTurn, none, next}
 use Rattle.mapped.specs.Mapped.{EitherOrder, maps-commute}
 use Rattle.modified.specs.Terms.{Modifies, accepted}
-use Rattle.cases.specs.Bench.{handle, fresh, word, poolA, poolAA, Holds, A, AA, starred-maps, two-blocks}
-use Rattle.cases.specs.Edited.{Sets, case-I}
+use Rattle.rows.specs.Bench.{handle, fresh, word, poolA, poolAA, Holds, A, AA, quick}
+use Rattle.rows.specs.Edited.{Sets, case-I}
 
 -- case A's call, and the like of it for the next GiB
 abbrev lower : Call
@@ -23,7 +23,7 @@ upper = record { start = 0x4000_0000; end = 0x8000_0000; frame = 0x8000_0000; fl
 -- an accepted map
 pub maps-A : Maps (handle 1) lower (fresh 1 8) 1 poolA
 unfolding Holds A
-maps-A = record { answers = starred-maps .0 }
+maps-A = record { answers = quick .0 }
 
 -- an accepted live modify
 pub modifies-I : Modifies (handle 1) (record { start = 0; end = 0x4000_0000; set = 0x80; clear = 0; live = true }) poolA (7 ∷ 7 ∷ []) 1 1
@@ -38,7 +38,7 @@ no-page va a b = omega (arith, a .below, b .from)
 
 pub both-in-turn : InTurn (handle 1) (lower ∷ upper ∷ []) (fresh 1 8) poolAA
 unfolding Holds AA
-both-in-turn = next maps-A (next (record { answers = two-blocks }) none)
+both-in-turn = next maps-A (next (record { answers = quick .8 }) none)
 
 pub either-order : EitherOrder (handle 1) (lower ∷ upper ∷ []) (upper ∷ lower ∷ []) (fresh 1 8)
 either-order = maps-commute (handle 1) lower upper (fresh 1 8) no-page refl refl

@@ -13,7 +13,7 @@ use Rattle.pool.specs.declared.Refusal.the-variants.{WantOfRoom}
 use Rattle.pool.specs.declared.Counted.{Counted}
 use Rattle.pool.specs.declared.Counted.the-variants.{Tables, Refused}
 use Rattle.mapped.specs.Terms.{Call, callOf}
-use Rattle.cases.specs.Bench.{handle, fresh, word, poolA, poolB, Holds, A, B, starred-maps}
+use Rattle.rows.specs.Bench.{handle, fresh, word, poolA, poolB, Holds, A, B, quick}
 
 -- case A's call, and case B's
 abbrev callA : Call
@@ -24,15 +24,15 @@ callB = record { start = 0x1000; end = 0x3000; frame = 0x9000; flags = 0x401; co
 
 case-A : callOf (handle 1) callA (fresh 1 8) ≡ out (Tables 1) poolA
 unfolding Holds A
-case-A = starred-maps .0
+case-A = quick .0
 
 case-B : callOf (handle 1) callB (fresh 1 8) ≡ out (Tables 3) (poolB 8)
 unfolding Holds B
-case-B = starred-maps .1
+case-B = quick .1
 
 case-B-2 : callOf (handle 1) callB (fresh 1 2) ≡ out (Refused (WantOfRoom 2 1)) (fresh 1 2)
 unfolding Holds B
-case-B-2 = starred-maps .3
+case-B-2 = quick .3
 
 -- the first word of the root tells the pool of A from a fresh one
 differs : poolA ≢ fresh 1 8

@@ -13,9 +13,6 @@ ghost use Rattle.pool.specs.Refuse.{out};
 ghost use Rattle.face.specs.Answer.{slip};
 ghost use Rattle.ptb.specs.Face.{makeFace, checkFace, lookUpFace, filled, listFace, mapFace, changed, modifyFace, compactFace, imageFace};
 
-// The number of the upper range, the highest there is.
-const UPPER: u64 = 1;
-
 // Zeroes all words and the ledger, then enters the root as table 0.
 #[no_mangle]
 pub extern "C" fn ptb_make(
@@ -29,9 +26,6 @@ pub extern "C" fn ptb_make(
     ensures { λ r. ⌜ out (slip r (now (answer .exit))) (st (now (words .exit)) (now (ledger .exit)))
         ≡ makeFace base level range (st (now (words .entry)) (now (ledger .entry))) (now (answer .entry)) ⌝ }
 {
-    if UPPER < range {
-        return 1;
-    }
     let handle = handle::handle_of(base, level, range);
     let outcome = make::make(words, ledger, handle);
     answer::answer_outcome(outcome, answer)
@@ -49,9 +43,6 @@ pub extern "C" fn ptb_check(
 ) -> u64
     ensures { λ r. ⌜ slip r (now (answer .exit)) ≡ checkFace base level range (st (now (words .entry)) (now (ledger .entry))) (now (answer .entry)) ⌝ }
 {
-    if UPPER < range {
-        return 1;
-    }
     let handle = handle::handle_of(base, level, range);
     let outcome = checker::check(words, ledger, handle);
     answer::answer_outcome(outcome, answer)
@@ -70,9 +61,6 @@ pub extern "C" fn ptb_look_up(
 ) -> u64
     ensures { λ r. ⌜ slip r (now (answer .exit)) ≡ lookUpFace base level range (st (now (words .entry)) (now (ledger .entry))) va (now (answer .entry)) ⌝ }
 {
-    if UPPER < range {
-        return 1;
-    }
     let handle = handle::handle_of(base, level, range);
     let looked = look_up::look_up(words, ledger, handle, VirtualAddress(va));
     answer::answer_looked(looked, answer)
@@ -94,9 +82,6 @@ pub extern "C" fn ptb_list(
     ensures { λ r. ⌜ filled (slip r (now (answer .exit))) (now (lines .exit))
         ≡ listFace base level range (st (now (words .entry)) (now (ledger .entry))) start end (now (lines .entry)) (now (answer .entry)) ⌝ }
 {
-    if UPPER < range {
-        return 1;
-    }
     let handle = handle::handle_of(base, level, range);
     let listed = list::list(words, ledger, handle, start, end, lines);
     answer::answer_listed(listed, answer)
@@ -120,9 +105,6 @@ pub extern "C" fn ptb_map(
     ensures { λ r. ⌜ out (slip r (now (answer .exit))) (st (now (words .exit)) (now (ledger .exit)))
         ≡ mapFace base level range start end frame flags constraints (st (now (words .entry)) (now (ledger .entry))) (now (answer .entry)) ⌝ }
 {
-    if UPPER < range {
-        return 1;
-    }
     let handle = handle::handle_of(base, level, range);
     let counted = call::map(
         words,
@@ -156,9 +138,6 @@ pub extern "C" fn ptb_modify(
     ensures { λ r. ⌜ changed (slip r (now (answer .exit))) (st (now (words .exit)) (now (ledger .exit))) (now (list .exit))
         ≡ modifyFace base level range start end set clear live (st (now (words .entry)) (now (ledger .entry))) (now (list .entry)) (now (answer .entry)) ⌝ }
 {
-    if UPPER < range {
-        return 1;
-    }
     let handle = handle::handle_of(base, level, range);
     let modified = modify::call::modify(
         words,
@@ -187,9 +166,6 @@ pub extern "C" fn ptb_compact(
     ensures { λ r. ⌜ out (slip r (now (answer .exit))) (st (now (words .exit)) (now (ledger .exit)))
         ≡ compactFace base level range (st (now (words .entry)) (now (ledger .entry))) (now (answer .entry)) ⌝ }
 {
-    if UPPER < range {
-        return 1;
-    }
     let handle = handle::handle_of(base, level, range);
     let counted = compact::compact(words, ledger, handle);
     answer::answer_counted(counted, answer)
@@ -210,9 +186,6 @@ pub extern "C" fn ptb_image(
     ensures { λ r. ⌜ filled (slip r (now (answer .exit))) (now (page .exit))
         ≡ imageFace base level range (st (now (words .entry)) (now (ledger .entry))) table (now (page .entry)) (now (answer .entry)) ⌝ }
 {
-    if UPPER < range {
-        return 1;
-    }
     let handle = handle::handle_of(base, level, range);
     let outcome = image::page_image(words, ledger, handle, table as usize, page);
     answer::answer_outcome(outcome, answer)

@@ -1,6 +1,6 @@
--- `ptb_check`: a range above 1, or the call told outside. Assumes nothing.
+-- `ptb_check`: the call told outside. Assumes nothing.
 use Rattle.pool.specs.State.{st}
-use Rattle.ptb.specs.Face.{check-no-range, check-told}
+use Rattle.ptb.specs.Face.{check-told}
 use Rattle.ptb.proofs.ptb_check.Statement.{statement}
 use Rattle.ptb.proofs.ptb_check.Tie as tie
 use Rattle.ptb.proofs.ptb_check.Reads as reads
@@ -8,9 +8,6 @@ use Rattle.ptb.proofs.ptb_check.Lts as lts
 use Rattle.checker.proofs.check.Reads as check-reads
 use Rattle.face.proofs.answer.answer_outcome.Reads as answer-outcome-reads
 use Rattle.face.proofs.handle.handle_of.Reads as handle-of-reads
-
-returns : tie.Need-returns
-returns c = let a = c .before .before .before .args in check-no-range (a .base) (a .level) (a .range) (st (a .words .now) (a .ledger .now)) (a .answer .now) (c .if1 .taken)
 
 handle-of-requires : tie.Need-handle-of-requires
 handle-of-requires c κs = tt
@@ -21,10 +18,10 @@ check-requires c κs = tt
 answer-outcome-requires : tie.Need-answer-outcome-requires
 answer-outcome-requires c κs = tt
 
-returns-2 : tie.Need-returns-2
-returns-2 c = let a = c .before .before .before .before .before .before .before .args in check-told (a .base) (a .level) (a .range) (st (a .words .now) (a .ledger .now)) (a .answer .now) (c .before .before .before .before .if1 .left) (c .before .before .before .handle-of .ensures) (c .before .before .check .ensures) (c .answer-outcome .ensures)
+returns : tie.Need-returns
+returns c = let a = c .before .before .before .before .before .before .args in check-told (a .base) (a .level) (a .range) (st (a .words .now) (a .ledger .now)) (a .answer .now) (c .before .before .before .handle-of .ensures) (c .before .before .check .ensures) (c .answer-outcome .ensures)
 
 pub ptb-check-spec : {M : Type 1} → statement M
 ptb-check-spec =
     tie.close
-    (tie.spec returns handle-of-requires check-requires answer-outcome-requires returns-2)
+    (tie.spec handle-of-requires check-requires answer-outcome-requires returns)

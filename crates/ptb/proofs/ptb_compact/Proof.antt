@@ -1,7 +1,7 @@
--- `ptb_compact`: a range above 1, or the call told outside. Assumes nothing.
+-- `ptb_compact`: the call told outside. Assumes nothing.
 use native.Mathlib.Omega.{arith}
 use Rattle.pool.specs.State.{st}
-use Rattle.ptb.specs.Face.{compact-no-range, compact-told}
+use Rattle.ptb.specs.Face.{compact-told}
 use Rattle.ptb.proofs.ptb_compact.Statement.{statement}
 use Rattle.ptb.proofs.ptb_compact.Tie as tie
 use Rattle.ptb.proofs.ptb_compact.Reads as reads
@@ -9,9 +9,6 @@ use Rattle.ptb.proofs.ptb_compact.Lts as lts
 use Rattle.compact.proofs.compact.Reads as compact-reads
 use Rattle.face.proofs.answer.answer_counted.Reads as answer-counted-reads
 use Rattle.face.proofs.handle.handle_of.Reads as handle-of-reads
-
-returns : tie.Need-returns
-returns c = let a = c .before .before .before .args in compact-no-range (a .base) (a .level) (a .range) (st (a .words .now) (a .ledger .now)) (a .answer .now) (c .if1 .taken)
 
 handle-of-requires : tie.Need-handle-of-requires
 handle-of-requires c κs = tt
@@ -28,11 +25,11 @@ same-length c = omega arith
 same-length-2 : tie.Need-same-length-2
 same-length-2 c = omega arith
 
-returns-2 : tie.Need-returns-2
-returns-2 c =
-    let a = c .before .before .before .before .before .before .before .before .before .before .before .before .before .args in
+returns : tie.Need-returns
+returns c =
+    let a = c .before .before .before .before .before .before .before .before .before .before .before .before .args in
     let called = c .before .before .before .before .before .before in
-    compact-told (a .base) (a .level) (a .range) (st (a .words .now) (a .ledger .now)) (a .answer .now) (called .before .before .before .before .if1 .left)
+    compact-told (a .base) (a .level) (a .range) (st (a .words .now) (a .ledger .now)) (a .answer .now)
     (called .before .before .before .handle-of .ensures)
     (called .compact .ensures)
     (c .answer-counted .ensures)
@@ -41,10 +38,9 @@ pub ptb-compact-spec : {M : Type 1} → statement M
 ptb-compact-spec =
     tie.close
     (tie.spec
-    returns
     handle-of-requires
     compact-requires
     answer-counted-requires
     same-length
     same-length-2
-    returns-2)
+    returns)

@@ -1,7 +1,7 @@
--- `ptb_list`: a range above 1, or the call told outside. Assumes nothing.
+-- `ptb_list`: the call told outside. Assumes nothing.
 use native.Mathlib.Omega.{arith}
 use Rattle.pool.specs.State.{st}
-use Rattle.ptb.specs.Face.{list-no-range, list-told}
+use Rattle.ptb.specs.Face.{list-told}
 use Rattle.ptb.proofs.ptb_list.Statement.{statement}
 use Rattle.ptb.proofs.ptb_list.Tie as tie
 use Rattle.ptb.proofs.ptb_list.Reads as reads
@@ -9,9 +9,6 @@ use Rattle.ptb.proofs.ptb_list.Lts as lts
 use Rattle.list.proofs.list.Reads as list-reads
 use Rattle.face.proofs.answer.answer_listed.Reads as answer-listed-reads
 use Rattle.face.proofs.handle.handle_of.Reads as handle-of-reads
-
-returns : tie.Need-returns
-returns c = let a = c .before .before .before .before .args in list-no-range (a .base) (a .level) (a .range) (st (a .words .now) (a .ledger .now)) (a .start) (a .end) (a .lines .now) (a .answer .now) (c .if1 .taken)
 
 handle-of-requires : tie.Need-handle-of-requires
 handle-of-requires c κs = tt
@@ -25,16 +22,15 @@ answer-listed-requires c κs = tt
 same-length : tie.Need-same-length
 same-length c = omega arith
 
-returns-2 : tie.Need-returns-2
-returns-2 c = let a = c .before .before .before .before .before .before .before .before .before .before .before .args in list-told (a .base) (a .level) (a .range) (st (a .words .now) (a .ledger .now)) (a .start) (a .end) (a .lines .now) (a .answer .now) (c .before .before .before .before .before .before .before .if1 .left) (c .before .before .before .before .before .before .handle-of .ensures) (c .before .before .before .before .list .ensures) (c .answer-listed .ensures)
+returns : tie.Need-returns
+returns c = let a = c .before .before .before .before .before .before .before .before .before .before .args in list-told (a .base) (a .level) (a .range) (st (a .words .now) (a .ledger .now)) (a .start) (a .end) (a .lines .now) (a .answer .now) (c .before .before .before .before .before .before .handle-of .ensures) (c .before .before .before .before .list .ensures) (c .answer-listed .ensures)
 
 pub ptb-list-spec : {M : Type 1} → statement M
 ptb-list-spec =
     tie.close
     (tie.spec
-    returns
     handle-of-requires
     list-requires
     answer-listed-requires
     same-length
-    returns-2)
+    returns)

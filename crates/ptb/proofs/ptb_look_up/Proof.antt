@@ -1,6 +1,6 @@
--- `ptb_look_up`: a range above 1, or the call told outside. Assumes nothing.
+-- `ptb_look_up`: the call told outside. Assumes nothing.
 use Rattle.pool.specs.State.{st}
-use Rattle.ptb.specs.Face.{look-up-no-range, look-up-told}
+use Rattle.ptb.specs.Face.{look-up-told}
 use Rattle.ptb.proofs.ptb_look_up.Statement.{statement}
 use Rattle.ptb.proofs.ptb_look_up.Tie as tie
 use Rattle.ptb.proofs.ptb_look_up.Reads as reads
@@ -8,9 +8,6 @@ use Rattle.ptb.proofs.ptb_look_up.Lts as lts
 use Rattle.face.proofs.answer.answer_looked.Reads as answer-looked-reads
 use Rattle.face.proofs.handle.handle_of.Reads as handle-of-reads
 use Rattle.walk.proofs.look_up.look_up.Reads as look-up-reads
-
-returns : tie.Need-returns
-returns c = let a = c .before .before .before .args in look-up-no-range (a .base) (a .level) (a .range) (st (a .words .now) (a .ledger .now)) (a .va) (a .answer .now) (c .if1 .taken)
 
 handle-of-requires : tie.Need-handle-of-requires
 handle-of-requires c κs = tt
@@ -21,10 +18,10 @@ look-up-requires c κs = tt
 answer-looked-requires : tie.Need-answer-looked-requires
 answer-looked-requires c κs = tt
 
-returns-2 : tie.Need-returns-2
-returns-2 c = let a = c .before .before .before .before .before .before .before .args in look-up-told (a .base) (a .level) (a .range) (st (a .words .now) (a .ledger .now)) (a .va) (a .answer .now) (c .before .before .before .before .if1 .left) (c .before .before .before .handle-of .ensures) (c .before .before .look-up .ensures) (c .answer-looked .ensures)
+returns : tie.Need-returns
+returns c = let a = c .before .before .before .before .before .before .args in look-up-told (a .base) (a .level) (a .range) (st (a .words .now) (a .ledger .now)) (a .va) (a .answer .now) (c .before .before .before .handle-of .ensures) (c .before .before .look-up .ensures) (c .answer-looked .ensures)
 
 pub ptb-look-up-spec : {M : Type 1} → statement M
 ptb-look-up-spec =
     tie.close
-    (tie.spec returns handle-of-requires look-up-requires answer-looked-requires returns-2)
+    (tie.spec handle-of-requires look-up-requires answer-looked-requires returns)

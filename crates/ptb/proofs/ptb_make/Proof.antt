@@ -1,7 +1,7 @@
--- `ptb_make`: a range above 1, or the call told outside. Assumes nothing.
+-- `ptb_make`: the call told outside. Assumes nothing.
 use native.Mathlib.Omega.{arith}
 use Rattle.pool.specs.State.{st}
-use Rattle.ptb.specs.Face.{make-no-range, make-told}
+use Rattle.ptb.specs.Face.{make-told}
 use Rattle.ptb.proofs.ptb_make.Statement.{statement}
 use Rattle.ptb.proofs.ptb_make.Tie as tie
 use Rattle.ptb.proofs.ptb_make.Reads as reads
@@ -9,9 +9,6 @@ use Rattle.ptb.proofs.ptb_make.Lts as lts
 use Rattle.pool.proofs.make.make.Reads as make-reads
 use Rattle.face.proofs.answer.answer_outcome.Reads as answer-outcome-reads
 use Rattle.face.proofs.handle.handle_of.Reads as handle-of-reads
-
-returns : tie.Need-returns
-returns c = let a = c .before .before .before .args in make-no-range (a .base) (a .level) (a .range) (st (a .words .now) (a .ledger .now)) (a .answer .now) (c .if1 .taken)
 
 handle-of-requires : tie.Need-handle-of-requires
 handle-of-requires c κs = tt
@@ -28,17 +25,16 @@ same-length c = omega arith
 same-length-2 : tie.Need-same-length-2
 same-length-2 c = omega arith
 
-returns-2 : tie.Need-returns-2
-returns-2 c = let a = c .before .before .before .before .before .before .before .before .before .before .before .before .before .args in make-told (a .base) (a .level) (a .range) (st (a .words .now) (a .ledger .now)) (a .answer .now) (c .before .before .before .before .before .before .before .before .before .before .if1 .left) (c .before .before .before .before .before .before .before .before .before .handle-of .ensures) (c .before .before .before .before .before .before .make .ensures) (c .answer-outcome .ensures)
+returns : tie.Need-returns
+returns c = let a = c .before .before .before .before .before .before .before .before .before .before .before .before .args in make-told (a .base) (a .level) (a .range) (st (a .words .now) (a .ledger .now)) (a .answer .now) (c .before .before .before .before .before .before .before .before .before .handle-of .ensures) (c .before .before .before .before .before .before .make .ensures) (c .answer-outcome .ensures)
 
 pub ptb-make-spec : {M : Type 1} → statement M
 ptb-make-spec =
     tie.close
     (tie.spec
-    returns
     handle-of-requires
     make-requires
     answer-outcome-requires
     same-length
     same-length-2
-    returns-2)
+    returns)

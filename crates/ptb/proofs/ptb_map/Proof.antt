@@ -1,7 +1,7 @@
--- `ptb_map`: a range above 1, or the call told outside. Assumes nothing.
+-- `ptb_map`: the call told outside. Assumes nothing.
 use native.Mathlib.Omega.{arith}
 use Rattle.pool.specs.State.{st}
-use Rattle.ptb.specs.Face.{map-no-range, map-told}
+use Rattle.ptb.specs.Face.{map-told}
 use Rattle.ptb.proofs.ptb_map.Statement.{statement}
 use Rattle.ptb.proofs.ptb_map.Tie as tie
 use Rattle.ptb.proofs.ptb_map.Reads as reads
@@ -9,9 +9,6 @@ use Rattle.ptb.proofs.ptb_map.Lts as lts
 use Rattle.map.proofs.call.map.Reads as map-reads
 use Rattle.face.proofs.answer.answer_counted.Reads as answer-counted-reads
 use Rattle.face.proofs.handle.handle_of.Reads as handle-of-reads
-
-returns : tie.Need-returns
-returns c = let a = c .before .before .before .args in map-no-range (a .base) (a .level) (a .range) (a .start) (a .end) (a .frame) (a .flags) (a .constraints) (st (a .words .now) (a .ledger .now)) (a .answer .now) (c .if1 .taken)
 
 handle-of-requires : tie.Need-handle-of-requires
 handle-of-requires c κs = tt
@@ -28,17 +25,16 @@ same-length c = omega arith
 same-length-2 : tie.Need-same-length-2
 same-length-2 c = omega arith
 
-returns-2 : tie.Need-returns-2
-returns-2 c = let a = c .before .before .before .before .before .before .before .before .before .before .before .before .before .args in map-told (a .base) (a .level) (a .range) (a .start) (a .end) (a .frame) (a .flags) (a .constraints) (st (a .words .now) (a .ledger .now)) (a .answer .now) (c .before .before .before .before .before .before .before .before .before .before .if1 .left) (c .before .before .before .before .before .before .before .before .before .handle-of .ensures) (c .before .before .before .before .before .before .map .ensures) (c .answer-counted .ensures)
+returns : tie.Need-returns
+returns c = let a = c .before .before .before .before .before .before .before .before .before .before .before .before .args in map-told (a .base) (a .level) (a .range) (a .start) (a .end) (a .frame) (a .flags) (a .constraints) (st (a .words .now) (a .ledger .now)) (a .answer .now) (c .before .before .before .before .before .before .before .before .before .handle-of .ensures) (c .before .before .before .before .before .before .map .ensures) (c .answer-counted .ensures)
 
 pub ptb-map-spec : {M : Type 1} → statement M
 ptb-map-spec =
     tie.close
     (tie.spec
-    returns
     handle-of-requires
     map-requires
     answer-counted-requires
     same-length
     same-length-2
-    returns-2)
+    returns)

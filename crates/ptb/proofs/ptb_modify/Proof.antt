@@ -1,6 +1,6 @@
--- `ptb_modify`: a range above 1, or the call told outside. Assumes nothing.
+-- `ptb_modify`: the call told outside. Assumes nothing.
 use Rattle.pool.specs.State.{st}
-use Rattle.ptb.specs.Face.{modify-no-range, modify-told}
+use Rattle.ptb.specs.Face.{modify-told}
 use Rattle.ptb.proofs.ptb_modify.Statement.{statement}
 use Rattle.ptb.proofs.ptb_modify.Tie as tie
 use Rattle.ptb.proofs.ptb_modify.Reads as reads
@@ -8,9 +8,6 @@ use Rattle.ptb.proofs.ptb_modify.Lts as lts
 use Rattle.modify.proofs.call.modify.Reads as modify-reads
 use Rattle.face.proofs.answer.answer_modified.Reads as answer-modified-reads
 use Rattle.face.proofs.handle.handle_of.Reads as handle-of-reads
-
-returns : tie.Need-returns
-returns c = let a = c .before .before .before .before .args in modify-no-range (a .base) (a .level) (a .range) (a .start) (a .end) (a .set) (a .clear) (a .live) (st (a .words .now) (a .ledger .now)) (a .list .now) (a .answer .now) (c .if1 .taken)
 
 handle-of-requires : tie.Need-handle-of-requires
 handle-of-requires c κs = tt
@@ -30,20 +27,19 @@ same-length-2 c = c .before .before .before .before .before .before .before .bef
 same-length-3 : tie.Need-same-length-3
 same-length-3 c = c .before .before .before .before .before .before .before .before .modify .kept .1 .1 .1 .1 .1 .1 .1 .1 .0
 
-returns-2 : tie.Need-returns-2
-returns-2 c =
-    let a = c .before .before .before .before .before .before .before .before .before .before .before .before .before .before .before .before .before .args in
-    modify-told (a .base) (a .level) (a .range) (a .start) (a .end) (a .set) (a .clear) (a .live) (st (a .words .now) (a .ledger .now)) (a .list .now) (a .answer .now) (c .before .before .before .before .before .before .before .before .before .before .before .before .before .if1 .left) (c .before .before .before .before .before .before .before .before .before .before .before .before .handle-of .ensures) (c .before .before .before .before .before .before .before .before .modify .ensures) (c .answer-modified .ensures)
+returns : tie.Need-returns
+returns c =
+    let a = c .before .before .before .before .before .before .before .before .before .before .before .before .before .before .before .before .args in
+    modify-told (a .base) (a .level) (a .range) (a .start) (a .end) (a .set) (a .clear) (a .live) (st (a .words .now) (a .ledger .now)) (a .list .now) (a .answer .now) (c .before .before .before .before .before .before .before .before .before .before .before .before .handle-of .ensures) (c .before .before .before .before .before .before .before .before .modify .ensures) (c .answer-modified .ensures)
 
 pub ptb-modify-spec : {M : Type 1} → statement M
 ptb-modify-spec =
     tie.close
     (tie.spec
-    returns
     handle-of-requires
     modify-requires
     answer-modified-requires
     same-length
     same-length-2
     same-length-3
-    returns-2)
+    returns)

@@ -4,12 +4,16 @@ use Rattle.face.proofs.handle.handle_of.Tie as tie
 use Rattle.face.proofs.handle.handle_of.Reads as reads
 use Rattle.face.proofs.handle.handle_of.Lts as lts
 use Rattle.face.proofs.handle.range_of.Reads as range-of-reads
+use Rattle.face.proofs.handle.root_level.Reads as root-level-reads
+
+root-level-requires : tie.Need-root-level-requires
+root-level-requires c κs = tt
 
 range-of-requires : tie.Need-range-of-requires
 range-of-requires c κs = tt
 
 returns : tie.Need-returns
-returns c = rw (c .range-of .ensures)
+returns c = rw (c .before .root-level .ensures, c .range-of .ensures)
 
 pub handle-of-spec : {M : Type 1} → statement M
-handle-of-spec = tie.close (tie.spec range-of-requires returns)
+handle-of-spec = tie.close (tie.spec root-level-requires range-of-requires returns)

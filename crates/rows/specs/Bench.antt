@@ -135,27 +135,19 @@ pub made : Made
 unfolding rootNumber maxTables shaped makeCall freshly handle fresh Makes
 made = (refl, refl, refl, refl)
 
-abbrev pub Maps : Type 0
-Maps =
+-- those of map that compute in a second: A, B with 8, 3 and 2 tables, C, D, both of G, and the next GiB after A
+abbrev pub Quick : Type 0
+Quick =
     Holds A
     × Holds (B 8 (Tables 3) (poolB 8)) × Holds (B 3 (Tables 3) (poolB 3)) × Holds (B 2 (Refused (WantOfRoom 2 1)) (fresh 1 2))
     × Holds (CD 0x4020_0000 1 poolA) × Holds (CD 0x5000_0000 3 poolD)
-    × Holds (EF 0 0 1 (fresh 1 8)) × Holds (EF 0x4000_0000 0x401 3 poolF)
     × Holds (G 0 3 poolG) × Holds (G 0x1000 1 (fresh 1 8))
-    × Holds H
+    × Holds AA
 
-pub starred-maps : Maps
+pub quick : Quick
 unfolding sizeAt down up iter putPart allBelow allFrom alignUp addressOf flagsOf kindOf linkOf only el1Flags inPool leads subOf rounded entryLast entryIndex chunkEnd met
     chunksIn chunks rootNumber numberOf firstFrom lowestFree used free putTable zeros clear rising takeAt takeFound takeTable freeSub freeSlot freeTree maxTables shaped flagSet
     plainFlags fits leafb namesb hangsb tableb linkb refersb slotb soundb endFits span inRange verify valid tableWord leafWord whole rule2 blockable rule3 rule4 ruleOf fillOf
     splitEntry belowOf below inFound into dropEntry byRule mapChunk eachOf eachChunk mapRange ifDown sumOf sumChunks childWord neededLeaf needBelow needChunk needTable needed
-    asked frameAsked first verifyMap putDown mapSound orElse mapCall handle fresh word table Holds poolA poolB poolD poolF poolG poolH A B CD EF G H
-starred-maps = (refl, refl, refl, refl, refl, refl, refl, refl, refl, refl, refl)
-
-pub two-blocks : Holds AA
-unfolding sizeAt down up iter putPart allBelow allFrom alignUp addressOf flagsOf kindOf linkOf only el1Flags inPool leads subOf rounded entryLast entryIndex chunkEnd met
-    chunksIn chunks rootNumber numberOf firstFrom lowestFree used free putTable zeros clear rising takeAt takeFound takeTable freeSub freeSlot freeTree maxTables shaped flagSet
-    plainFlags fits leafb namesb hangsb tableb linkb refersb slotb soundb endFits span inRange verify valid tableWord leafWord whole rule2 blockable rule3 rule4 ruleOf fillOf
-    splitEntry belowOf below inFound into dropEntry byRule mapChunk eachOf eachChunk mapRange ifDown sumOf sumChunks childWord neededLeaf needBelow needChunk needTable needed
-    asked frameAsked first verifyMap putDown mapSound orElse mapCall handle fresh word table Holds poolA poolAA AA
-two-blocks = refl
+    asked frameAsked first verifyMap putDown mapSound orElse mapCall handle fresh word table Holds poolA poolAA poolB poolD poolG A AA B CD G
+quick = (refl, refl, refl, refl, refl, refl, refl, refl, refl)

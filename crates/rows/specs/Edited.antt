@@ -30,7 +30,7 @@ use Rattle.modify.specs.Ask.{asked, verifyBits, thenRegion, verifyEdit, verifyS
 use Rattle.modify.specs.Call.{modifying, answerOf, editTables, orElse, modifySound, modifyCall}
 use Rattle.modify.specs.declared.Modified.{Modified}
 use Rattle.modify.specs.declared.Modified.the-variants.{Tables, Live, Refused}
-use Rattle.cases.specs.Bench.{handle, fresh, word, table, poolA, poolF}
+use Rattle.rows.specs.Bench.{handle, fresh, word, table, poolA, poolF}
 
 -- bit 7 set after A: what is asked, and what document 01 says of it: the answer, every word and number, and the list
 unfoldable pub Sets : ℕ → ℕ → Bool → Modified → St → List ℕ → Type 0

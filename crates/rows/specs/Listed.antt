@@ -19,7 +19,7 @@ use Rattle.walk.specs.Arm.{bits, lowBit, index, fetch}
 use Rattle.list.specs.Lines.{numbers, each, subLines, chunkLines, linesAt, linesFrom}
 use Rattle.list.specs.Listing.{verifyEnds, listing, put, listLines, linesOf, listSound, listVerified, listCall}
 use Rattle.list.specs.declared.Listed.the-variants.{Lines}
-use Rattle.cases.specs.Bench.{handle, fresh, word, table, poolB}
+use Rattle.rows.specs.Bench.{handle, fresh, word, table, poolB}
 
 -- three lines; the rest of the list stays
 abbrev pub J : Type 0

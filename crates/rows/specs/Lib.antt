@@ -1,0 +1,4 @@
+-- Document 01, "Bench cases": the starred ones as rows, and those that compute in a second.
+pub mod Bench
+pub mod Edited
+pub mod Listed

@@ -19,7 +19,8 @@ use Rattle.pool.specs.Sound.{namesb, hangsb, tableb, linkb, slotb, soundb, name
 use Rattle.scan.specs.Answer.{count-most}
 use Rattle.checker.specs.Stream.{runPasses, tablePasses, tableLinks, streamb}
 use Rattle.checker.specs.Row.{wordIn, linkIn, passIn, used-sum, all-links, runs-to, runs-of}
-use Rattle.checker.specs.Named.{slot-passes, slot-links, slot-of, count-one, Named, place, named-in, Hangs, hangs-to, links-to, links-of, namedAt, named-yes, named-says, named-no}
+use Rattle.hang.specs.Hang.{Named, Hangs, hangs-to}
+use Rattle.checker.specs.Named.{slot-passes, slot-links, slot-of, count-one, place, named-in, links-to, links-of, namedAt, named-yes, named-says, named-no}
 use Rattle.pool.specs.declared.Handle.{Handle}
 
 -- ---- the table words counted

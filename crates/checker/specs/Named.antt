@@ -3,18 +3,19 @@
 use mathlib.Core.Path.{_≡_}
 use mathlib.Core.Bool.{Bool, true, false, cond, _&&_}
 use mathlib.Core.Logic.{_⊎_, inl, inr, _≢_}
-use Prim.Native.Nat.{ℕ, suc, _+_, _*_, _-_, _/_, _%_, _≤_, _<_}
+use Prim.Native.Nat.{ℕ, _+_, _*_, _-_, _/_, _%_, _≤_, _<_}
 use native.Mathlib.Omega.{arith}
-use lib.Dec.{T, eqb, eqb→eq, eqb-refl, ltb, ltb→lt, lt→ltb}
+use lib.Dec.{T, eqb, eqb→eq, eqb-refl}
 use borrow.Author.Tests.{eq-eqb, ne-eqb, lt-ltb}
 use Rattle.laws.specs.Sum.{tally, tally-yes, tally-says}
 use Rattle.laws.specs.Test.{eq-or, and-l, and-r, and-i, eq→eqb}
 use Rattle.entry.specs.Word.{addressOf, linkOf}
-use Rattle.pool.specs.State.{St, tables, wordAt, numberAt, used-in}
+use Rattle.pool.specs.State.{St, tables, numberAt, used-in}
 use Rattle.pool.specs.Number.{levelOf, parentOf, slotOf}
-use Rattle.pool.specs.Sound.{flagSet, leafb, namesb, hangsb, linkb, refersb, slotb, names-says}
+use Rattle.pool.specs.Sound.{flagSet, leafb, namesb, linkb, refersb, slotb, names-says}
 use Rattle.scan.specs.Words.{passesb, linkCount}
 use Rattle.pool.specs.declared.Handle.{Handle}
+use Rattle.hang.specs.Hang.{Named}
 
 -- ---- a slot's test is the test of a run's word, and that a table word is a link
 
@@ -55,10 +56,7 @@ pub count-one : (y w : ℕ) → 0 < y → levelOf y < 3 → w % 4 ≡ 3 → link
 unfolding linkCount refersb
 count-one y w u l e = rw (ne-eqb y 0 (λ z. omega arith), lt-ltb (levelOf y) 3 l, eq-eqb (w % 4) 3 e)
 
--- ---- used tables, and tables whose numbers name a slot
-
-abbrev pub Named : St → ℕ → Type 0
-Named s k = T (namesb (numberAt s k))
+-- ---- tables whose numbers name a slot
 
 -- where that slot stands in the pool's words
 abbrev pub place : St → ℕ → ℕ
@@ -66,39 +64,6 @@ place s k = 512 * parentOf (numberAt s k) + slotOf (numberAt s k)
 
 pub named-in : (s : St) (k : ℕ) → Named s k → k < tables s
 named-in s k t = used-in s k (omega (arith, names-says (numberAt s k) t))
-
--- ---- a table that hangs
-
-pub record Hangs (base : ℕ) (s : St) (k : ℕ) : Type 0 where
-  pub named : Named s k
-  pub deeper : levelOf (numberAt s k) ≡ suc (levelOf (numberAt s (parentOf (numberAt s k))))
-  pub parent : 0 < numberAt s (parentOf (numberAt s k))
-  pub says : wordAt s (parentOf (numberAt s k)) (slotOf (numberAt s k)) ≡ linkOf base k
-
-pub hangs-to : (base : ℕ) (s : St) (k : ℕ) → T (hangsb base s k) → Hangs base s k
-unfolding hangsb
-hangs-to base s k t =
-    let x = numberAt s k in
-    let y = numberAt s (parentOf x) in
-    let deeper = eqb (levelOf x) (suc (levelOf y)) in
-    let says = eqb (wordAt s (parentOf x) (slotOf x)) (linkOf base k) in
-    let u = and-r (namesb x) (deeper && (ltb 0 y && says)) t in
-    let v = and-r deeper (ltb 0 y && says) u in
-    record {
-      named = and-l (namesb x) (deeper && (ltb 0 y && says)) t;
-      deeper = eqb→eq (levelOf x) (suc (levelOf y)) (and-l deeper (ltb 0 y && says) u);
-      parent = ltb→lt 0 y (and-l (ltb 0 y) says v);
-      says = eqb→eq (wordAt s (parentOf x) (slotOf x)) (linkOf base k) (and-r (ltb 0 y) says v);
-    }
-
-pub hangs-of : (base : ℕ) (s : St) (k : ℕ) → Hangs base s k → T (hangsb base s k)
-unfolding hangsb
-hangs-of base s k p =
-    let x = numberAt s k in
-    let y = numberAt s (parentOf x) in
-    and-i (namesb x) _ (p .named)
-    (and-i (eqb (levelOf x) (suc (levelOf y))) _ (eq→eqb (levelOf x) (suc (levelOf y)) (p .deeper))
-    (and-i (ltb 0 y) _ (lt→ltb 0 y (p .parent)) (eq→eqb (wordAt s (parentOf x) (slotOf x)) (linkOf base k) (p .says))))
 
 -- ---- a link: slot i of table p refers to a table k whose number names it
 

@@ -7,54 +7,11 @@ use pool::ledger;
 use pool::shape;
 use scan::Run;
 ghost use mathlib.Core.Path.{_≡_};
-ghost use Prim.Native.Nat.{_≤_, _<_};
-ghost use lib.ListN.{length};
 ghost use Rattle.pool.specs.State.{st};
 ghost use Rattle.pool.specs.Refuse.{Shaped};
-ghost use Rattle.pool.specs.Sound.{hangsb, tableb, soundb};
+ghost use Rattle.pool.specs.Sound.{soundb};
 ghost use Rattle.checker.specs.Stream.{tablesRun};
 ghost use Rattle.checker.specs.Check.{soundCount, checkCall};
-
-// Whether table k's number names a slot of a used table one level higher, and that slot refers to it.
-fn hangs(words: &[u64], ledger: &[u32], handle: Handle, k: usize) -> bool
-    requires { ⌜ Shaped handle (st (now words) (now ledger)) × (k < length (now ledger)) ⌝ }
-    ensures { λ r. ⌜ r ≡ hangsb (handle .base .0) (st (now (words .entry)) (now (ledger .entry))) k ⌝ }
-{
-    let number = ledger[k] as usize;
-    if number % 8 < 4 {
-        return false;
-    }
-    if number < 8 {
-        return false;
-    }
-    let at = number / 8 - 1;
-    let parent = at / 512;
-    if ledger.len() <= parent {
-        return false;
-    }
-    let above = ledger[parent] as usize;
-    if above == 0 {
-        return false;
-    }
-    if number % 4 != above % 4 + 1 {
-        return false;
-    }
-    words[at] == entry::link(handle.base, k)
-}
-
-// Whether the ledger's number of table k is right: the root's at 0; any other is 0 or hangs.
-fn table_holds(words: &[u64], ledger: &[u32], handle: Handle, k: usize) -> bool
-    requires { ⌜ Shaped handle (st (now words) (now ledger)) × (k < length (now ledger)) ⌝ }
-    ensures { λ r. ⌜ r ≡ tableb handle (st (now (words .entry)) (now (ledger .entry))) k ⌝ }
-{
-    if k == 0 {
-        return ledger[0] as usize == 4 + handle.level;
-    }
-    if ledger[k] == 0 {
-        return true;
-    }
-    hangs(words, ledger, handle, k)
-}
 
 // The links of all tables, if every number is right and every run passes. A table is read in four runs of 128 words; a run that fails ends both loops.
 fn scan_tables(words: &[u64], ledger: &[u32], handle: Handle) -> Run
@@ -69,7 +26,7 @@ fn scan_tables(words: &[u64], ledger: &[u32], handle: Handle) -> Run
         if n <= k {
             break 'tables Run::Passed(links);
         }
-        if !table_holds(words, ledger, handle, k) {
+        if !hang::table_holds(words, ledger, handle, k) {
             break 'tables Run::Failed;
         }
         let number = ledger[k];

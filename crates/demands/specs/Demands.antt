@@ -7,7 +7,7 @@ use mathlib.Core.Logic.{_≢_, _↔_, inl, inr, ⊎-elim}
 use Prim.Native.Nat.{ℕ, _<_}
 use Rattle.pool.specs.State.{St, tables, wordAt, numberAt}
 use Rattle.pool.specs.Refuse.{number}
-use Rattle.pool.specs.Make.{makeCall}
+use Rattle.make.specs.Make.{makeCall}
 use Rattle.image.specs.Call.{imageCall}
 use Rattle.pool.specs.declared.Handle.{Handle}
 use Rattle.pool.specs.declared.Refusal.{Refusal}

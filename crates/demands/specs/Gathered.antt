@@ -8,7 +8,7 @@ use lib.ListN.{length, drop}
 use Rattle.pool.specs.State.{St, tables, wordAt}
 use Rattle.pool.specs.Number.{used}
 use Rattle.pool.specs.Refuse.{shaped, Out, out}
-use Rattle.pool.specs.Make.{makeCall, make-accepted}
+use Rattle.make.specs.Make.{makeCall, make-accepted}
 use Rattle.pool.specs.declared.Handle.{Handle}
 use Rattle.pool.specs.declared.Outcome.{Outcome}
 use Rattle.pool.specs.declared.Counted.the-variants.{Tables}

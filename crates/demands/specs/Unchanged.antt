@@ -12,7 +12,7 @@ use Rattle.pool.specs.State.{St, tables}
 use Rattle.pool.specs.Number.{free}
 use Rattle.pool.specs.Refuse.{shaped, Out, out}
 use Rattle.pool.specs.Sound.{soundb}
-use Rattle.pool.specs.Make.{makeCall, make-refused, make-accepted}
+use Rattle.make.specs.Make.{makeCall, make-refused, make-accepted}
 use Rattle.image.specs.Call.{Imaged, imaged, imageCall, image-misshaped, image-no-table, image-short, image-written}
 use Rattle.pool.specs.declared.Handle.{Handle}
 use Rattle.pool.specs.declared.Refusal.{Refusal}

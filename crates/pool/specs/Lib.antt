@@ -3,4 +3,3 @@ pub mod State
 pub mod Number
 pub mod Refuse
 pub mod Sound
-pub mod Make

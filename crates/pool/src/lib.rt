@@ -1,8 +1,6 @@
 // The pool: 512 words for each table, and a ledger number for each table (document 01, "Pool and ledger").
 pub mod ledger;
-pub mod make;
 pub mod shape;
-pub mod zero;
 
 use address::PhysicalAddress;
 use address::VirtualAddress;

@@ -7,7 +7,7 @@ use Prim.Native.Nat.{ℕ, _<_}
 use lib.Dec.{eqb}
 use Rattle.pool.specs.State.{St}
 use Rattle.pool.specs.Refuse.{Out, out}
-use Rattle.pool.specs.Make.{makeCall, make-refused}
+use Rattle.make.specs.Make.{makeCall, make-refused}
 use Rattle.image.specs.Call.{imageCall, image-misshaped, Imaged, imaged}
 use Rattle.pool.specs.declared.Handle.{Handle}
 use Rattle.pool.specs.declared.Refusal.the-variants.{Shape}
@@ -22,8 +22,8 @@ use Rattle.map.specs.Call as map
 use Rattle.compact.specs.Call as compact
 use Rattle.modify.specs.Call as modify
 use Rattle.modify.specs.declared.Modified.{Modified}
-use Rattle.face.specs.Handle.{handleOf, no-range}
-use Rattle.face.specs.Answer.{Slip, slip, refused, told, toldCounted, toldLooked, toldListed, toldModified}
+use Rattle.handle.specs.Handle.{handleOf, no-range}
+use Rattle.answer.specs.Answer.{Slip, slip, refused, told, toldCounted, toldLooked, toldListed, toldModified}
 
 -- ---- make
 

@@ -1,16 +1,13 @@
 // The face for other languages: each call by its C name, with numbers alone (include/ptb.h says what each is).
 use address::PhysicalAddress;
 use address::VirtualAddress;
-use face::answer;
-use face::handle;
 use map::Constraints;
 use map::call;
-use pool::make;
 use walk::look_up;
 ghost use mathlib.Core.Path.{_≡_};
 ghost use Rattle.pool.specs.State.{st};
 ghost use Rattle.pool.specs.Refuse.{out};
-ghost use Rattle.face.specs.Answer.{slip};
+ghost use Rattle.answer.specs.Answer.{slip};
 ghost use Rattle.ptb.specs.Face.{makeFace, checkFace, lookUpFace, filled, listFace, mapFace, changed, modifyFace, compactFace, imageFace};
 
 // Zeroes all words and the ledger, then enters the root as table 0.

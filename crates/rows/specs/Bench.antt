@@ -16,7 +16,7 @@ use Rattle.pool.specs.Number.{rootNumber, numberOf, firstFrom, lowestFree, used
 use Rattle.pool.specs.State.{St, st}
 use Rattle.table.specs.Table.{putTable, zeros, clear, rising, takeAt, takeFound, takeTable, freeSub, freeSlot, freeTree}
 use Rattle.pool.specs.Refuse.{maxTables, shaped, out}
-use Rattle.pool.specs.Make.{makeCall, fresh as freshly}
+use Rattle.make.specs.Make.{makeCall, fresh as freshly}
 use Rattle.pool.specs.Sound.{flagSet, fits, leafb, namesb, hangsb, tableb, linkb, refersb, slotb, soundb}
 use Rattle.pool.specs.declared.Handle.{Handle}
 use Rattle.pool.specs.declared.Refusal.the-variants.{WantOfRoom}

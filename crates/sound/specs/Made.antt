@@ -10,7 +10,7 @@ use Rattle.pool.specs.State.{St, tables, wordAt, numberAt}
 use Rattle.pool.specs.Number.{rootNumber}
 use Rattle.pool.specs.Refuse.{Shaped}
 use Rattle.pool.specs.Sound.{flagSet}
-use Rattle.pool.specs.Make.{fresh}
+use Rattle.make.specs.Make.{fresh}
 use Rattle.pool.specs.declared.Handle.{Handle}
 use Rattle.sound.specs.Codec.{zero-leaf}
 use Rattle.sound.specs.Clauses.{levelAt, SoundPool}

@@ -3,7 +3,6 @@ use entry::Sub;
 use pool::Found;
 use pool::Handle;
 use pool::ledger;
-use pool::zero;
 ghost use mathlib.Core.Path.{_≡_};
 ghost use Prim.Native.Nat.{_+_, _*_, _-_, _≤_, _<_, _^_};
 ghost use lib.ListN.{length};

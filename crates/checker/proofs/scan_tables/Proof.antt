@@ -21,7 +21,7 @@ use Rattle.checker.proofs.scan_tables.Reads as reads
 use Rattle.checker.proofs.scan_tables.Lts as lts
 use Rattle.pool.proofs.shape.flag_set.Reads as flag-set-reads
 use Rattle.scan.proofs.scan.Reads as scan-reads
-use Rattle.checker.proofs.table_holds.Reads as table-holds-reads
+use Rattle.hang.proofs.table_holds.Reads as table-holds-reads
 
 abbrev Inv-loop : tie.InvT-loop
 Inv-loop words ledger handle n set links₀ k number r₀ links r =

@@ -6,8 +6,8 @@ use Rattle.ptb.proofs.ptb_check.Tie as tie
 use Rattle.ptb.proofs.ptb_check.Reads as reads
 use Rattle.ptb.proofs.ptb_check.Lts as lts
 use Rattle.checker.proofs.check.Reads as check-reads
-use Rattle.face.proofs.answer.answer_outcome.Reads as answer-outcome-reads
-use Rattle.face.proofs.handle.handle_of.Reads as handle-of-reads
+use Rattle.answer.proofs.answer_outcome.Reads as answer-outcome-reads
+use Rattle.handle.proofs.handle_of.Reads as handle-of-reads
 
 handle-of-requires : tie.Need-handle-of-requires
 handle-of-requires c κs = tt

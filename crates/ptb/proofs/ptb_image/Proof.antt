@@ -7,8 +7,8 @@ use Rattle.ptb.proofs.ptb_image.Tie as tie
 use Rattle.ptb.proofs.ptb_image.Reads as reads
 use Rattle.ptb.proofs.ptb_image.Lts as lts
 use Rattle.image.proofs.page_image.Reads as page-image-reads
-use Rattle.face.proofs.answer.answer_outcome.Reads as answer-outcome-reads
-use Rattle.face.proofs.handle.handle_of.Reads as handle-of-reads
+use Rattle.answer.proofs.answer_outcome.Reads as answer-outcome-reads
+use Rattle.handle.proofs.handle_of.Reads as handle-of-reads
 
 handle-of-requires : tie.Need-handle-of-requires
 handle-of-requires c κs = tt

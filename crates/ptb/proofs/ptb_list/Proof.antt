@@ -7,8 +7,8 @@ use Rattle.ptb.proofs.ptb_list.Tie as tie
 use Rattle.ptb.proofs.ptb_list.Reads as reads
 use Rattle.ptb.proofs.ptb_list.Lts as lts
 use Rattle.list.proofs.list.Reads as list-reads
-use Rattle.face.proofs.answer.answer_listed.Reads as answer-listed-reads
-use Rattle.face.proofs.handle.handle_of.Reads as handle-of-reads
+use Rattle.answer.proofs.answer_listed.Reads as answer-listed-reads
+use Rattle.handle.proofs.handle_of.Reads as handle-of-reads
 
 handle-of-requires : tie.Need-handle-of-requires
 handle-of-requires c κs = tt

@@ -5,8 +5,8 @@ use Rattle.ptb.proofs.ptb_look_up.Statement.{statement}
 use Rattle.ptb.proofs.ptb_look_up.Tie as tie
 use Rattle.ptb.proofs.ptb_look_up.Reads as reads
 use Rattle.ptb.proofs.ptb_look_up.Lts as lts
-use Rattle.face.proofs.answer.answer_looked.Reads as answer-looked-reads
-use Rattle.face.proofs.handle.handle_of.Reads as handle-of-reads
+use Rattle.answer.proofs.answer_looked.Reads as answer-looked-reads
+use Rattle.handle.proofs.handle_of.Reads as handle-of-reads
 use Rattle.walk.proofs.look_up.look_up.Reads as look-up-reads
 
 handle-of-requires : tie.Need-handle-of-requires

@@ -6,9 +6,9 @@ use Rattle.ptb.proofs.ptb_make.Statement.{statement}
 use Rattle.ptb.proofs.ptb_make.Tie as tie
 use Rattle.ptb.proofs.ptb_make.Reads as reads
 use Rattle.ptb.proofs.ptb_make.Lts as lts
-use Rattle.pool.proofs.make.make.Reads as make-reads
-use Rattle.face.proofs.answer.answer_outcome.Reads as answer-outcome-reads
-use Rattle.face.proofs.handle.handle_of.Reads as handle-of-reads
+use Rattle.make.proofs.make.Reads as make-reads
+use Rattle.answer.proofs.answer_outcome.Reads as answer-outcome-reads
+use Rattle.handle.proofs.handle_of.Reads as handle-of-reads
 
 handle-of-requires : tie.Need-handle-of-requires
 handle-of-requires c κs = tt

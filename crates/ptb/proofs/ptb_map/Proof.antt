@@ -7,8 +7,8 @@ use Rattle.ptb.proofs.ptb_map.Tie as tie
 use Rattle.ptb.proofs.ptb_map.Reads as reads
 use Rattle.ptb.proofs.ptb_map.Lts as lts
 use Rattle.map.proofs.call.map.Reads as map-reads
-use Rattle.face.proofs.answer.answer_counted.Reads as answer-counted-reads
-use Rattle.face.proofs.handle.handle_of.Reads as handle-of-reads
+use Rattle.answer.proofs.answer_counted.Reads as answer-counted-reads
+use Rattle.handle.proofs.handle_of.Reads as handle-of-reads
 
 handle-of-requires : tie.Need-handle-of-requires
 handle-of-requires c κs = tt

@@ -6,8 +6,8 @@ use Rattle.ptb.proofs.ptb_modify.Tie as tie
 use Rattle.ptb.proofs.ptb_modify.Reads as reads
 use Rattle.ptb.proofs.ptb_modify.Lts as lts
 use Rattle.modify.proofs.call.modify.Reads as modify-reads
-use Rattle.face.proofs.answer.answer_modified.Reads as answer-modified-reads
-use Rattle.face.proofs.handle.handle_of.Reads as handle-of-reads
+use Rattle.answer.proofs.answer_modified.Reads as answer-modified-reads
+use Rattle.handle.proofs.handle_of.Reads as handle-of-reads
 
 handle-of-requires : tie.Need-handle-of-requires
 handle-of-requires c κs = tt

@@ -11,7 +11,7 @@ use Rattle.table.proofs.clear_table.Statement.{statement}
 use Rattle.table.proofs.clear_table.Tie as tie
 use Rattle.table.proofs.clear_table.Reads as reads
 use Rattle.table.proofs.clear_table.Lts as lts
-use Rattle.pool.proofs.zero.zero_words.Reads as zero-words-reads
+use Rattle.zero.proofs.zero_words.Reads as zero-words-reads
 
 mul-a : tie.Need-mul-a
 mul-a c = omega arith

@@ -1,0 +1,2 @@
+-- What a caller outside sees of an answer.
+pub mod Answer

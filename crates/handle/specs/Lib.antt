@@ -1,0 +1,2 @@
+-- Numbers for a handle.
+pub mod Handle

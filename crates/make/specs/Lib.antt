@@ -1,0 +1,2 @@
+-- Make: the whole call.
+pub mod Make

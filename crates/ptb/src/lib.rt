@@ -98,7 +98,14 @@ pub extern "C" fn ptb_list(
         return 1;
     }
     let handle = handle::handle_of(base, level, range);
-    let listed = list::list(words, ledger, handle, start, end, lines);
+    let listed = list::list(
+        words,
+        ledger,
+        handle,
+        VirtualAddress(start),
+        VirtualAddress(end),
+        lines,
+    );
     answer::answer_listed(listed, answer)
 }
 

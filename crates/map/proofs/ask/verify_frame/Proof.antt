@@ -1,21 +1,20 @@
-use native.Mathlib.Omega.{arith}
-use Rattle.map.specs.Ask.{frame-part, frame-past, frame-fits}
+use mathlib.Core.Path.{_≡_, sym, _∙_}
+use borrow.Author.Tests.{not-true, not-false}
+use Rattle.map.specs.Ask.{frame-not, frame-may}
 use Rattle.map.proofs.ask.verify_frame.Statement.{statement}
 use Rattle.map.proofs.ask.verify_frame.Tie as tie
 use Rattle.map.proofs.ask.verify_frame.Reads as reads
 use Rattle.map.proofs.ask.verify_frame.Lts as lts
+use Rattle.map.proofs.ask.has_frames.Reads as has-frames-reads
+
+has-frames-requires : tie.Need-has-frames-requires
+has-frames-requires c κs = tt
 
 returns : tie.Need-returns
-returns c = let a = c .before .args in frame-part (a .frame) (a .length) (c .if1 .taken)
+returns c = let a = c .before .before .args in frame-not (a .frame .0) (a .length) (sym (c .before .has-frames .ensures) ∙ not-true _ (c .if1 .taken))
 
 returns-2 : tie.Need-returns-2
-returns-2 c = let a = c .before .before .args in frame-past (a .frame) (a .length) (omega arith) (omega arith)
-
-returns-3 : tie.Need-returns-3
-returns-3 c = let a = c .before .before .before .args in frame-past (a .frame) (a .length) (omega arith) (omega arith)
-
-returns-4 : tie.Need-returns-4
-returns-4 c = let a = c .before .before .before .args in frame-fits (a .frame) (a .length) (omega arith) (omega arith)
+returns-2 c = let a = c .before .before .args in frame-may (a .frame .0) (a .length) (sym (c .before .has-frames .ensures) ∙ not-false _ (c .if1 .left))
 
 pub verify-frame-spec : {M : Type 1} → statement M
-verify-frame-spec = tie.close (tie.spec returns returns-2 returns-3 returns-4)
+verify-frame-spec = tie.close (tie.spec has-frames-requires returns returns-2)

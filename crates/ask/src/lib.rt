@@ -6,7 +6,7 @@ use pool::Refusal;
 use pool::shape;
 use rules::Map;
 ghost use mathlib.Core.Path.{_≡_};
-ghost use Rattle.map.specs.Ask.{framesFit, frameAsked, verifyMap};
+ghost use Rattle.ask.specs.Ask.{framesFit, frameAsked, verifyMap};
 
 // Whether frames of this length can begin there: the bound on the length comes before the difference is formed.
 fn has_frames(frame: PhysicalAddress, length: u64) -> bool

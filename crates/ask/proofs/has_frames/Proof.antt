@@ -1,9 +1,9 @@
 use native.Mathlib.Omega.{arith}
-use Rattle.map.specs.Ask.{fit-part, fit-past, fit-rest}
-use Rattle.map.proofs.ask.has_frames.Statement.{statement}
-use Rattle.map.proofs.ask.has_frames.Tie as tie
-use Rattle.map.proofs.ask.has_frames.Reads as reads
-use Rattle.map.proofs.ask.has_frames.Lts as lts
+use Rattle.ask.specs.Ask.{fit-part, fit-past, fit-rest}
+use Rattle.ask.proofs.has_frames.Statement.{statement}
+use Rattle.ask.proofs.has_frames.Tie as tie
+use Rattle.ask.proofs.has_frames.Reads as reads
+use Rattle.ask.proofs.has_frames.Lts as lts
 
 returns : tie.Need-returns
 returns c = let a = c .before .before .args in fit-part (a .frame .0) (a .length) (c .if1 .taken)

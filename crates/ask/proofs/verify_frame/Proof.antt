@@ -1,11 +1,11 @@
 use mathlib.Core.Path.{_≡_, sym, _∙_}
 use borrow.Author.Tests.{not-true, not-false}
-use Rattle.map.specs.Ask.{frame-not, frame-may}
-use Rattle.map.proofs.ask.verify_frame.Statement.{statement}
-use Rattle.map.proofs.ask.verify_frame.Tie as tie
-use Rattle.map.proofs.ask.verify_frame.Reads as reads
-use Rattle.map.proofs.ask.verify_frame.Lts as lts
-use Rattle.map.proofs.ask.has_frames.Reads as has-frames-reads
+use Rattle.ask.specs.Ask.{frame-not, frame-may}
+use Rattle.ask.proofs.verify_frame.Statement.{statement}
+use Rattle.ask.proofs.verify_frame.Tie as tie
+use Rattle.ask.proofs.verify_frame.Reads as reads
+use Rattle.ask.proofs.verify_frame.Lts as lts
+use Rattle.ask.proofs.has_frames.Reads as has-frames-reads
 
 has-frames-requires : tie.Need-has-frames-requires
 has-frames-requires c κs = tt

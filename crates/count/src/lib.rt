@@ -1,4 +1,6 @@
 // Refusal 9's count: the new tables that a map needs. Only entries that exist are visited.
+use address::PhysicalAddress;
+use address::VirtualAddress;
 use entry::Sub;
 use pool::Handle;
 use rules::Map;
@@ -23,7 +25,8 @@ fn count_last(words: &[u64], ledger: &[u32], handle: Handle, k: usize, map: Map)
     while at < end {
         let stop = region::chunk_end(at, end, 2);
         let i = region::entry_index(at, 2);
-        let chunk = rules::chunk_of(map, at, stop, frame);
+        let start = VirtualAddress(at);
+        let chunk = rules::chunk_of(map, start, VirtualAddress(stop), PhysicalAddress(frame));
         frame += stop - at;
         at = stop;
         let word = words[512 * k + i];
@@ -58,8 +61,8 @@ fn count_new(words: &[u64], ledger: &[u32], handle: Handle, k: usize, level: usi
     while at < end {
         let stop = region::chunk_end(at, end, level);
         let i = region::entry_index(at, level);
-        let start = at;
-        let first = frame;
+        let start = VirtualAddress(at);
+        let first = PhysicalAddress(frame);
         frame += stop - at;
         at = stop;
         let word = words[512 * k + i];
@@ -68,10 +71,10 @@ fn count_new(words: &[u64], ledger: &[u32], handle: Handle, k: usize, level: usi
             let Sub::Leaf = kind else {
                 continue;
             };
-            count += ends::count_entry(level, map, start, stop, first, word);
+            count += ends::count_entry(level, map, start, VirtualAddress(stop), first, word);
             continue;
         };
-        let chunk = rules::chunk_of(map, start, stop, first);
+        let chunk = rules::chunk_of(map, start, VirtualAddress(stop), first);
         let rule = rules::rule_of(level, chunk, word);
         let Rule::Down = rule else {
             continue;

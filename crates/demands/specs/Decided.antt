@@ -26,7 +26,7 @@ use Rattle.sound.specs.Clauses.{SoundPool}
 use Rattle.sound.specs.Decide.{sound-exactly}
 use Rattle.verify.specs.Verify.{endFits, inRange, verify, refused-never, lower-start, lower-end, lower-in, upper-start, upper-in, verify-backwards, verify-forwards}
 use Rattle.walk.specs.LookUp.{spanned, span-lower, span-upper}
-use Rattle.map.specs.Ask.{frameAsked, frame-part, frame-past, frame-fits}
+use Rattle.ask.specs.Ask.{frameAsked, frame-part, frame-past, frame-fits}
 use Rattle.demands.specs.Slip.{Misshaped, BadEnd, OutsideSet, Backwards, BeyondRange, BeyondSpan, BadFrame}
 
 -- 1

@@ -27,8 +27,8 @@ use Rattle.verify.specs.Verify.{endFits, verify}
 use Rattle.edit.specs.declared.Edit.{Edit}
 use Rattle.survey.specs.declared.Survey.{Survey}
 use Rattle.modify.specs.declared.Modified.the-variants as modified
-use Rattle.modify.specs.Ask.{asked, verifyBits, verifyEdit, verifySurvey, bits-set-invalid, bits-clear-invalid, bits-set-outside, bits-set-valid, bits-clash, bits-clear-outside}
-use Rattle.modify.specs.Ask.{bits-accepted, edit-end, edit-bits, edit-region, survey-full, survey-off, survey-broken, survey-short, survey-accepted}
+use Rattle.permit.specs.Permit.{asked, verifyBits, verifyEdit, verifySurvey, bits-set-invalid, bits-clear-invalid, bits-set-outside, bits-set-valid, bits-clash, bits-clear-outside}
+use Rattle.permit.specs.Permit.{bits-accepted, edit-end, edit-bits, edit-region, survey-full, survey-off, survey-broken, survey-short, survey-accepted}
 use Rattle.modify.specs.Call.{Modifying, modifying, answerOf, editTables, surveyOf, modifySound, modifyCall, sound-not, sound-refused, sound-edited, call-misshaped, call-refused}
 use Rattle.modify.specs.Call.{call-asked}
 use Rattle.modified.specs.Terms.{Call, Passed}

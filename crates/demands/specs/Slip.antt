@@ -24,8 +24,8 @@ use Rattle.sound.specs.Clauses.{SoundPool}
 use Rattle.walk.specs.Arm.{walk, outside}
 use Rattle.list.specs.Listing.{linesOf}
 use Rattle.need.specs.Needed.{needed}
-use Rattle.map.specs.Ask.{asked}
-use Rattle.modify.specs.Ask.{asked as askedEdit}
+use Rattle.ask.specs.Ask.{asked}
+use Rattle.permit.specs.Permit.{asked as askedEdit}
 use Rattle.modify.specs.Call.{surveyOf}
 use Rattle.modified.specs.House.{Lowest as LowestBreach}
 

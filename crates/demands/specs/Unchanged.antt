@@ -28,7 +28,7 @@ use Rattle.need.specs.Needed.{needed}
 use Rattle.rules.specs.declared.Map.{Map}
 use Rattle.modify.specs.declared.Modified.{Modified}
 use Rattle.modify.specs.Call.{Modifying, modifying}
-use Rattle.map.specs.Ask.{asked, verifyMap}
+use Rattle.ask.specs.Ask.{asked, verifyMap}
 use Rattle.map.specs.Call.{putDown, mapSound, mapCall, sound-not, sound-full, sound-mapped, call-misshaped, call-refused, call-asked}
 use Rattle.demands.specs.Decided.{accepted-not}
 

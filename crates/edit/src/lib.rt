@@ -92,14 +92,11 @@ pub fn is_own(level: usize, region: MemoryRegion, word: u64) -> bool
 }
 
 // The same edit of one chunk.
-pub fn chunk_edit(edit: Edit, start: u64, stop: u64) -> Edit
-    ensures { λ r. ⌜ r ≡ chunkEdit edit (region start stop) ⌝ }
+pub fn chunk_edit(edit: Edit, start: VirtualAddress, stop: VirtualAddress) -> Edit
+    ensures { λ r. ⌜ r ≡ chunkEdit edit (region (start .0) (stop .0)) ⌝ }
 {
     Edit {
-        region: MemoryRegion {
-            start: VirtualAddress(start),
-            end: VirtualAddress(stop),
-        },
+        region: MemoryRegion { start, end: stop },
         set: edit.set,
         clear: edit.clear,
         live: edit.live,
@@ -130,7 +127,7 @@ pub fn modify_range(
     while at < end {
         let stop = region::chunk_end(at, end, level);
         let i = region::entry_index(at, level);
-        let part = chunk_edit(edit, at, stop);
+        let part = chunk_edit(edit, VirtualAddress(at), VirtualAddress(stop));
         at = stop;
         if is_own(level, part.region, words[512 * k + i]) {
             continue;

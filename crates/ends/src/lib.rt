@@ -1,4 +1,6 @@
 // Refusal 9's count for an entry that is no table, from its chunk's two ends: no walk of the region.
+use address::PhysicalAddress;
+use address::VirtualAddress;
 use rules::Map;
 use rules::Rule;
 ghost use mathlib.Core.Path.{_≡_};
@@ -115,8 +117,18 @@ fn count_leaf(level: usize, map: Map, word: u64) -> u64
     let end = map.region.end.0;
     let frame = map.frame.0;
     let stop = region::chunk_end(start, end, level + 1);
-    let first = rules::chunk_of(map, start, stop, frame);
-    let rest = rules::chunk_of(map, stop, end, frame + (stop - start));
+    let first = rules::chunk_of(
+        map,
+        VirtualAddress(start),
+        VirtualAddress(stop),
+        PhysicalAddress(frame),
+    );
+    let rest = rules::chunk_of(
+        map,
+        VirtualAddress(stop),
+        VirtualAddress(end),
+        PhysicalAddress(frame + (stop - start)),
+    );
     let part = part_of(level, word, start);
     1 + count_leaf(level + 1, first, part) + count_rest(level + 1, rest)
 }
@@ -146,9 +158,16 @@ fn is_missed(level: usize, map: Map, word: u64) -> bool
 
 // The new tables for a chunk of an entry that is no table: from the chunk's ends at once, where rule 2 fits no part of it. The chunk that is looked into is
 // another record, so that the first is never in memory.
-pub fn count_entry(level: usize, map: Map, start: u64, end: u64, frame: u64, word: u64) -> u64
-    requires { ⌜ Fit (chunkMap map (region start end) frame) × Chunk level (chunkMap map (region start end) frame) × (level < 2) ⌝ }
-    ensures { λ r. ⌜ r ≡ closedLeaf (3 - level) (chunkMap map (region start end) frame) word ⌝ }
+pub fn count_entry(
+    level: usize,
+    map: Map,
+    start: VirtualAddress,
+    end: VirtualAddress,
+    frame: PhysicalAddress,
+    word: u64,
+) -> u64
+    requires { ⌜ Fit (chunkMap map (region (start .0) (end .0)) (frame .0)) × Chunk level (chunkMap map (region (start .0) (end .0)) (frame .0)) × (level < 2) ⌝ }
+    ensures { λ r. ⌜ r ≡ closedLeaf (3 - level) (chunkMap map (region (start .0) (end .0)) (frame .0)) word ⌝ }
 {
     let chunk = rules::chunk_of(map, start, end, frame);
     let rule = rules::rule_of(level, chunk, word);

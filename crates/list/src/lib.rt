@@ -153,16 +153,16 @@ pub fn list(
     words: &[u64],
     ledger: &[u32],
     handle: Handle,
-    start: u64,
-    end: u64,
+    start: VirtualAddress,
+    end: VirtualAddress,
     list: &mut [u64],
 ) -> Listed
-    ensures { λ r. ⌜ listing r (now (list .exit)) ≡ listCall handle (st (now (words .entry)) (now (ledger .entry))) start end (now (list .entry)) ⌝ }
+    ensures { λ r. ⌜ listing r (now (list .exit)) ≡ listCall handle (st (now (words .entry)) (now (ledger .entry))) (start .0) (end .0) (now (list .entry)) ⌝ }
 {
     if !pool::shape::is_shaped(words, ledger, handle) {
         return Listed::Refused(Refusal::Shape);
     }
-    let verified = verify_ends(handle, start, end);
+    let verified = verify_ends(handle, start.0, end.0);
     if let Outcome::Refused(refusal) = verified {
         return Listed::Refused(refusal);
     }
@@ -173,7 +173,7 @@ pub fn list(
         words,
         ledger.len(),
         handle,
-        MemoryRegion::new(start, end),
+        MemoryRegion::new(start.0, end.0),
         list,
     )
 }

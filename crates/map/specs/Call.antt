@@ -19,7 +19,7 @@ use Rattle.pool.specs.declared.Counted.the-variants as counted
 use Rattle.rules.specs.declared.Map.{Map}
 use Rattle.put.specs.Put.{mapRange}
 use Rattle.need.specs.Needed.{needed}
-use Rattle.map.specs.Ask.{asked, verifyMap}
+use Rattle.ask.specs.Ask.{asked, verifyMap}
 
 -- a refusal leaves the state as it was
 abbrev pub refused : Refusal → St → Out Counted

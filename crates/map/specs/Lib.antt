@@ -1,3 +1,2 @@
--- Map: what the call asks, and the call.
-pub mod Ask
+-- Map: the call.
 pub mod Call

@@ -1,6 +1,5 @@
 // The call: refusals 1 to 9 in their order, then the map.
 use crate::Constraints;
-use crate::ask;
 use address::PhysicalAddress;
 use address::VirtualAddress;
 use pool::Counted;
@@ -14,11 +13,25 @@ use region::MemoryRegion;
 use rules::Map;
 ghost use mathlib.Core.Path.{_≡_};
 ghost use Rattle.pool.specs.State.{st};
+ghost use Rattle.pool.specs.Number.{used};
 ghost use Rattle.pool.specs.Refuse.{Shaped, out};
+ghost use Rattle.pool.specs.declared.Counted.the-variants.{Tables};
 ghost use Rattle.rules.specs.Fit.{Fit};
-ghost use Rattle.map.specs.Call.{mapSound, mapCall};
+ghost use Rattle.map.specs.Call.{putDown, mapSound, mapCall};
 
-// Refusals 8 and 9, then the map, from the lowest table over its region. The tables in use are counted again only where one was taken or freed.
+// The map, from the lowest table over its region, and the tables in use afterwards: counted again only where one was taken or freed.
+fn put_down(words: &mut [u64], ledger: &mut [u32], handle: Handle, map: Map, before: usize) -> usize
+    requires { ⌜ Shaped handle (st (now words) (now ledger)) × Fit map × (before ≡ used (now ledger)) ⌝ }
+    ensures { λ r. ⌜ out (Tables r) (st (now (words .exit)) (now (ledger .exit))) ≡ putDown handle map (st (now (words .entry)) (now (ledger .entry))) ⌝ }
+{
+    let place = lead::lowest_table(words, ledger, handle, map);
+    if put::map_range(words, ledger, handle, place.table, place.level, map) {
+        return ledger::count_used(ledger);
+    }
+    before
+}
+
+// Refusals 8 and 9, then the map.
 fn map_sound(words: &mut [u64], ledger: &mut [u32], handle: Handle, map: Map) -> Counted
     requires { ⌜ Shaped handle (st (now words) (now ledger)) × Fit map ⌝ }
     ensures { λ r. ⌜ out r (st (now (words .exit)) (now (ledger .exit))) ≡ mapSound handle map (st (now (words .entry)) (now (ledger .entry))) ⌝ }
@@ -32,11 +45,7 @@ fn map_sound(words: &mut [u64], ledger: &mut [u32], handle: Handle, map: Map) ->
     if free < needed {
         return Counted::Refused(Refusal::WantOfRoom(needed, free));
     }
-    let place = lead::lowest_table(words, ledger, handle, map);
-    if put::map_range(words, ledger, handle, place.table, place.level, map) {
-        return Counted::Tables(ledger::count_used(ledger));
-    }
-    Counted::Tables(used)
+    Counted::Tables(put_down(words, ledger, handle, map, used))
 }
 
 // Puts a map down: each page of the region to its frame, ascending, with these flags.

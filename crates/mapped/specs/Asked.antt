@@ -26,7 +26,7 @@ use Rattle.pool.specs.declared.Outcome.the-variants.{Accepted, Refused}
 use Rattle.verify.specs.Verify.{endFits, span as wide, inRange, verify, lower-start, lower-end, upper-start, verify-forwards, verified-forwards}
 use Rattle.rules.specs.declared.Map.{Map}
 use Rattle.rules.specs.Fit.{Fit}
-use Rattle.map.specs.Ask.{asked, frameAsked, first as firstOf, verifyMap, passes, only-plain, asked-fit, up-pages}
+use Rattle.ask.specs.Ask.{asked, frameAsked, first as firstOf, verifyMap, passes, only-plain, asked-fit, up-pages}
 use Rattle.tree.specs.Page.{span, span-size, span-suc, first, in-from}
 use Rattle.tree.specs.Root.{upperRoot, upper-span}
 use Rattle.tree.specs.Chunks.{Inside}

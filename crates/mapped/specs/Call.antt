@@ -21,7 +21,7 @@ use Rattle.pool.specs.declared.Counted.the-variants as counted
 use Rattle.rules.specs.declared.Map.{Map}
 use Rattle.need.specs.Needed.{needed}
 use Rattle.put.specs.Put.{mapRange}
-use Rattle.map.specs.Ask.{verifyMap}
+use Rattle.ask.specs.Ask.{verifyMap}
 use Rattle.map.specs.Call.{refused, mapSound, sound-not, sound-full, sound-mapped, put-down, call-misshaped, call-refused, call-asked}
 use Rattle.forest.specs.Tree.{Tree}
 use Rattle.sound.specs.Clauses.{SoundPool}

@@ -14,7 +14,7 @@ use Rattle.pool.specs.declared.Refusal.the-variants.{WantOfRoom}
 use Rattle.pool.specs.declared.Counted.{Counted}
 use Rattle.pool.specs.declared.Counted.the-variants.{Refused}
 use Rattle.need.specs.Needed.{needed}
-use Rattle.map.specs.Ask.{asked}
+use Rattle.ask.specs.Ask.{asked}
 use Rattle.forest.specs.Tree.{Tree}
 use Rattle.forest.specs.Nodes.{nodes}
 use Rattle.sound.specs.Clauses.{SoundPool}

@@ -8,7 +8,7 @@ use Rattle.entry.specs.Word.{valid-of}
 use Rattle.pool.specs.State.{St, tables}
 use Rattle.pool.specs.Number.{used, free, used-free}
 use Rattle.pool.specs.declared.Handle.{Handle}
-use Rattle.map.specs.Ask.{asked}
+use Rattle.ask.specs.Ask.{asked}
 use Rattle.forest.specs.Tree.{Tree}
 use Rattle.forest.specs.Nodes.{nodes}
 use Rattle.forest.specs.Walk.{walkTree}

@@ -12,7 +12,7 @@ use Rattle.pool.specs.State.{St}
 use Rattle.pool.specs.declared.Handle.{Handle}
 use Rattle.pool.specs.declared.VaRange.{VaRange}
 use Rattle.pool.specs.declared.VaRange.the-variants.{Lower, Upper}
-use Rattle.map.specs.Ask.{asked}
+use Rattle.ask.specs.Ask.{asked}
 use Rattle.walk.specs.LookUp.{spanned, span-lower, span-upper}
 use Rattle.tree.specs.Page.{span, first, In, in-of}
 use Rattle.tree.specs.Chunks.{Inside}

@@ -16,7 +16,7 @@ use Rattle.pool.specs.declared.Outcome.the-variants.{Accepted}
 use Rattle.pool.specs.declared.Counted.{Counted}
 use Rattle.pool.specs.declared.Counted.the-variants.{Tables}
 use Rattle.rules.specs.declared.Map.{Map}
-use Rattle.map.specs.Ask.{asked, verifyMap}
+use Rattle.ask.specs.Ask.{asked, verifyMap}
 use Rattle.map.specs.Call.{mapCall}
 use Rattle.forest.specs.Tree.{Tree}
 use Rattle.sound.specs.Clauses.{SoundPool}

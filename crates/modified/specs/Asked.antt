@@ -16,7 +16,7 @@ use Rattle.pool.specs.declared.Outcome.{Outcome}
 use Rattle.pool.specs.declared.Outcome.the-variants.{Accepted, Refused}
 use Rattle.verify.specs.Verify.{endFits, verify, verified-forwards}
 use Rattle.edit.specs.declared.Edit.{Edit}
-use Rattle.modify.specs.Ask.{asked, verifyBits, thenRegion, verifyEdit, asked-span}
+use Rattle.permit.specs.Permit.{asked, verifyBits, thenRegion, verifyEdit, asked-span}
 use Rattle.mapped.specs.Terms.{rootOf}
 use Rattle.mapped.specs.Stand.{Allowed}
 use Rattle.mapped.specs.Pieces.{Area}

@@ -23,7 +23,7 @@ use Rattle.edit.specs.Own.{Numbered, numbered}
 use Rattle.edit.specs.Range.{Work, work, modifyRange}
 use Rattle.modify.specs.declared.Modified.{Modified}
 use Rattle.modify.specs.declared.Modified.the-variants as modified
-use Rattle.modify.specs.Ask.{asked, verifyEdit, verifySurvey, survey-full, survey-off, survey-broken, survey-short, survey-accepted}
+use Rattle.permit.specs.Permit.{asked, verifyEdit, verifySurvey, survey-full, survey-off, survey-broken, survey-short, survey-accepted}
 use Rattle.modify.specs.Call.{Modifying, modifying, refused, answerOf, editTables, modifySound, sound-not, sound-refused, sound-edited, call-misshaped, call-refused, call-asked}
 use Rattle.modify.specs.Call.{nothing}
 use Rattle.forest.specs.Tree.{Tree}

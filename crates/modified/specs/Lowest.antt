@@ -16,7 +16,7 @@ use Rattle.pool.specs.declared.Handle.{Handle}
 use Rattle.edit.specs.declared.Edit.{Edit}
 use Rattle.edit.specs.Word.{editWord}
 use Rattle.survey.specs.House.{mayChange}
-use Rattle.modify.specs.Ask.{asked}
+use Rattle.permit.specs.Permit.{asked}
 use Rattle.modify.specs.Call.{nothing}
 use Rattle.forest.specs.Tree.{Tree}
 use Rattle.forest.specs.Walk.{Ends, walkTree}

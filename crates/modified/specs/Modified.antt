@@ -16,7 +16,7 @@ use Rattle.pool.specs.declared.Refusal.the-variants.{WantOfRoom, HouseRule, Sho
 use Rattle.edit.specs.Word.{editWord}
 use Rattle.survey.specs.House.{mayChange}
 use Rattle.modify.specs.declared.Modified.the-variants.{Refused}
-use Rattle.modify.specs.Ask.{asked}
+use Rattle.permit.specs.Permit.{asked}
 use Rattle.modify.specs.Call.{Modifying, modifying}
 use Rattle.forest.specs.Tree.{Tree}
 use Rattle.forest.specs.Nodes.{nodes}

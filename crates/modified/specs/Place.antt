@@ -3,7 +3,7 @@ use Prim.Native.Nat.{ℕ, suc, _/_}
 use Rattle.region.specs.Region.{rounded}
 use Rattle.pool.specs.State.{St}
 use Rattle.pool.specs.declared.Handle.{Handle}
-use Rattle.modify.specs.Ask.{asked}
+use Rattle.permit.specs.Permit.{asked}
 use Rattle.tree.specs.Page.{In}
 use Rattle.tree.specs.Demands.{OfRegion}
 use Rattle.mapped.specs.Terms.{leftOf, rootIn}

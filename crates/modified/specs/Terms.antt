@@ -15,7 +15,7 @@ use Rattle.edit.specs.declared.Edit.{Edit}
 use Rattle.survey.specs.declared.Survey.{Survey}
 use Rattle.modify.specs.declared.Modified.{Modified}
 use Rattle.modify.specs.declared.Modified.the-variants.{Tables, Live}
-use Rattle.modify.specs.Ask.{asked, verifyEdit}
+use Rattle.permit.specs.Permit.{asked, verifyEdit}
 use Rattle.modify.specs.Call.{Modifying, modifying, modifyCall, surveyOf}
 use Rattle.forest.specs.Tree.{Tree}
 use Rattle.sound.specs.Clauses.{SoundPool}

@@ -20,7 +20,7 @@ use Rattle.survey.specs.declared.Survey.{Survey}
 use Rattle.survey.specs.Find.{surveyRange}
 use Rattle.modify.specs.declared.Modified.{Modified}
 use Rattle.modify.specs.declared.Modified.the-variants as modified
-use Rattle.modify.specs.Ask.{asked, verifyEdit, verifySurvey}
+use Rattle.permit.specs.Permit.{asked, verifyEdit, verifySurvey}
 
 -- the answer, the state and the list
 pub record Modifying : Type 0 where

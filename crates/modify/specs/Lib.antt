@@ -1,3 +1,2 @@
--- Modify: what it asks, and the call.
-pub mod Ask
+-- Modify: the call.
 pub mod Call

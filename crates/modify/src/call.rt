@@ -1,6 +1,5 @@
 // The call: refusals 1 to 11 in their order, then the edit.
 use crate::Modified;
-use crate::ask;
 use address::VirtualAddress;
 use edit::Edit;
 use pool::Handle;
@@ -59,7 +58,7 @@ fn modify_sound(
         word: 0,
     };
     let found = survey::survey_range(words, ledger, handle, 0, handle.level, edit, none);
-    let outcome = ask::verify_survey(free, list.len() as u64, edit.live, found);
+    let outcome = permit::verify_survey(free, list.len() as u64, edit.live, found);
     match outcome {
         Outcome::Refused(refusal) => Modified::Refused(refusal),
         Outcome::Accepted => edit_tables(words, ledger, handle, edit, list),
@@ -90,7 +89,7 @@ pub fn modify(
         clear,
         live,
     };
-    let outcome = ask::verify_edit(handle, end.0, asked);
+    let outcome = permit::verify_edit(handle, end.0, asked);
     match outcome {
         Outcome::Refused(refusal) => Modified::Refused(refusal),
         Outcome::Accepted => modify_sound(words, ledger, handle, asked, list),

@@ -1,5 +1,4 @@
 // Modify: bits set and cleared in the valid blocks and pages of a region. modify_range of paging.rs (aarch64-paging 0.12.3), on a pool of tables.
-pub mod ask;
 pub mod call;
 
 use pool::Refusal;

@@ -80,7 +80,14 @@ pub extern "C" fn ptb_list(
         ≡ listFace base level range (st (now (words .entry)) (now (ledger .entry))) start end (now (lines .entry)) (now (answer .entry)) ⌝ }
 {
     let handle = handle::handle_of(base, level, range);
-    let listed = list::list(words, ledger, handle, start, end, lines);
+    let listed = list::list(
+        words,
+        ledger,
+        handle,
+        VirtualAddress(start),
+        VirtualAddress(end),
+        lines,
+    );
     answer::answer_listed(listed, answer)
 }
 

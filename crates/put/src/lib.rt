@@ -1,4 +1,6 @@
 // Putting a map down in one table and the tables below it: map_range of PageTableWithLevel.
+use address::PhysicalAddress;
+use address::VirtualAddress;
 use entry::Sub;
 use pool::Found;
 use pool::Handle;
@@ -90,7 +92,8 @@ pub fn map_range(
     while at < end {
         let stop = region::chunk_end(at, end, level);
         let i = region::entry_index(at, level);
-        let chunk = rules::chunk_of(map, at, stop, frame);
+        let start = VirtualAddress(at);
+        let chunk = rules::chunk_of(map, start, VirtualAddress(stop), PhysicalAddress(frame));
         frame += stop - at;
         at = stop;
         let word = words[512 * k + i];

@@ -29,7 +29,7 @@ use Rattle.rules.specs.Rules.{tableWord, rule2, blockable, rule3, rule4, ruleOf
 use Rattle.split.specs.Split.{splitEntry, belowOf, below, inFound, into}
 use Rattle.put.specs.Put.{dropEntry, byRule, mapChunk, eachOf, eachChunk, mapRange}
 use Rattle.need.specs.Needed.{ifDown, sumOf, sumChunks, childWord, neededLeaf, needBelow, needChunk, needTable, needed}
-use Rattle.map.specs.Ask.{asked, frameAsked, first, verifyMap}
+use Rattle.ask.specs.Ask.{asked, frameAsked, first, verifyMap}
 use Rattle.map.specs.Call.{putDown, mapSound, orElse, mapCall}
 
 unfoldable pub handle : ℕ → Handle

@@ -26,7 +26,7 @@ use Rattle.edit.specs.Own.{putNumber, ownChunk, ownRange}
 use Rattle.edit.specs.Range.{own, onward, downChunk, ownWork, modifyRange}
 use Rattle.survey.specs.House.{houseRule, mayChange}
 use Rattle.survey.specs.Find.{adding, splitsIn, breach, ifBlock, surveyPart, surveyWhole, surveyEntry, surveySub, surveyChunk, surveyRange}
-use Rattle.modify.specs.Ask.{asked, verifyBits, thenRegion, verifyEdit, verifySurvey}
+use Rattle.permit.specs.Permit.{asked, verifyBits, thenRegion, verifyEdit, verifySurvey}
 use Rattle.modify.specs.Call.{modifying, answerOf, editTables, orElse, modifySound, modifyCall}
 use Rattle.modify.specs.declared.Modified.{Modified}
 use Rattle.modify.specs.declared.Modified.the-variants.{Tables, Live, Refused}

@@ -26,32 +26,34 @@ pub enum Rule {
 }
 
 // The map of one chunk, with its frame.
-pub fn chunk_of(map: Map, start: u64, stop: u64, frame: u64) -> Map
-    ensures { λ r. ⌜ r ≡ chunkMap map (region start stop) frame ⌝ }
+pub fn chunk_of(
+    map: Map,
+    start: VirtualAddress,
+    stop: VirtualAddress,
+    frame: PhysicalAddress,
+) -> Map
+    ensures { λ r. ⌜ r ≡ chunkMap map (region (start .0) (stop .0)) (frame .0) ⌝ }
 {
     Map {
-        region: MemoryRegion {
-            start: VirtualAddress(start),
-            end: VirtualAddress(stop),
-        },
-        frame: PhysicalAddress(frame),
+        region: MemoryRegion { start, end: stop },
+        frame,
         flags: map.flags,
         blocks: map.blocks,
     }
 }
 
 // A page or block with these flags, or the flags alone where they are not VALID.
-pub fn leaf_word(level: usize, frame: u64, flags: u64) -> u64
-    requires { ⌜ (frame % 4096 ≡ 0) × (frame < 2 ^ 48) × Plain flags ⌝ }
-    ensures { λ r. ⌜ r ≡ leafWord level frame flags ⌝ }
+pub fn leaf_word(level: usize, frame: PhysicalAddress, flags: u64) -> u64
+    requires { ⌜ (frame .0 % 4096 ≡ 0) × (frame .0 < 2 ^ 48) × Plain flags ⌝ }
+    ensures { λ r. ⌜ r ≡ leafWord level (frame .0) flags ⌝ }
 {
     if flags % 2 != 1 {
         return flags;
     }
     if address::LEAF_LEVEL <= level {
-        return frame + flags + 2;
+        return frame.0 + flags + 2;
     }
-    frame + flags
+    frame.0 + flags
 }
 
 // Rule 2: the entry maps the chunk already.
@@ -90,7 +92,7 @@ pub fn rule_of(level: usize, map: Map, word: u64) -> Rule
     ensures { λ r. ⌜ r ≡ ruleOf level map word ⌝ }
 {
     if address::LEAF_LEVEL <= level {
-        return Rule::Write(leaf_word(level, map.frame.0, map.flags));
+        return Rule::Write(leaf_word(level, map.frame, map.flags));
     }
     if is_same(level, map, word) {
         return Rule::Keep;
@@ -106,7 +108,7 @@ pub fn rule_of(level: usize, map: Map, word: u64) -> Rule
         return Rule::Down;
     }
     if is_blockable(level, map) {
-        return Rule::Write(leaf_word(level, map.frame.0, map.flags));
+        return Rule::Write(leaf_word(level, map.frame, map.flags));
     }
     Rule::Down
 }

@@ -1,4 +1,5 @@
 // An entry that is no table becomes one: split_entry of paging.rs (aarch64-paging 0.12.3). Map and modify go down by it.
+use address::PhysicalAddress;
 use entry::Sub;
 use pool::Found;
 use pool::Handle;
@@ -28,7 +29,7 @@ pub fn split_entry(
         return table::take_table(words, ledger, handle, level + 1, k, i, flags, 0);
     }
     let address = (word & entry::ADDRESS_BITS) & !(address::granularity_at_level(level) - 1);
-    let first = rules::leaf_word(level + 1, address, flags);
+    let first = rules::leaf_word(level + 1, PhysicalAddress(address), flags);
     let step = address::granularity_at_level(level + 1);
     table::take_table(words, ledger, handle, level + 1, k, i, first, step)
 }

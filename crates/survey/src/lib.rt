@@ -149,7 +149,7 @@ pub fn survey_range(
     while at < end {
         let stop = region::chunk_end(at, end, level);
         let i = region::entry_index(at, level);
-        let part = edit::chunk_edit(edit, at, stop);
+        let part = edit::chunk_edit(edit, VirtualAddress(at), VirtualAddress(stop));
         at = stop;
         let word = words[512 * k + i];
         let kind = entry::subtable(handle.base, ledger.len(), level, word);

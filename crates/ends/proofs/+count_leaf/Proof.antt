@@ -115,11 +115,11 @@ count-leaf-chunk-end-requires t c κs = tt
 count-leaf-chunk-of-requires : (t : ℕ) → count-leaf-lts.Need-chunk-of-requires (calls t) (count-leaf-at t) count-leaf.Post
 count-leaf-chunk-of-requires t c κs = tt
 
-count-leaf-sub-chunk-of : (t : ℕ) → count-leaf-lts.Need-sub-chunk-of (calls t) (count-leaf-at t) count-leaf.Post
-count-leaf-sub-chunk-of t c = omega (arith, facts t (c .before) .fits .0)
+count-leaf-sub-result : (t : ℕ) → count-leaf-lts.Need-sub-result (calls t) (count-leaf-at t) count-leaf.Post
+count-leaf-sub-result t c = omega (arith, facts t (c .before) .fits .0)
 
-count-leaf-add-chunk-of : (t : ℕ) → count-leaf-lts.Need-add-chunk-of (calls t) (count-leaf-at t) count-leaf.Post
-count-leaf-add-chunk-of t c = let f = facts t (c .before) in omega (arith, f .fits .0, f .fits .1, c .before .before .before .before .before .before .pre .1 .0 .room)
+count-leaf-add-result : (t : ℕ) → count-leaf-lts.Need-add-result (calls t) (count-leaf-at t) count-leaf.Post
+count-leaf-add-result t c = let f = facts t (c .before) in omega (arith, f .fits .0, f .fits .1, c .before .before .before .before .before .before .pre .1 .0 .room)
 
 count-leaf-chunk-of-requires-2 : (t : ℕ) → count-leaf-lts.Need-chunk-of-requires-2 (calls t) (count-leaf-at t) count-leaf.Post
 count-leaf-chunk-of-requires-2 t c κs = tt
@@ -134,8 +134,8 @@ count-leaf-count-leaf-requires : (t : ℕ) → count-leaf-lts.Need-count-leaf-re
 count-leaf-count-leaf-requires t c κs = let f = facts t (c .before .before .before) in
     (omega (arith, f .high, c .before .before .before .before .before .before .before .before .pre .0), subst⁻¹ (λ (m : Map). Fit m × (m .region .start .0 < m .region .end .0)) (c .before .before .chunk-of .ensures) (f .fit, f .fits .0))
 
-count-leaf-add-result : (t : ℕ) → count-leaf-lts.Need-add-result (calls t) (count-leaf-at t) count-leaf.Post
-count-leaf-add-result t c = omega (arith, deeper-fits t c)
+count-leaf-add-result-2 : (t : ℕ) → count-leaf-lts.Need-add-result-2 (calls t) (count-leaf-at t) count-leaf.Post
+count-leaf-add-result-2 t c = omega (arith, deeper-fits t c)
 
 count-leaf-add-count-rest : (t : ℕ) → count-leaf-lts.Need-add-count-rest (calls t) (count-leaf-at t) count-leaf.Post
 count-leaf-add-count-rest t c = omega (arith, facts t (c .before .before .before .before) .high)
@@ -145,8 +145,8 @@ count-leaf-count-rest-requires t c κs = let f = facts t (c .before .before .bef
     let length : restOf t (c .before .before .before .before) .region .end .0 - restOf t (c .before .before .before .before) .region .start .0 ≤ 2 ^ 48 = omega (arith, f .fits .0, f .length) in
     subst⁻¹ (λ (m : Map). m .region .end .0 - m .region .start .0 ≤ 2 ^ 48) (c .before .before .chunk-of2 .ensures) length
 
-count-leaf-add-result-2 : (t : ℕ) → count-leaf-lts.Need-add-result-2 (calls t) (count-leaf-at t) count-leaf.Post
-count-leaf-add-result-2 t c =
+count-leaf-add-result-3 : (t : ℕ) → count-leaf-lts.Need-add-result-3 (calls t) (count-leaf-at t) count-leaf.Post
+count-leaf-add-result-3 t c =
     let f = facts t (c .before .before .before .before .before) in
     omega (arith, deeper-fits t (c .before), rested t c, rests-fit (c .before .before .before .before .before .before .before .before .before .before .args .level + 1) (restOf t (c .before .before .before .before .before)), f .fits .0, f .length)
 
@@ -169,14 +169,14 @@ pub +count-leaf-spec : {M : Type 1} → statement M
     (count-leaf-add-chunk-end t)
     (count-leaf-chunk-end-requires t)
     (count-leaf-chunk-of-requires t)
-    (count-leaf-sub-chunk-of t)
-    (count-leaf-add-chunk-of t)
+    (count-leaf-sub-result t)
+    (count-leaf-add-result t)
     (count-leaf-chunk-of-requires-2 t)
     (count-leaf-part-of-requires t)
     (count-leaf-add-count-leaf t)
     (count-leaf-count-leaf-requires t)
-    (count-leaf-add-result t)
+    (count-leaf-add-result-2 t)
     (count-leaf-add-count-rest t)
     (count-leaf-count-rest-requires t)
-    (count-leaf-add-result-2 t)
+    (count-leaf-add-result-3 t)
     (count-leaf-returns-3 t)

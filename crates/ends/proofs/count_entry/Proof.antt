@@ -22,7 +22,7 @@ use Rattle.rules.proofs.rule_of.Reads as rule-of-reads
 
 -- the chunk
 abbrev chunk : tie.Start → Map
-chunk c = chunkMap (c .args .map) (region (c .args .start) (c .args .end)) (c .args .frame)
+chunk c = chunkMap (c .args .map) (region (c .args .start .0) (c .args .end .0)) (c .args .frame .0)
 
 -- what rule_of and count_leaf ask of it
 abbrev Ready : Map → Type 0

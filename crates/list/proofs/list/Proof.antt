@@ -28,7 +28,7 @@ is-shaped-requires c κs = omega arith
 returns : tie.Need-returns
 returns c =
     let a = c .before .before .before .before .before .args in
-    list-misshaped (a .handle) (st (a .words .now) (a .ledger .now)) (a .start) (a .end) (a .list .now) (sym (c .before .is-shaped .ensures) ∙ not-true _ (c .if1 .taken))
+    list-misshaped (a .handle) (st (a .words .now) (a .ledger .now)) (a .start .0) (a .end .0) (a .list .now) (sym (c .before .is-shaped .ensures) ∙ not-true _ (c .if1 .taken))
 
 verify-ends-requires : tie.Need-verify-ends-requires
 verify-ends-requires c κs = omega arith
@@ -39,7 +39,7 @@ enum-known-verified c = omega arith
 returns-2 : tie.Need-returns-2
 returns-2 c =
     let a = c .before .before .before .before .before .before .before .before .before .args in
-    list-region (a .handle) (st (a .words .now) (a .ledger .now)) (a .start) (a .end) (a .list .now) (good (c .before .before .before .before)) (c .before .before .before .verify-ends .ensures) _ (c .before .verified .given .1)
+    list-region (a .handle) (st (a .words .now) (a .ledger .now)) (a .start .0) (a .end .0) (a .list .now) (good (c .before .before .before .before)) (c .before .before .before .verify-ends .ensures) _ (c .before .verified .given .1)
 
 enum-told : tie.Need-enum-told
 enum-told c = omega arith
@@ -50,7 +50,7 @@ is-sound-requires c κs = shape (c .before .before .before)
 returns-3 : tie.Need-returns-3
 returns-3 c =
     let a = c .before .before .before .before .before .before .before .before .before .before .args in
-    list-unsound (a .handle) (st (a .words .now) (a .ledger .now)) (a .start) (a .end) (a .list .now) (good (c .before .before .before .before .before)) (c .before .before .before .before .verify-ends .ensures) (c .before .before .enum-told .given .1) (sym (c .before .is-sound .ensures) ∙ not-true _ (c .if2 .taken))
+    list-unsound (a .handle) (st (a .words .now) (a .ledger .now)) (a .start .0) (a .end .0) (a .list .now) (good (c .before .before .before .before .before)) (c .before .before .before .before .verify-ends .ensures) (c .before .before .enum-told .given .1) (sym (c .before .is-sound .ensures) ∙ not-true _ (c .if2 .taken))
 
 new-requires : tie.Need-new-requires
 new-requires c κs = omega arith
@@ -59,7 +59,7 @@ list-lines-requires : tie.Need-list-lines-requires
 list-lines-requires c κs =
     let a = c .before .before .before .before .before .before .before .before .before .before .before .before .args in
     let p = shape (c .before .before .before .before .before .before .before) in
-    (p .sized, p .some, p .level, verified-length (a .handle) (a .start) (a .end) (sym (c .before .before .before .before .before .before .verify-ends .ensures) ∙ c .before .before .before .before .enum-told .given .1) (c .before .new .ensures))
+    (p .sized, p .some, p .level, verified-length (a .handle) (a .start .0) (a .end .0) (sym (c .before .before .before .before .before .before .verify-ends .ensures) ∙ c .before .before .before .before .enum-told .given .1) (c .before .new .ensures))
 
 same-length : tie.Need-same-length
 same-length c = omega arith
@@ -68,7 +68,7 @@ returns-4 : tie.Need-returns-4
 returns-4 c =
     let a = c .before .before .before .before .before .before .before .before .before .before .before .before .before .before .before .args in
     c .before .before .list-lines .ensures
-    ∙ list-sound (a .handle) (st (a .words .now) (a .ledger .now)) (a .start) (a .end) (a .list .now) (good (c .before .before .before .before .before .before .before .before .before .before)) (c .before .before .before .before .before .before .before .before .before .verify-ends .ensures) (c .before .before .before .before .before .before .before .enum-told .given .1)
+    ∙ list-sound (a .handle) (st (a .words .now) (a .ledger .now)) (a .start .0) (a .end .0) (a .list .now) (good (c .before .before .before .before .before .before .before .before .before .before)) (c .before .before .before .before .before .before .before .before .before .verify-ends .ensures) (c .before .before .before .before .before .before .before .enum-told .given .1)
     (sym (c .before .before .before .before .before .before .is-sound .ensures) ∙ not-false _ (c .before .before .before .before .before .if2 .left)) (c .before .before .before .before .new .ensures)
 
 pub list-spec : {M : Type 1} → statement M

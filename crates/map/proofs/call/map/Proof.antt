@@ -7,13 +7,13 @@ use Rattle.pool.specs.State.{st}
 use Rattle.pool.specs.Refuse.{shaped, shaped-says}
 use Rattle.rules.specs.declared.Map.{Map}
 use Rattle.rules.specs.Fit.{Fit}
-use Rattle.map.specs.Ask.{verifyMap, asked-is, asked-fit}
+use Rattle.ask.specs.Ask.{verifyMap, asked-is, asked-fit}
 use Rattle.map.specs.Call.{mapSound, call-misshaped, call-refused, call-asked}
 use Rattle.map.proofs.call.map.Statement.{statement}
 use Rattle.map.proofs.call.map.Tie as tie
 use Rattle.map.proofs.call.map.Reads as reads
 use Rattle.map.proofs.call.map.Lts as lts
-use Rattle.map.proofs.ask.verify_map.Reads as verify-map-reads
+use Rattle.ask.proofs.verify_map.Reads as verify-map-reads
 use Rattle.map.proofs.call.map_sound.Reads as map-sound-reads
 use Rattle.pool.proofs.shape.is_shaped.Reads as is-shaped-reads
 use Rattle.region.proofs.MemoryRegion.new.Reads as new-reads

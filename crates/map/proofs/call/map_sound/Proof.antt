@@ -1,4 +1,4 @@
-use mathlib.Core.Path.{_≡_, sym, ap, _∙_}
+use mathlib.Core.Path.{_≡_, _∙_}
 use mathlib.Core.Bool.{true}
 use mathlib.Core.List.{List}
 use Prim.Native.Nat.{ℕ, _-_}
@@ -7,7 +7,7 @@ use lib.ListN.{length}
 use Rattle.pool.specs.State.{St, st}
 use Rattle.pool.specs.Number.{used, free, used-free}
 use Rattle.pool.specs.Sound.{soundb}
-use Rattle.pool.specs.Refuse.{maxTables, Shaped}
+use Rattle.pool.specs.Refuse.{Shaped}
 use Rattle.pool.specs.declared.Handle.{Handle}
 use Rattle.checker.specs.Check.{count-unsound, count-sound}
 use Rattle.rules.specs.declared.Map.{Map}
@@ -15,16 +15,14 @@ use Rattle.need.specs.Needed.{needed}
 use Rattle.need.specs.Closed.{closed}
 use Rattle.count.specs.Laws.{over-past, over-within}
 use Rattle.need.specs.SoundCount.{closed-needed}
-use Rattle.map.specs.Call.{putDown, mapSound, sound-not, sound-full, sound-mapped, put-down}
+use Rattle.map.specs.Call.{sound-not, sound-full, sound-mapped}
 use Rattle.map.proofs.call.map_sound.Statement.{statement}
 use Rattle.map.proofs.call.map_sound.Tie as tie
 use Rattle.map.proofs.call.map_sound.Reads as reads
 use Rattle.map.proofs.call.map_sound.Lts as lts
 use Rattle.checker.proofs.count_sound.Reads as count-sound-reads
-use Rattle.put.proofs.map_range.Reads as map-range-reads
-use Rattle.lead.proofs.lowest_table.Reads as lowest-table-reads
 use Rattle.count.proofs.count_over.Reads as count-over-reads
-use Rattle.pool.proofs.ledger.count_used.Reads as count-used-reads
+use Rattle.map.proofs.call.put_down.Reads as put-down-reads
 
 -- refusal 9's count, as it is computed, is document 01's in a sound pool
 counts : (h : Handle) (s : St) (m : Map) → Shaped h s → soundb h s ≡ true → closed (3 - h .level) h s 0 m ≡ needed (3 - h .level) h s 0 m
@@ -81,53 +79,30 @@ returns-2 c =
     sound-full (a .handle) (a .map) s (known .0) (over-past _ _ (c .before .count-over .ensures) (c .if1 .taken) ∙ counts (a .handle) s (a .map) (start .pre .0) (known .0))
     (room (a .ledger .now) _ (known .1)) (c .if1 .taken)
 
-lowest-table-requires : tie.Need-lowest-table-requires
-lowest-table-requires c κs = let p = c .before .before .before .before .before .before .before .before .before .before .before .before .before .before .pre in (p .0, p .1)
-
-map-range-requires : tie.Need-map-range-requires
-map-range-requires c κs = let p = c .before .before .before .before .before .before .before .before .before .before .before .before .before .before .before .before .before .pre in let serves = c .before .before .lowest-table .ensures in (p .0, serves .1, serves .2, p .1)
-
-count-used-requires : tie.Need-count-used-requires
-unfolding maxTables
-count-used-requires c κs = omega (arith, c .before .before .before .before .before .before .before .before .before .before .before .before .before .before .before .before .before .before .before .before .before .before .before .before .pre .0 .limit)
-
-same-length-5 : tie.Need-same-length-5
-same-length-5 c = c .before .before .before .before .before .before .before .map-range .kept .0
-
-same-length-6 : tie.Need-same-length-6
-same-length-6 c = c .before .before .before .before .before .before .before .map-range .kept .1 .0
-
--- nothing is refused, so the map is put down
-enough : (c : tie.After-map-range) → let a = c .before .before .before .before .before .before .before .before .before .before .before .before .before .before .before .before .before .before .args in let s = st (a .words .now) (a .ledger .now) in putDown (a .handle) (a .map) s ≡ mapSound (a .handle) (a .map) s
-enough c =
-    let start = c .before .before .before .before .before .before .before .before .before .before .before .before .before .before .before .before .before .before in
+put-down-requires : tie.Need-put-down-requires
+put-down-requires c κs =
+    let start = c .before .before .before .before .before .before .before .before .before .before .before .before .before .before in
     let a = start .args in
     let s = st (a .words .now) (a .ledger .now) in
-    let known = count-sound (a .handle) s (c .before .before .before .before .before .before .before .before .before .before .before .before .before .count-sound .ensures) _ (c .before .before .before .before .before .before .before .before .before .before .before .found .given .1) in
-    sound-mapped (a .handle) (a .map) s (known .0) (counts (a .handle) s (a .map) (start .pre .0) (known .0)) (room (a .ledger .now) _ (known .1))
-    (over-within _ _ (c .before .before .before .before .before .before .before .count-over .ensures) (c .before .before .before .before .before .before .if1 .left))
+    let known = count-sound (a .handle) s (c .before .before .before .before .before .before .before .before .before .count-sound .ensures) _ (c .before .before .before .before .before .before .before .found .given .1) in
+    (start .pre .0, start .pre .1, known .1)
 
+same-length-5 : tie.Need-same-length-5
+same-length-5 c = c .before .before .before .before .put-down .kept .0
+
+same-length-6 : tie.Need-same-length-6
+same-length-6 c = c .before .before .before .before .put-down .kept .1 .0
+
+-- nothing is refused, so the map is put down
 returns-3 : tie.Need-returns-3
 returns-3 c =
-    let a = c .before .before .before .before .before .before .before .before .before .before .before .before .before .before .before .before .before .before .before .before .before .before .before .before .before .args in
-    put-down (a .handle) (a .map) (st (a .words .now) (a .ledger .now)) (c .before .before .before .before .before .before .before .map-range .ensures .0 ∙ c .before .before .before .before .before .before .before .before .before .before .lowest-table .ensures .0) (c .count-used .ensures)
-    ∙ enough (c .before .before .before .before .before .before .before)
-
-same-length-7 : tie.Need-same-length-7
-same-length-7 c = c .before .before .before .before .before .map-range .kept .0
-
-same-length-8 : tie.Need-same-length-8
-same-length-8 c = c .before .before .before .before .before .map-range .kept .1 .0
-
--- the ledger is as it was, and so is its count
-returns-4 : tie.Need-returns-4
-returns-4 c =
-    let a = c .before .before .before .before .before .before .before .before .before .before .before .before .before .before .before .before .before .before .before .before .before .before .before .args in
+    let start = c .before .before .before .before .before .before .before .before .before .before .before .before .before .before .before .before .before .before .before in
+    let a = start .args in
     let s = st (a .words .now) (a .ledger .now) in
-    let known = count-sound (a .handle) s (c .before .before .before .before .before .before .before .before .before .before .before .before .before .before .before .before .before .before .count-sound .ensures) _ (c .before .before .before .before .before .before .before .before .before .before .before .before .before .before .before .before .found .given .1) in
-    let same = c .before .before .before .before .before .map-range .ensures .1 (c .if2 .left) in
-    put-down (a .handle) (a .map) s (c .before .before .before .before .before .map-range .ensures .0 ∙ c .before .before .before .before .before .before .before .before .lowest-table .ensures .0) (known .1 ∙ ap (λ (l : List ℕ). used l) (sym same))
-    ∙ enough (c .before .before .before .before .before)
+    let known = count-sound (a .handle) s (c .before .before .before .before .before .before .before .before .before .before .before .before .before .before .count-sound .ensures) _ (c .before .before .before .before .before .before .before .before .before .before .before .before .found .given .1) in
+    c .before .before .before .before .put-down .ensures
+    ∙ sound-mapped (a .handle) (a .map) s (known .0) (counts (a .handle) s (a .map) (start .pre .0) (known .0)) (room (a .ledger .now) _ (known .1))
+    (over-within _ _ (c .before .before .before .before .before .before .before .before .count-over .ensures) (c .before .before .before .before .before .before .before .if1 .left))
 
 pub map-sound-spec : {M : Type 1} → statement M
 map-sound-spec =
@@ -144,12 +119,7 @@ map-sound-spec =
     same-length-3
     same-length-4
     returns-2
-    lowest-table-requires
-    map-range-requires
-    count-used-requires
+    put-down-requires
     same-length-5
     same-length-6
-    returns-3
-    same-length-7
-    same-length-8
-    returns-4)
+    returns-3)

@@ -6,13 +6,13 @@ use borrow.Author.Tests.{not-true, not-false}
 use Rattle.pool.specs.State.{st}
 use Rattle.pool.specs.Refuse.{shaped, shaped-says}
 use Rattle.edit.specs.declared.Edit.{Edit}
-use Rattle.modify.specs.Ask.{verifyEdit, asked, asked-is, asked-span}
+use Rattle.permit.specs.Permit.{verifyEdit, asked, asked-is, asked-span}
 use Rattle.modify.specs.Call.{modifySound, call-misshaped, call-refused, call-asked}
 use Rattle.modify.proofs.call.modify.Statement.{statement}
 use Rattle.modify.proofs.call.modify.Tie as tie
 use Rattle.modify.proofs.call.modify.Reads as reads
 use Rattle.modify.proofs.call.modify.Lts as lts
-use Rattle.modify.proofs.ask.verify_edit.Reads as verify-edit-reads
+use Rattle.permit.proofs.verify_edit.Reads as verify-edit-reads
 use Rattle.modify.proofs.call.modify_sound.Reads as modify-sound-reads
 use Rattle.pool.proofs.shape.is_shaped.Reads as is-shaped-reads
 use Rattle.region.proofs.MemoryRegion.new.Reads as new-reads

@@ -6,7 +6,20 @@ use pool::Refusal;
 use pool::shape;
 use survey::Survey;
 ghost use mathlib.Core.Path.{_≡_};
-ghost use Rattle.modify.specs.Ask.{verifyBits, verifyEdit, verifySurvey};
+ghost use Rattle.permit.specs.Permit.{settable, verifyBits, verifyEdit, verifySurvey};
+
+// Whether these bits may be set: all from the flags, bit 0 not among them, none that is cleared too.
+fn are_settable(flags: u64, set: u64, clear: u64) -> bool
+    ensures { λ r. ⌜ r ≡ settable flags set clear ⌝ }
+{
+    if !entry::are_from(set, flags) {
+        return false;
+    }
+    if set % 2 == 1 {
+        return false;
+    }
+    set & clear == 0
+}
 
 // Refusals 3 and 4: the bits to set come before the bits to clear.
 fn verify_bits(handle: Handle, set: u64, clear: u64) -> Outcome
@@ -19,13 +32,7 @@ fn verify_bits(handle: Handle, set: u64, clear: u64) -> Outcome
         return Outcome::Refused(Refusal::InvalidFlags(clear));
     }
     let flags = shape::flag_set(handle);
-    if !entry::are_from(set, flags) {
-        return Outcome::Refused(Refusal::FlagSet(set));
-    }
-    if set % 2 == 1 {
-        return Outcome::Refused(Refusal::FlagSet(set));
-    }
-    if set & clear != 0 {
+    if !are_settable(flags, set, clear) {
         return Outcome::Refused(Refusal::FlagSet(set));
     }
     if !entry::are_from(clear, flags) {

@@ -5,14 +5,14 @@ use borrow.Author.Tests.{not-true, not-false}
 use Rattle.entry.specs.Word.{only}
 use Rattle.pool.specs.Sound.{flagSet}
 use Rattle.verify.specs.Verify.{endFits}
-use Rattle.map.specs.Ask.{frameAsked, ask-end, ask-invalid, ask-set, ask-region, ask-frame}
+use Rattle.ask.specs.Ask.{frameAsked, ask-end, ask-invalid, ask-set, ask-region, ask-frame}
 use borrow.Author.Needs.{needs}
-use Rattle.map.proofs.ask.verify_map.Statement.{statement}
-use Rattle.map.proofs.ask.verify_map.Tie as tie
-use Rattle.map.proofs.ask.verify_map.Reads as reads
-use Rattle.map.proofs.ask.verify_map.Lts as lts
+use Rattle.ask.proofs.verify_map.Statement.{statement}
+use Rattle.ask.proofs.verify_map.Tie as tie
+use Rattle.ask.proofs.verify_map.Reads as reads
+use Rattle.ask.proofs.verify_map.Lts as lts
 use Rattle.entry.proofs.are_from.Reads as are-from-reads
-use Rattle.map.proofs.ask.verify_frame.Reads as verify-frame-reads
+use Rattle.ask.proofs.verify_frame.Reads as verify-frame-reads
 use Rattle.pool.proofs.shape.flag_set.Reads as flag-set-reads
 use Rattle.region.proofs.MemoryRegion.len.Reads as len-reads
 use Rattle.verify.proofs.end_fits.Reads as end-fits-reads

@@ -1,7 +1,7 @@
 -- What modify asks (document 01, "The refusal slip"): refusals 2 to 6 of its arguments, refusals 9 to 11 of what it would do, and a law for each way through
 -- the code. Assumes nothing.
 use mathlib.Core.Path.{_≡_, refl, sym, ap, _∙_}
-use mathlib.Core.Bool.{Bool, true, false, cond}
+use mathlib.Core.Bool.{Bool, true, false, not, cond, _&&_, true≢false}
 use Prim.Native.Nat.{ℕ, _+_, _-_, _/_, _%_, _^_, _≤_, _<_}
 use lib.Bits.{bitAnd}
 use lib.Dec.{eqb, ltb}
@@ -31,6 +31,10 @@ pub asked-is : (start end set clear : ℕ) (live : Bool) {r : MemoryRegion} → 
     → _≡_ {A = Edit} (record { region = r; set = set; clear = clear; live = live }) (asked start end set clear live)
 unfolding asked
 asked-is start end set clear live e = ap (λ (x : MemoryRegion). record { region = x; set = set; clear = clear; live = live }) e
+
+-- bits that may be set: from the set m, bit 0 not among them, none that is cleared too
+unfoldable pub settable : ℕ → ℕ → ℕ → Bool
+settable m set clear = only m set && (not (eqb (set % 2) 1) && eqb (bitAnd set clear) 0)
 
 -- 3: bit 1, "set before clear"; 4: "a flag outside the set; modify: bit 0 to set, or a bit both set and cleared", "for a clash, set"
 unfoldable pub verifyBits : Handle → ℕ → ℕ → Outcome
@@ -62,6 +66,32 @@ verifySurvey free room live v =
     Accepted)
 
 -- ---- laws: one for each way through the code
+
+module _ (m set clear : ℕ) where
+  pub set-outside : only m set ≡ false → false ≡ settable m set clear
+  unfolding settable
+  set-outside e = rw e
+
+  pub set-valid : only m set ≡ true → set % 2 ≡ 1 → false ≡ settable m set clear
+  unfolding settable
+  set-valid from e = rw (from, eq-eqb (set % 2) 1 e)
+
+  pub set-apart : only m set ≡ true → (set % 2 ≡ 1 → ⊥) → eqb (bitAnd set clear) 0 ≡ settable m set clear
+  unfolding settable
+  set-apart from even = rw (from, ne-eqb (set % 2) 1 even)
+
+-- three tests in a row, each with the same refusal
+none-of : (a b c : Bool) (x y : Outcome) → a && (not b && c) ≡ false → y ≡ cond a (cond b y (cond c x y)) y
+none-of false b c x y e = refl
+none-of true true c x y e = refl
+none-of true false false x y e = refl
+none-of true false true x y e = absurd (true≢false e)
+
+all-of : (a b c : Bool) (x y : Outcome) → a && (not b && c) ≡ true → x ≡ cond a (cond b y (cond c x y)) y
+all-of true false true x y e = refl
+all-of true false false x y e = absurd (true≢false (sym e))
+all-of true true c x y e = absurd (true≢false (sym e))
+all-of false b c x y e = absurd (true≢false (sym e))
 
 module _ (h : Handle) (set clear : ℕ) where
   pub bits-set-invalid : set / 2 % 2 ≡ 1 → Refused (InvalidFlags set) ≡ verifyBits h set clear
@@ -99,6 +129,17 @@ module _ (h : Handle) (set clear : ℕ) where
 
             pub bits-accepted : only (flagSet h) clear ≡ true → Accepted ≡ verifyBits h set clear
             bits-accepted e = by-clear true e
+
+      -- the tests of the bits to set, taken together
+      pub bits-unsettable : settable (flagSet h) set clear ≡ false → Refused (FlagSet set) ≡ verifyBits h set clear
+      unfolding verifyBits settable
+      bits-unsettable e =
+          rw (ne-eqb (set / 2 % 2) 1 one, ne-eqb (clear / 2 % 2) 1 two) (none-of (only (flagSet h) set) (eqb (set % 2) 1) (eqb (bitAnd set clear) 0) (cond (only (flagSet h) clear) Accepted (Refused (FlagSet clear))) (Refused (FlagSet set)) e)
+
+      pub bits-settable : settable (flagSet h) set clear ≡ true → cond (only (flagSet h) clear) Accepted (Refused (FlagSet clear)) ≡ verifyBits h set clear
+      unfolding verifyBits settable
+      bits-settable e =
+          rw (ne-eqb (set / 2 % 2) 1 one, ne-eqb (clear / 2 % 2) 1 two) (all-of (only (flagSet h) set) (eqb (set % 2) 1) (eqb (bitAnd set clear) 0) (cond (only (flagSet h) clear) Accepted (Refused (FlagSet clear))) (Refused (FlagSet set)) e)
 
 module _ (h : Handle) (end : ℕ) (e : Edit) where
   pub edit-end : endFits end ≡ false → Refused (End end) ≡ verifyEdit h end e

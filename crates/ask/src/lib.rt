@@ -6,20 +6,27 @@ use pool::Refusal;
 use pool::shape;
 use rules::Map;
 ghost use mathlib.Core.Path.{_≡_};
-ghost use Rattle.map.specs.Ask.{frameAsked, verifyMap};
+ghost use Rattle.ask.specs.Ask.{framesFit, frameAsked, verifyMap};
 
-// Refusal 7: the bound on the length comes before the difference is formed.
-fn verify_frame(frame: u64, length: u64) -> Outcome
-    ensures { λ r. ⌜ r ≡ frameAsked frame length ⌝ }
+// Whether frames of this length can begin there: the bound on the length comes before the difference is formed.
+fn has_frames(frame: PhysicalAddress, length: u64) -> bool
+    ensures { λ r. ⌜ r ≡ framesFit (frame .0) length ⌝ }
 {
-    if frame % 4096 != 0 {
-        return Outcome::Refused(Refusal::Frame(PhysicalAddress(frame)));
+    if frame.0 % 4096 != 0 {
+        return false;
     }
     if 0x1_0000_0000_0000 < length {
-        return Outcome::Refused(Refusal::Frame(PhysicalAddress(frame)));
+        return false;
     }
-    if 0x1_0000_0000_0000 - length < frame {
-        return Outcome::Refused(Refusal::Frame(PhysicalAddress(frame)));
+    frame.0 <= 0x1_0000_0000_0000 - length
+}
+
+// Refusal 7.
+fn verify_frame(frame: PhysicalAddress, length: u64) -> Outcome
+    ensures { λ r. ⌜ r ≡ frameAsked (frame .0) length ⌝ }
+{
+    if !has_frames(frame, length) {
+        return Outcome::Refused(Refusal::Frame(frame));
     }
     Outcome::Accepted
 }
@@ -42,5 +49,5 @@ pub fn verify_map(handle: Handle, end: u64, map: Map) -> Outcome
     let Outcome::Accepted = outcome else {
         return outcome;
     };
-    verify_frame(map.frame.0, region.len())
+    verify_frame(map.frame, region.len())
 }

@@ -2,12 +2,12 @@ use mathlib.Core.Path.{_≡_, sym, _∙_}
 use mathlib.Core.Bool.{true}
 use borrow.Author.Tests.{not-true, not-false}
 use Rattle.verify.specs.Verify.{endFits}
-use Rattle.modify.specs.Ask.{edit-end, edit-bits, edit-region}
-use Rattle.modify.proofs.ask.verify_edit.Statement.{statement}
-use Rattle.modify.proofs.ask.verify_edit.Tie as tie
-use Rattle.modify.proofs.ask.verify_edit.Reads as reads
-use Rattle.modify.proofs.ask.verify_edit.Lts as lts
-use Rattle.modify.proofs.ask.verify_bits.Reads as verify-bits-reads
+use Rattle.permit.specs.Permit.{edit-end, edit-bits, edit-region}
+use Rattle.permit.proofs.verify_edit.Statement.{statement}
+use Rattle.permit.proofs.verify_edit.Tie as tie
+use Rattle.permit.proofs.verify_edit.Reads as reads
+use Rattle.permit.proofs.verify_edit.Lts as lts
+use Rattle.permit.proofs.verify_bits.Reads as verify-bits-reads
 use Rattle.verify.proofs.end_fits.Reads as end-fits-reads
 use Rattle.verify.proofs.verify_region.Reads as verify-region-reads
 

@@ -37,8 +37,11 @@ asked-is start end frame flags constraints e =
     ap (λ (x : MemoryRegion). record { region = x; frame = record { 0 = frame }; flags = flags; blocks = eqb (constraints % 2) 0 }) e
 
 -- refusal 7: frame not a multiple of 4096, or frame + length above 2^48
+abbrev pub framesFit : ℕ → ℕ → Bool
+framesFit frame length = eqb (frame % 4096) 0 && leb (frame + length) (2 ^ 48)
+
 unfoldable pub frameAsked : ℕ → ℕ → Outcome
-frameAsked frame length = cond (eqb (frame % 4096) 0 && leb (frame + length) (2 ^ 48)) Accepted (Refused (Frame (record { 0 = frame })))
+frameAsked frame length = cond (framesFit frame length) Accepted (Refused (Frame (record { 0 = frame })))
 
 -- the first that is refused of two
 unfoldable pub first : Outcome → Outcome → Outcome
@@ -58,6 +61,30 @@ verifyMap h end m =
 -- ---- laws: one for each way through the code
 
 module _ (frame length : ℕ) where
+  pub fit-part : (frame % 4096 ≡ 0 → ⊥) → false ≡ framesFit frame length
+  fit-part n = rw (ne-eqb (frame % 4096) 0 n)
+
+  pub fit-past : 2 ^ 48 < length → false ≡ framesFit frame length
+  fit-past l = rw (lt-leb (frame + length) (2 ^ 48) (omega arith)) (neither (eqb (frame % 4096) 0))
+    where
+      neither : (b : Bool) → false ≡ b && false
+      neither true = refl
+      neither false = refl
+
+  pub fit-rest : frame % 4096 ≡ 0 → length ≤ 2 ^ 48 → leb frame (2 ^ 48 - length) ≡ framesFit frame length
+  fit-rest e l = rw (eq-eqb (frame % 4096) 0 e) (⊎-elim
+      (λ h. le-leb frame (2 ^ 48 - length) (omega arith) ∙ sym (le-leb (frame + length) (2 ^ 48) h))
+      (λ h. lt-leb frame (2 ^ 48 - length) (omega arith) ∙ sym (lt-leb (frame + length) (2 ^ 48) h))
+      (le-or (frame + length) (2 ^ 48)))
+
+  pub frame-not : framesFit frame length ≡ false → Refused (Frame (record { 0 = frame })) ≡ frameAsked frame length
+  unfolding frameAsked
+  frame-not e = rw e
+
+  pub frame-may : framesFit frame length ≡ true → Accepted ≡ frameAsked frame length
+  unfolding frameAsked
+  frame-may e = rw e
+
   pub frame-part : (frame % 4096 ≡ 0 → ⊥) → Refused (Frame (record { 0 = frame })) ≡ frameAsked frame length
   unfolding frameAsked
   frame-part n = rw (ne-eqb (frame % 4096) 0 n)

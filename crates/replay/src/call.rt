@@ -1,55 +1,7 @@
 // The calls by their outside names, on what the list lends them. Each gives 0 or its refusal.
 
-// A call: how many words and ledger numbers it is lent, the handle, and the line's numbers.
-pub struct Call {
-    pub words: usize,
-    pub numbers: usize,
-    pub base: u64,
-    pub level: u64,
-    pub range: u64,
-    pub first: u64,
-    pub second: u64,
-    pub third: u64,
-    pub fourth: u64,
-    pub fifth: u64,
-    pub sixth: u64,
-}
-
-// Before the first line nothing is lent.
-pub fn none() -> Call {
-    Call {
-        words: 0,
-        numbers: 0,
-        base: 0,
-        level: 0,
-        range: 0,
-        first: 0,
-        second: 0,
-        third: 0,
-        fourth: 0,
-        fifth: 0,
-        sixth: 0,
-    }
-}
-
-// The call of a line: make and lend say what is lent from there on.
-pub fn next(kind: usize, before: Call, line: &[u64; 13]) -> Call {
-    let mut call = before;
-    call.first = line[0];
-    call.second = line[1];
-    call.third = line[2];
-    call.fourth = line[3];
-    call.fifth = line[4];
-    call.sixth = line[5];
-    if kind < 2 {
-        call.words = call.first as usize;
-        call.numbers = call.second as usize;
-        call.base = call.third;
-        call.level = call.fourth;
-        call.range = call.fifth;
-    }
-    call
-}
+use stored::Call;
+use stored::kind;
 
 // A page image, with as much of the page as the line says. The sum of the page goes to the list.
 fn image(
@@ -78,7 +30,7 @@ fn image(
     refusal
 }
 
-// What reads: 7 look up, 8 list, 9 page image, 10 check.
+// What only reads the pool.
 fn read(
     kind: usize,
     words: &[u64],
@@ -88,8 +40,8 @@ fn read(
     answer: &mut [u64; 4],
 ) -> u64 {
     match kind {
-        7 => ptb::ptb_look_up(words, ledger, c.base, c.level, c.range, c.first, answer),
-        8 => ptb::ptb_list(
+        kind::LOOK_UP => ptb::ptb_look_up(words, ledger, c.base, c.level, c.range, c.first, answer),
+        kind::LIST => ptb::ptb_list(
             words,
             ledger,
             c.base,
@@ -100,13 +52,13 @@ fn read(
             list,
             answer,
         ),
-        9 => image(words, ledger, list, c, answer),
-        10 => ptb::ptb_check(words, ledger, c.base, c.level, c.range, answer),
+        kind::PAGE => image(words, ledger, list, c, answer),
+        kind::CHECK => ptb::ptb_check(words, ledger, c.base, c.level, c.range, answer),
         _ => stored::NO_CALL,
     }
 }
 
-// What writes: 0 make, 1 nothing, 2 a word, 3 a number, 4 map, 5 modify, 6 compact.
+// A line of a kind.
 pub fn run(
     kind: usize,
     words: &mut [u64],
@@ -116,11 +68,11 @@ pub fn run(
     answer: &mut [u64; 4],
 ) -> u64 {
     match kind {
-        0 => ptb::ptb_make(words, ledger, c.base, c.level, c.range, answer),
-        1 => 0,
-        2 => stored::put_word(words, c.first, c.second),
-        3 => stored::put_number(ledger, c.first, c.second),
-        4 => ptb::ptb_map(
+        kind::MAKE => ptb::ptb_make(words, ledger, c.base, c.level, c.range, answer),
+        kind::LEND => 0,
+        kind::WORD => stored::put_word(words, c.first, c.second),
+        kind::NUMBER => stored::put_number(ledger, c.first, c.second),
+        kind::MAP => ptb::ptb_map(
             words,
             ledger,
             c.base,
@@ -133,7 +85,7 @@ pub fn run(
             c.fifth,
             answer,
         ),
-        5 => ptb::ptb_modify(
+        kind::MODIFY => ptb::ptb_modify(
             words,
             ledger,
             c.base,
@@ -147,7 +99,7 @@ pub fn run(
             list,
             answer,
         ),
-        6 => ptb::ptb_compact(words, ledger, c.base, c.level, c.range, answer),
+        kind::COMPACT => ptb::ptb_compact(words, ledger, c.base, c.level, c.range, answer),
         _ => read(kind, words, ledger, list, c, answer),
     }
 }

@@ -2,62 +2,32 @@
 // list; its head says what a line is.
 mod call;
 
-use call::Call;
+use stored::Call;
 use stored::UNWRITTEN;
+use stored::kind;
 
-// What a call answered, and the sum of all that it left.
-pub struct Left {
-    pub refusal: u64,
-    pub sum: u64,
-}
-
-// Where no call was made.
-fn nothing() -> Left {
-    Left {
-        refusal: stored::NO_CALL,
-        sum: stored::NO_CALL,
-    }
-}
-
-// The call on what is lent.
-fn run(
-    kind: usize,
-    words: &mut [u64],
-    ledger: &mut [u32],
-    list: &mut [u64],
-    call: Call,
-    answer: &mut [u64; 4],
-) -> Left {
-    let refusal = call::run(kind, words, ledger, list, call, answer);
-    let sum = stored::ledger(
-        stored::words(stored::words(stored::START, list), words),
-        ledger,
-    );
-    Left { refusal, sum }
-}
-
-// The first words, ledger numbers and numbers of a list, as many as the line lends; no call where there are not so many.
+// The first words, ledger numbers and numbers of the list, as many as the line lends; no call where there are not so many.
 fn lend(
     kind: usize,
     words: &mut [u64],
     ledger: &mut [u32],
+    list: &mut [u64],
+    room: usize,
     call: Call,
     answer: &mut [u64; 4],
-) -> Left {
+) -> u64 {
     let length = call.words;
     let count = call.numbers;
-    let room = stored::room_of(kind, call.first);
-    let mut list = [UNWRITTEN; 2048];
     if words.len() < length {
-        return nothing();
+        return stored::NO_CALL;
     }
     if ledger.len() < count {
-        return nothing();
+        return stored::NO_CALL;
     }
-    if 2048 < room {
-        return nothing();
+    if list.len() < room {
+        return stored::NO_CALL;
     }
-    run(
+    call::run(
         kind,
         &mut words[..length],
         &mut ledger[..count],
@@ -77,26 +47,29 @@ fn turn(
     tallies: &mut [u64; 12],
     number: u64,
 ) {
+    let mut list = [UNWRITTEN; 2048];
     let mut answer = [UNWRITTEN; 4];
-    let left = lend(kind, words, ledger, call, &mut answer);
-    stored::compare(tallies, kind, number, line, left.refusal, &answer, left.sum);
+    let room = kind::room_of(kind, call.first);
+    let refusal = lend(kind, words, ledger, &mut list, room, call, &mut answer);
+    let sum = stored::left(&list, room, words, call.words, ledger, call.numbers);
+    stored::compare(tallies, kind, number, line, refusal, &answer, sum);
 }
 
 // Line by line to the end of the input.
 fn lines(words: &mut [u64; 6144], ledger: &mut [u32; 12], tallies: &mut [u64; 12]) {
-    let mut call = call::none();
+    let mut call = stored::none();
     let mut number = 0;
     while number < 0xFFFF_FFFF {
         number += 1;
         let mut line = [0u64; 13];
         let kind = stored::next(&mut line);
-        if kind == stored::COMMENT {
+        if kind == kind::COMMENT {
             continue;
         }
-        if kind == stored::END {
+        if kind == kind::END {
             return;
         }
-        call = call::next(kind, call, &line);
+        call = stored::call_of(kind, call, &line);
         turn(kind, words, ledger, call, &line, tallies, number);
     }
 }

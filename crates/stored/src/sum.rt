@@ -1,7 +1,7 @@
 // The sum of what a call leaves: xorshift64 of the sum so far and the next number. Each step is one to one, so another number in one place always shows.
 
 // What a sum begins with.
-pub const START: u64 = 0x9E37_79B9_7F4A_7C15;
+const START: u64 = 0x9E37_79B9_7F4A_7C15;
 
 fn mix(sum: u64, number: u64) -> u64 {
     let with = sum ^ number;
@@ -10,24 +10,45 @@ fn mix(sum: u64, number: u64) -> u64 {
     right ^ (right << 17)
 }
 
-pub fn words(start: u64, words: &[u64]) -> u64 {
+// The first words.
+fn words(start: u64, words: &[u64], length: usize) -> u64 {
     let mut sum = start;
     let mut place = 0;
-    while place < words.len() {
+    while place < length {
+        if words.len() <= place {
+            return sum;
+        }
         sum = mix(sum, words[place]);
         place += 1;
     }
     sum
 }
 
-pub fn ledger(start: u64, ledger: &[u32]) -> u64 {
+// The first ledger numbers.
+fn ledger(start: u64, ledger: &[u32; 12], length: usize) -> u64 {
     let mut sum = start;
     let mut place = 0;
-    while place < ledger.len() {
+    while place < length {
+        if 12 <= place {
+            return sum;
+        }
         sum = mix(sum, wide(ledger[place]));
         place += 1;
     }
     sum
+}
+
+// All that a call leaves: so much of the list, the words and the ledger as it was lent.
+pub fn left(
+    list: &[u64; 2048],
+    room: usize,
+    words: &[u64; 6144],
+    length: usize,
+    numbers: &[u32; 12],
+    count: usize,
+) -> u64 {
+    let listed = self::words(START, list, room);
+    ledger(self::words(listed, words, length), numbers, count)
 }
 
 fn wide(number: u32) -> u64 {

@@ -1,4 +1,5 @@
-// How many lines of each kind there were, and in place 11 how many that differ.
+// How many lines there were of each kind, and how many that differ.
+use crate::kind;
 use crate::numbers;
 use std::num::wrapping_add_u64;
 
@@ -10,7 +11,7 @@ fn add(tallies: &mut [u64; 12], kind: usize) {
 
 // Whether the answer of a line is that which came; never where it is no line of the list.
 fn same(kind: usize, came: &[u64; 13], line: &[u64; 13]) -> bool {
-    if kind == crate::NO_LINE {
+    if kind == kind::NO_LINE {
         return false;
     }
     let mut place = numbers::ANSWER;
@@ -34,8 +35,8 @@ fn say_answer(line: &[u64; 13]) {
 
 // A line that differs: the first twenty are said.
 fn differ(tallies: &mut [u64; 12], number: u64, came: &[u64; 13], line: &[u64; 13]) {
-    add(tallies, 11);
-    if 20 < tallies[11] {
+    add(tallies, kind::DIFFERENT);
+    if 20 < tallies[kind::DIFFERENT] {
         return;
     }
     report::say_count(b"line ", number);

@@ -5,9 +5,9 @@ use Rattle.replay.proofs.lines.Statement.{statement}
 use Rattle.replay.proofs.lines.Tie as tie
 use Rattle.replay.proofs.lines.Reads as reads
 use Rattle.replay.proofs.lines.Lts as lts
-use Rattle.replay.proofs.call.next.Reads as call-next-reads
-use Rattle.replay.proofs.call.none.Reads as none-reads
 use Rattle.replay.proofs.turn.Reads as turn-reads
+use Rattle.stored.proofs.call_of.Reads as call-of-reads
+use Rattle.stored.proofs.none.Reads as none-reads
 use Rattle.stored.proofs.next.Reads as next-reads
 
 abbrev Inv-loop : tie.InvT-loop
@@ -37,8 +37,8 @@ loop-again c = tt
 returns : tie.Need-returns Inv-loop μ-loop
 returns c = tt
 
-next-requires-2 : tie.Need-next-requires-2 Inv-loop μ-loop
-next-requires-2 c κs = tt
+call-of-requires : tie.Need-call-of-requires Inv-loop μ-loop
+call-of-requires c κs = tt
 
 turn-requires : tie.Need-turn-requires Inv-loop μ-loop
 turn-requires c κs = tt
@@ -65,7 +65,7 @@ lines-spec =
     loop-less
     loop-again
     returns
-    next-requires-2
+    call-of-requires
     turn-requires
     loop-less-2
     loop-again-2

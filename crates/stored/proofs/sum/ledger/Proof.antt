@@ -1,6 +1,5 @@
--- `ledger` ends: it stops at the end of the ledger. Assumes nothing.
-use Prim.Native.Nat.{_-_, _≤_}
-use lib.ListN.{length}
+-- `ledger` ends: it stops at the length. Assumes nothing.
+use Prim.Native.Nat.{_-_}
 use native.Mathlib.Omega.{arith}
 use Rattle.stored.proofs.sum.ledger.Statement.{statement}
 use Rattle.stored.proofs.sum.ledger.Tie as tie
@@ -10,19 +9,22 @@ use Rattle.stored.proofs.sum.mix.Reads as mix-reads
 use Rattle.stored.proofs.sum.wide.Reads as wide-reads
 
 abbrev Inv-loop : tie.InvT-loop
-Inv-loop start ledger sum₀ place₀ sum place = place ≤ length ledger
+Inv-loop start ledger length sum₀ place₀ sum place = Unit {0}
 
 abbrev μ-loop : tie.MeasureT-loop
-μ-loop start ledger sum₀ place₀ sum place = length ledger - place
+μ-loop start ledger length sum₀ place₀ sum place = length - place
 
 loop-holds : tie.Need-loop-holds Inv-loop μ-loop
-loop-holds c = omega arith
+loop-holds c = tt
+
+returns : tie.Need-returns Inv-loop μ-loop
+returns c = tt
 
 mul-wide : tie.Need-mul-wide Inv-loop μ-loop
 mul-wide c = omega arith
 
-shared-slice-read-wide : tie.Need-shared-slice-read-wide Inv-loop μ-loop
-shared-slice-read-wide c = omega arith
+element-copy-out-wide : tie.Need-element-copy-out-wide Inv-loop μ-loop
+element-copy-out-wide c = omega arith
 
 wide-requires : tie.Need-wide-requires Inv-loop μ-loop
 wide-requires c κs = tt
@@ -37,10 +39,10 @@ loop-less : tie.Need-loop-less Inv-loop μ-loop
 loop-less c = omega arith
 
 loop-again : tie.Need-loop-again Inv-loop μ-loop
-loop-again c = omega arith
+loop-again c = tt
 
-returns : tie.Need-returns Inv-loop μ-loop
-returns c = tt
+returns-2 : tie.Need-returns-2 Inv-loop μ-loop
+returns-2 c = tt
 
 pub ledger-spec : {M : Type 1} → statement M
 ledger-spec =
@@ -49,11 +51,12 @@ ledger-spec =
     Inv-loop
     μ-loop
     loop-holds
+    returns
     mul-wide
-    shared-slice-read-wide
+    element-copy-out-wide
     wide-requires
     mix-requires
     add-place
     loop-less
     loop-again
-    returns)
+    returns-2)

@@ -1,6 +1,5 @@
--- `words` ends: it stops at the end of the words. Assumes nothing.
-use Prim.Native.Nat.{_-_, _≤_}
-use lib.ListN.{length}
+-- `words` ends: it stops at the length. Assumes nothing.
+use Prim.Native.Nat.{_-_}
 use native.Mathlib.Omega.{arith}
 use Rattle.stored.proofs.sum.words.Statement.{statement}
 use Rattle.stored.proofs.sum.words.Tie as tie
@@ -9,13 +8,16 @@ use Rattle.stored.proofs.sum.words.Lts as lts
 use Rattle.stored.proofs.sum.mix.Reads as mix-reads
 
 abbrev Inv-loop : tie.InvT-loop
-Inv-loop start words sum₀ place₀ sum place = place ≤ length words
+Inv-loop start words length sum₀ place₀ sum place = Unit {0}
 
 abbrev μ-loop : tie.MeasureT-loop
-μ-loop start words sum₀ place₀ sum place = length words - place
+μ-loop start words length sum₀ place₀ sum place = length - place
 
 loop-holds : tie.Need-loop-holds Inv-loop μ-loop
-loop-holds c = omega arith
+loop-holds c = tt
+
+returns : tie.Need-returns Inv-loop μ-loop
+returns c = tt
 
 mul-mix : tie.Need-mul-mix Inv-loop μ-loop
 mul-mix c = omega arith
@@ -33,10 +35,10 @@ loop-less : tie.Need-loop-less Inv-loop μ-loop
 loop-less c = omega arith
 
 loop-again : tie.Need-loop-again Inv-loop μ-loop
-loop-again c = omega arith
+loop-again c = tt
 
-returns : tie.Need-returns Inv-loop μ-loop
-returns c = tt
+returns-2 : tie.Need-returns-2 Inv-loop μ-loop
+returns-2 c = tt
 
 pub words-spec : {M : Type 1} → statement M
 words-spec =
@@ -45,10 +47,11 @@ words-spec =
     Inv-loop
     μ-loop
     loop-holds
+    returns
     mul-mix
     shared-slice-read-mix
     mix-requires
     add-place
     loop-less
     loop-again
-    returns)
+    returns-2)

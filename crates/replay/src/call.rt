@@ -1,28 +1,21 @@
 // The calls by their outside names, on what the list lends them. Each gives 0 or its refusal.
-
 use stored::Call;
 use stored::kind;
 
 // A page image, with as much of the page as the line says. The sum of the page goes to the list.
-fn image(
-    words: &[u64],
-    ledger: &[u32],
-    list: &mut [u64],
-    call: Call,
-    answer: &mut [u64; 4],
-) -> u64 {
+fn image(words: &[u64], ledger: &[u32], list: &mut [u64], c: Call, answer: &mut [u64; 4]) -> u64 {
     let mut page = [0x55u8; 4097];
-    let length = call.first as usize;
+    let length = c.first as usize;
     if 4097 < length {
         return stored::NO_CALL;
     }
     let refusal = ptb::ptb_image(
         words,
         ledger,
-        call.base,
-        call.level,
-        call.range,
-        call.second,
+        c.base,
+        c.level,
+        c.range,
+        c.second,
         &mut page[..length],
         answer,
     );
@@ -58,6 +51,30 @@ fn read(
     }
 }
 
+// Its first number is the length of the list.
+fn modify(
+    words: &mut [u64],
+    ledger: &mut [u32],
+    list: &mut [u64],
+    c: Call,
+    answer: &mut [u64; 4],
+) -> u64 {
+    ptb::ptb_modify(
+        words,
+        ledger,
+        c.base,
+        c.level,
+        c.range,
+        c.second,
+        c.third,
+        c.fourth,
+        c.fifth,
+        c.sixth,
+        list,
+        answer,
+    )
+}
+
 // A line of a kind.
 pub fn run(
     kind: usize,
@@ -85,20 +102,7 @@ pub fn run(
             c.fifth,
             answer,
         ),
-        kind::MODIFY => ptb::ptb_modify(
-            words,
-            ledger,
-            c.base,
-            c.level,
-            c.range,
-            c.second,
-            c.third,
-            c.fourth,
-            c.fifth,
-            c.sixth,
-            list,
-            answer,
-        ),
+        kind::MODIFY => modify(words, ledger, list, c, answer),
         kind::COMPACT => ptb::ptb_compact(words, ledger, c.base, c.level, c.range, answer),
         _ => read(kind, words, ledger, list, c, answer),
     }

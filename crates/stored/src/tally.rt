@@ -47,8 +47,11 @@ fn differ(tallies: &mut [u64; 12], number: u64, came: &[u64; 13], line: &[u64; 1
     io::write_all(1, b"\n");
 }
 
-// An answer's numbers where a line has them.
+// An answer's numbers where a line has them, if a call was made.
 fn fill(came: &mut [u64; 13], refusal: u64, answer: &[u64; 4], sum: u64) {
+    if refusal == crate::NO_CALL {
+        return;
+    }
     came[7] = refusal;
     came[12] = sum;
     let mut place = 0;
@@ -68,7 +71,7 @@ pub fn compare(
     answer: &[u64; 4],
     sum: u64,
 ) {
-    let mut came = [0u64; 13];
+    let mut came = [crate::NO_CALL; 13];
     fill(&mut came, refusal, answer, sum);
     add(tallies, kind);
     if !same(kind, &came, line) {

@@ -12,6 +12,9 @@ Inv-loop came₀ refusal answer sum place₀ came place = place ≤ 4
 abbrev μ-loop : tie.MeasureT-loop
 μ-loop came₀ refusal answer sum place₀ came place = 4 - place
 
+returns : tie.Need-returns Inv-loop μ-loop
+returns c = tt
+
 element-write-came : tie.Need-element-write-came Inv-loop μ-loop
 element-write-came c = omega arith
 
@@ -45,8 +48,8 @@ loop-less c = omega arith
 loop-again : tie.Need-loop-again Inv-loop μ-loop
 loop-again c = omega arith
 
-returns : tie.Need-returns Inv-loop μ-loop
-returns c = tt
+returns-2 : tie.Need-returns-2 Inv-loop μ-loop
+returns-2 c = tt
 
 pub fill-spec : {M : Type 1} → statement M
 fill-spec =
@@ -54,6 +57,7 @@ fill-spec =
     (tie.spec
     Inv-loop
     μ-loop
+    returns
     element-write-came
     element-write-came-2
     loop-holds
@@ -65,4 +69,4 @@ fill-spec =
     add-place
     loop-less
     loop-again
-    returns)
+    returns-2)

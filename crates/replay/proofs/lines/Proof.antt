@@ -1,56 +1,44 @@
--- `lines` ends: it counts the lines that it reads. The words and the ledger keep their lengths. Assumes nothing.
-use mathlib.Core.Path.{_≡_}
+-- `lines` ends: it counts the lines that it reads. Assumes nothing.
 use Prim.Native.Nat.{_-_}
-use lib.ListN.{length}
 use native.Mathlib.Omega.{arith}
 use Rattle.replay.proofs.lines.Statement.{statement}
 use Rattle.replay.proofs.lines.Tie as tie
 use Rattle.replay.proofs.lines.Reads as reads
 use Rattle.replay.proofs.lines.Lts as lts
 use Rattle.replay.proofs.turn.Reads as turn-reads
-use Rattle.script.proofs.read_line.Reads as read-line-reads
+use Rattle.stored.proofs.call_of.Reads as call-of-reads
+use Rattle.stored.proofs.none.Reads as none-reads
+use Rattle.stored.proofs.next.Reads as next-reads
 
 abbrev Inv-loop : tie.InvT-loop
-Inv-loop words₀ ledger₀ tallies₀ text₀ pool₀ number₀ words ledger tallies text pool number = (length words ≡ length words₀) × (length ledger ≡ length ledger₀)
+Inv-loop words₀ ledger₀ tallies₀ call₀ number₀ words ledger tallies call number = Unit {0}
 
 abbrev μ-loop : tie.MeasureT-loop
-μ-loop words₀ ledger₀ tallies₀ text₀ pool₀ number₀ words ledger tallies text pool number = 4294967295 - number
+μ-loop words₀ ledger₀ tallies₀ call₀ number₀ words ledger tallies call number = 4294967295 - number
+
+none-requires : tie.Need-none-requires Inv-loop μ-loop
+none-requires c κs = tt
 
 loop-holds : tie.Need-loop-holds Inv-loop μ-loop
-loop-holds c = omega arith
+loop-holds c = tt
 
 add-number : tie.Need-add-number Inv-loop μ-loop
 add-number c = omega arith
 
-array-write-text : tie.Need-array-write-text Inv-loop μ-loop
-array-write-text c = omega arith
-
-read-line-requires : tie.Need-read-line-requires Inv-loop μ-loop
-read-line-requires c κs = tt
-
-enum-known-length : tie.Need-enum-known-length Inv-loop μ-loop
-enum-known-length c = omega arith
-
-enum-told : tie.Need-enum-told Inv-loop μ-loop
-enum-told c = omega arith
-
-same-length : tie.Need-same-length Inv-loop μ-loop
-same-length c = omega arith
-
-same-length-2 : tie.Need-same-length-2 Inv-loop μ-loop
-same-length-2 c = omega arith
-
-returns : tie.Need-returns Inv-loop μ-loop
-returns c = tt
-
-array-read-if1 : tie.Need-array-read-if1 Inv-loop μ-loop
-array-read-if1 c = omega arith
+next-requires : tie.Need-next-requires Inv-loop μ-loop
+next-requires c κs = tt
 
 loop-less : tie.Need-loop-less Inv-loop μ-loop
 loop-less c = omega arith
 
 loop-again : tie.Need-loop-again Inv-loop μ-loop
-loop-again c = omega arith
+loop-again c = tt
+
+returns : tie.Need-returns Inv-loop μ-loop
+returns c = tt
+
+call-of-requires : tie.Need-call-of-requires Inv-loop μ-loop
+call-of-requires c κs = tt
 
 turn-requires : tie.Need-turn-requires Inv-loop μ-loop
 turn-requires c κs = tt
@@ -59,13 +47,7 @@ loop-less-2 : tie.Need-loop-less-2 Inv-loop μ-loop
 loop-less-2 c = omega arith
 
 loop-again-2 : tie.Need-loop-again-2 Inv-loop μ-loop
-loop-again-2 c = omega arith
-
-same-length-3 : tie.Need-same-length-3 Inv-loop μ-loop
-same-length-3 c = omega arith
-
-same-length-4 : tie.Need-same-length-4 Inv-loop μ-loop
-same-length-4 c = omega arith
+loop-again-2 c = tt
 
 returns-2 : tie.Need-returns-2 Inv-loop μ-loop
 returns-2 c = tt
@@ -76,21 +58,15 @@ lines-spec =
     (tie.spec
     Inv-loop
     μ-loop
+    none-requires
     loop-holds
     add-number
-    array-write-text
-    read-line-requires
-    enum-known-length
-    enum-told
-    same-length
-    same-length-2
-    returns
-    array-read-if1
+    next-requires
     loop-less
     loop-again
+    returns
+    call-of-requires
     turn-requires
     loop-less-2
     loop-again-2
-    same-length-3
-    same-length-4
     returns-2)

@@ -3,14 +3,14 @@
 use mathlib.Core.Path.{_≡_, refl, sym, ap, _∙_}
 use mathlib.Core.Bool.{Bool, true, false, cond, _&&_}
 use mathlib.Core.Logic.{⊎-elim}
-use Prim.Native.Nat.{ℕ, _+_, _*_, _-_, _/_, _%_, _^_, _≤_, _<_}
+use Prim.Native.Nat.{ℕ, _+_, _-_, _/_, _%_, _^_, _≤_, _<_}
 use native.Mathlib.Omega.{arith}
 use lib.Bits.{bitAnd}
-use lib.Dec.{T, eqb, eqb→eq, leb, ltb}
+use lib.Dec.{eqb, eqb→eq, leb, ltb}
 use borrow.Author.Tests.{eq-eqb, ne-eqb, le-leb, lt-leb}
 use Rattle.laws.specs.Bit.{sub-none}
 use Rattle.entry.specs.Word.{only, el1Flags, addressOf, flagsOf, mask-address, address-and-flags}
-use Rattle.laws.specs.Size.{sizeAt, down, up, down-paged}
+use Rattle.laws.specs.Size.{sizeAt, up, down-paged}
 use Rattle.laws.specs.Test.{byBool, eq-or, le-or}
 use Rattle.address.specs.Address.{alignUp}
 use Rattle.region.specs.Region.{rounded}

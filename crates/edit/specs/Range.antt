@@ -4,9 +4,7 @@ use mathlib.Core.Bool.{Bool, true, false, not, cond, _&&_}
 use mathlib.Core.List.{List}
 use Prim.Native.Nat.{ℕ, zero, suc, _+_, _-_, _%_, _≤_, _<_}
 use native.Mathlib.Omega.{arith}
-use lib.Dec.{eqb}
 use borrow.Author.Tests.{eq-eqb, ne-eqb}
-use Rattle.laws.specs.Size.{sizeAt}
 use Rattle.region.specs.Region.{entryIndex, whole}
 use Rattle.region.specs.declared.MemoryRegion.{MemoryRegion}
 use Rattle.pool.specs.State.{St, st, wordAt}
@@ -70,8 +68,8 @@ pub own-table : (level : ℕ) (c : MemoryRegion) (w : ℕ) → w % 4 ≡ 3 → f
 unfolding own tableWord
 own-table level c w e = rw (eq-eqb (w % 4) 3 e)
 
-pub own-leaf : (level : ℕ) (c : MemoryRegion) (w : ℕ) → (w % 4 ≡ 3 → ⊥) → eqb (c .start .0 % sizeAt level) 0 && eqb (c .end .0 % sizeAt level) 0 ≡ own level c w
-unfolding own tableWord whole
+pub own-leaf : (level : ℕ) (c : MemoryRegion) (w : ℕ) → (w % 4 ≡ 3 → ⊥) → whole level c ≡ own level c w
+unfolding own tableWord
 own-leaf level c w n = rw (ne-eqb (w % 4) 3 n)
 
 pub own-done : (level k : ℕ) (e : Edit) (w : Work) {words list : List ℕ} {count : ℕ}

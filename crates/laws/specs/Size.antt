@@ -198,3 +198,7 @@ unfolding sizeAt
 size-offset level a =
     let e : 12 + 9 * (3 - level) ≡ 9 * (3 - level) + 12 = omega arith in
     ap (λ (k : ℕ). a % 2 ^ k % 4096) e ∙ mod-mod-pow a (9 * (3 - level)) 12
+
+-- a call one level down: what is left falls, and the level is one of the four
+pub lower : {level t : ℕ} → 3 - level ≡ t → level < 3 → (3 - (level + 1) < t) × (level + 1 ≤ 3)
+lower e h = (omega arith, omega arith)

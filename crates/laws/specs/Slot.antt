@@ -18,9 +18,3 @@ iter-more f i s = rw add-one
 -- a loop's invariant after one step more: t is the fold over the first i slots of s, and u is t after slot i
 pub iter-step {ℓ} : {S : Type ℓ} (f : ℕ → S → S) (i : ℕ) (s : S) {t u : S} → t ≡ iter f i s → u ≡ f i t → u ≡ iter f (i + 1) s
 iter-step f i s e q = q ∙ ap (f i) e ∙ sym (iter-more f i s)
-
--- what each step keeps, the fold keeps
-pub iter-keeps {ℓ ℓ′} : {S : Type ℓ} {A : Type ℓ′} (g : S → A) (f : ℕ → S → S) → ((i : ℕ) (s : S) → g (f i s) ≡ g s) → (n : ℕ) (s : S) → g (iter f n s) ≡ g s
-unfolding iter
-iter-keeps g f h zero s = refl
-iter-keeps g f h (suc n) s = h n (iter f n s) ∙ iter-keeps g f h n s

@@ -23,8 +23,8 @@ abbrev pub Serves : Handle → Map → St → ℕ → ℕ → Type 0
 Serves h m s k level = (mapRange (3 - level) h k m s ≡ mapRange (3 - h .level) h 0 m s) × (k < tables s) × (level ≤ 3)
 
 -- a table below table k in which the map does what it does in table k
-abbrev pub Leads : Handle → ℕ → ℕ → Map → St → Found → Type 0
-Leads h level k m s f = (j : ℕ) → f ≡ At j → (mapRange (3 - (level + 1)) h j m s ≡ mapRange (3 - level) h k m s) × (j < tables s)
+abbrev pub LeadsTo : Handle → ℕ → ℕ → Map → St → Found → Type 0
+LeadsTo h level k m s f = (j : ℕ) → f ≡ At j → (mapRange (3 - (level + 1)) h j m s ≡ mapRange (3 - level) h k m s) × (j < tables s)
 
 -- a region in one entry is one chunk
 one-chunk : (level : ℕ) (f : Map → St → St) (m : Map) (s : St) → m .region .start .0 < m .region .end .0
@@ -48,8 +48,8 @@ module _ (h : Handle) (level k : ℕ) (m : Map) (s : St) where
       ∙ sym (one-chunk level (stepAt level h k) m s some one)
       ∙ map-open level h k m s (omega arith)
 
-  pub none-leads : Leads h level k m s Nothing
+  pub none-leads : LeadsTo h level k m s Nothing
   none-leads j e = let z : _≡_ {A = ℕ} 0 1 = cc in absurd (omega arith)
 
-  pub some-leads : {j : ℕ} → mapRange (3 - (level + 1)) h j m s ≡ mapRange (3 - level) h k m s → j < tables s → Leads h level k m s (At j)
+  pub some-leads : {j : ℕ} → mapRange (3 - (level + 1)) h j m s ≡ mapRange (3 - level) h k m s → j < tables s → LeadsTo h level k m s (At j)
   some-leads {j} same below i e = let q : j ≡ i = cc in (ap (λ (x : ℕ). mapRange (3 - (level + 1)) h x m s) (sym q) ∙ same, omega arith)

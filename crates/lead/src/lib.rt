@@ -9,7 +9,7 @@ ghost use lib.ListN.{length};
 ghost use Rattle.pool.specs.State.{st};
 ghost use Rattle.pool.specs.Refuse.{Shaped};
 ghost use Rattle.rules.specs.Fit.{Fit};
-ghost use Rattle.lead.specs.Lead.{Leads, Serves};
+ghost use Rattle.lead.specs.Lead.{LeadsTo, Serves};
 
 // A table, and its level.
 pub struct Place {
@@ -27,7 +27,7 @@ fn next_table(
     map: Map,
 ) -> Found
     requires { ⌜ Shaped handle (st (now words) (now ledger)) × (k < length (now ledger)) × (level < 3) × Fit map ⌝ }
-    ensures { λ r. ⌜ Leads handle level k map (st (now (words .entry)) (now (ledger .entry))) r ⌝ }
+    ensures { λ r. ⌜ LeadsTo handle level k map (st (now (words .entry)) (now (ledger .entry))) r ⌝ }
 {
     let start = map.region.start.0;
     let end = map.region.end.0;

@@ -37,16 +37,16 @@ fn put_entry(
     k: usize,
     i: usize,
     rule: Rule,
-    stirred: bool,
+    changed: bool,
 ) -> bool
     requires { ⌜ Shaped handle (st (now words) (now ledger)) × (k < length (now ledger)) × (i < 512) × Stays level rule ⌝ }
     ensures { λ r. ⌜ (st (now (words .exit)) (now (ledger .exit)) ≡ byRule (λ j t. t) handle level k i rule (st (now (words .entry)) (now (ledger .entry))))
-        × (r ≡ false → (stirred ≡ false) × (now (ledger .exit) ≡ now (ledger .entry))) ⌝ }
+        × (r ≡ false → (changed ≡ false) × (now (ledger .exit) ≡ now (ledger .entry))) ⌝ }
 {
     match rule {
         Rule::Write(x) => {
             words[512 * k + i] = x;
-            stirred
+            changed
         }
         Rule::Drop(x) => {
             let word = words[512 * k + i];
@@ -54,16 +54,16 @@ fn put_entry(
             drop_entry(words, ledger, handle, level, word);
             true
         }
-        Rule::Keep => stirred,
-        Rule::Down => stirred,
+        Rule::Keep => changed,
+        Rule::Down => changed,
     }
 }
 
 // Whether a table was taken or freed: before, for a word that was none, or in the tables below.
-fn is_stirred(stirred: bool, word: u64, below: bool) -> bool
-    ensures { λ r. ⌜ (r ≡ false → (stirred ≡ false) × (word % 4 ≡ 3) × (below ≡ false)) ⌝ }
+fn ledger_changed(before: bool, word: u64, below: bool) -> bool
+    ensures { λ r. ⌜ (r ≡ false → (before ≡ false) × (word % 4 ≡ 3) × (below ≡ false)) ⌝ }
 {
-    if stirred {
+    if before {
         return true;
     }
     if word % 4 != 3 {
@@ -88,7 +88,7 @@ pub fn map_range(
     let end = map.region.end.0;
     let mut at = map.region.start.0;
     let mut frame = map.frame.0;
-    let mut stirred = false;
+    let mut changed = false;
     while at < end {
         let stop = region::chunk_end(at, end, level);
         let i = region::entry_index(at, level);
@@ -99,7 +99,7 @@ pub fn map_range(
         let word = words[512 * k + i];
         let rule = rules::rule_of(level, chunk, word);
         let Rule::Down = rule else {
-            stirred = put_entry(words, ledger, handle, level, k, i, rule, stirred);
+            changed = put_entry(words, ledger, handle, level, k, i, rule, changed);
             continue;
         };
         let under = split::descend(words, ledger, handle, level, k, i);
@@ -107,7 +107,7 @@ pub fn map_range(
             continue;
         };
         let below = map_range(words, ledger, handle, j, level + 1, chunk);
-        stirred = is_stirred(stirred, word, below);
+        changed = ledger_changed(changed, word, below);
     }
-    stirred
+    changed
 }

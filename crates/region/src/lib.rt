@@ -1,11 +1,9 @@
 // Regions of virtual addresses and their chunks: MemoryRegion and ChunkedIterator of paging.rs (aarch64-paging 0.12.3).
 use address::VirtualAddress;
 ghost use mathlib.Core.Path.{_≡_};
-ghost use mathlib.Core.Bool.{_&&_};
-ghost use Prim.Native.Nat.{_-_, _%_};
+ghost use Prim.Native.Nat.{_-_};
 ghost use lib.Dec.{eqb};
-ghost use Rattle.laws.specs.Size.{sizeAt};
-ghost use Rattle.region.specs.Region.{rounded, entryLast, entryIndex, chunkEnd, nextChunk};
+ghost use Rattle.region.specs.Region.{rounded, whole, entryLast, entryIndex, chunkEnd, nextChunk};
 
 // The addresses from start up to end, which is not among them.
 pub struct MemoryRegion {
@@ -84,7 +82,7 @@ impl MemoryRegion {
 
     // Whether both ends are multiples of the entry's size at this level.
     pub fn is_block(self, level: usize) -> bool
-        ensures { λ r. ⌜ r ≡ eqb (self .start .0 % sizeAt level) 0 && eqb (self .end .0 % sizeAt level) 0 ⌝ }
+        ensures { λ r. ⌜ r ≡ whole level self ⌝ }
     {
         (self.start.0 | self.end.0) & (address::granularity_at_level(level) - 1) == 0
     }

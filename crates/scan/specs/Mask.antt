@@ -4,18 +4,17 @@ use mathlib.Core.Path.{_≡_, refl, sym, ap, ap₂, _∙_}
 use mathlib.Core.Bool.{Bool, true, false, not, cond, _&&_}
 use mathlib.Core.List.{List, [], _∷_}
 use mathlib.Core.Logic.{_⊎_, inl, inr, _≢_}
-use Prim.Native.Nat.{ℕ, zero, suc, _+_, _*_, _-_, _/_, _%_, _^_, _≤_, _<_, min}
+use Prim.Native.Nat.{ℕ, zero, suc, _+_, _*_, _-_, _/_, _%_, _^_, _<_, min}
 use native.Mathlib.Nat.{zero-add, add-zero, add-assoc}
 use native.Mathlib.Numerals.{add-one}
 use native.Mathlib.Omega.{arith}
-use lib.Bits.{bitAnd, bitOr, and-high, and-mask, and-le-l, or-lt, or-zero-r}
+use lib.Bits.{bitAnd, bitOr, and-high, and-mask, and-le-l, or-zero-r}
 use lib.Dec.{T, eqb, eqb→eq, ltb, ltb→lt, lt→ltb, lit<}
 use lib.Pow.{shr-mod, shr-shr, shl-shr, field}
-use lib.ListN.{length, getD, take, length-take}
-use lib.Seq.{getD-take}
+use lib.ListN.{length, getD, take}
 use borrow.Author.Tests.{eq-eqb, ne-eqb, lt-ltb}
 use Rattle.laws.specs.Bit.{sub-or, sub-parts, and-assoc, and-swap, and-add, and-odd, or-none, or-assoc, or-aligned}
-use Rattle.laws.specs.Size.{sizeAt, down, down-rest, down-le, size-low}
+use Rattle.laws.specs.Size.{sizeAt, down, down-rest, down-le}
 use Rattle.laws.specs.Test.{eqb-cases, same-test, and-l, and-r, and-i, eq→eqb}
 use Rattle.entry.specs.Word.{addressOf, only, el1Flags, plainFlags, mask-plain}
 use Rattle.pool.specs.Number.{levelOf}
@@ -341,49 +340,3 @@ module _ (ws : List ℕ) (i : ℕ) (h : i < length ws) where
 
   pub links-leaf : getD ws i 0 % 4 ≢ 3 → links (take (i + 1) ws) ≡ links (take i ws)
   links-leaf n = links-more ∙ rw (ne-eqb (getD ws i 0 % 4) 3 n) (add-zero (links (take i ws)))
-
--- ---- bounds
-
-pub words-take : (ws : List ℕ) (n : ℕ) → Words ws → Words (take n ws)
-words-take ws n words i h =
-    let l = length-take n ws in
-    rw (getD-take n ws i 0 (omega arith)) (words i (omega arith))
-
-pub union-below : (ws : List ℕ) → Words ws → union ws < 2 ^ 64
-unfolding union
-union-below [] words = lit< tt
-union-below (w ∷ ws) words = or-lt 64 w (union ws) (words 0 (omega arith)) (union-below ws (λ i l. words (suc i) (omega arith)))
-
-pub strays-below : (ws : List ℕ) → Words ws → strays ws < 2 ^ 64
-unfolding strays
-strays-below [] words = lit< tt
-strays-below (w ∷ ws) words =
-    let word : w < 2 ^ 64 = words 0 (omega arith) in
-    let part = and-le-l w (2 ^ 64 - 1 - w / 2) in
-    or-lt 64 (bitAnd w (2 ^ 64 - 1 - w / 2)) (strays ws) (omega arith) (strays-below ws (λ i l. words (suc i) (omega arith)))
-
-pub leaves-below : (ws : List ℕ) → Words ws → leaves ws < 2 ^ 64
-unfolding leaves
-leaves-below [] words = lit< tt
-leaves-below (w ∷ ws) words =
-    or-lt 64 (cond (eqb (w % 4) 3) 0 w) (leaves ws) (part (eqb (w % 4) 3)) (leaves-below ws (λ i l. words (suc i) (omega arith)))
-  where
-    part : (b : Bool) → cond b 0 w < 2 ^ 64
-    part true = lit< tt
-    part false = words 0 (omega arith)
-
-pub links-below : (ws : List ℕ) → links ws ≤ length ws
-unfolding links
-links-below [] = omega arith
-links-below (w ∷ ws) = let r = links-below ws in one (eqb (w % 4) 3) r
-  where
-    one : (b : Bool) → links ws ≤ length ws → cond b 1 0 + links ws ≤ suc (length ws)
-    one true r = omega arith
-    one false r = omega arith
-
-pub allowed-below : (set level : ℕ) → PlainSet set → allowedAt set level < 2 ^ 64
-unfolding allowedAt
-allowed-below set zero plain = let part = and-le-l set (2 ^ 64 - 2) in omega arith
-allowed-below set (suc zero) plain = let pages = shr-shr set 12 36 in let low = size-low 1 in omega arith
-allowed-below set (suc (suc zero)) plain = let pages = shr-shr set 12 36 in let low = size-low 2 in omega arith
-allowed-below set (suc (suc (suc l))) plain = let pages = shr-shr set 12 36 in omega arith

@@ -1,12 +1,11 @@
 -- What an edit would do, entry by entry, ascending (document 01, "Putting down a map", Modify, and refusals 9, 10 and 11). Leans on `House`. Assumes nothing.
-use mathlib.Core.Path.{_≡_, refl, sym, ap, ap₂, _∙_}
-use mathlib.Core.Bool.{Bool, true, false, cond, _&&_}
+use mathlib.Core.Path.{_≡_, sym, ap, ap₂, _∙_}
+use mathlib.Core.Bool.{true, false, cond}
 use mathlib.Core.Logic.{_⊎_, inl, inr, ⊎-elim}
-use Prim.Native.Nat.{ℕ, zero, suc, _+_, _-_, _%_, _≤_, _<_}
+use Prim.Native.Nat.{ℕ, zero, suc, _+_, _-_, _≤_, _<_}
 use native.Mathlib.Omega.{arith}
 use lib.Dec.{eqb, ltb}
 use borrow.Author.Tests.{eq-eqb, ne-eqb, lt-ltb}
-use Rattle.laws.specs.Size.{sizeAt}
 use Rattle.laws.specs.Test.{le-or}
 use Rattle.entry.specs.Word.{kindOf}
 use Rattle.entry.specs.Sub.{subOf}
@@ -82,10 +81,6 @@ surveyRange (suc left) h s k e v = eachChunk (3 - suc left) (surveyChunk (λ j n
 pub adding-is : (f : MemoryRegion → ℕ) (c : MemoryRegion) (n : ℕ) {x : ℕ} → x ≡ f c → n + x ≡ adding f c n
 unfolding adding
 adding-is f c n e = ap (λ (y : ℕ). n + y) e
-
-pub whole-is : (level : ℕ) (r : MemoryRegion) → whole level r ≡ eqb (r .start .0 % sizeAt level) 0 && eqb (r .end .0 % sizeAt level) 0
-unfolding whole
-whole-is level r = refl
 
 module _ (level : ℕ) (r : MemoryRegion) where
   pub splits-page : 3 ≤ level → 0 ≡ splitsIn (3 - level) r

@@ -3,6 +3,7 @@ use mathlib.Core.Path.{_≡_, refl, sym, ap, _∙_, subst⁻¹}
 use Prim.Native.Nat.{ℕ, _+_, _*_, _-_, _≤_, _<_}
 use native.Mathlib.Omega.{arith}
 use lib.ListN.{length}
+use Rattle.laws.specs.Size.{lower}
 use Rattle.laws.specs.Slot.{iter, iter-none, iter-step}
 use Rattle.entry.specs.Sub.{sub-found}
 use Rattle.entry.proofs.Tags.{no-table}
@@ -46,10 +47,6 @@ abbrev μ-loop : lts.MeasureT-loop
 -- one slot fewer is left
 less : {i : ℕ} → i < 512 → 512 - (i + 1) < 512 - i
 less h = omega arith
-
--- a table's level is one of the upper three
-lower : {level t : ℕ} → 3 - level ≡ t → level < 3 → (3 - (level + 1) < t) × (level + 1 ≤ 3)
-lower e h = (omega arith, omega arith)
 
 returns : (t : ℕ) → lts.Need-returns (calls t) (started t) reads.Post Inv-loop μ-loop
 returns t c =

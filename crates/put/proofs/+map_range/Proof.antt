@@ -23,7 +23,7 @@ use Rattle.put.proofs.map_range.Reads as map-range
 use Rattle.put.proofs.map_range.Kinds as map-range-kinds
 use Rattle.put.proofs.+map_range.Lts-map_range as map-range-lts
 use Rattle.split.proofs.descend.Reads as descend-reads
-use Rattle.put.proofs.is_stirred.Reads as is-stirred-reads
+use Rattle.put.proofs.ledger_changed.Reads as ledger-changed-reads
 use Rattle.put.proofs.put_entry.Reads as put-entry-reads
 use Rattle.rules.proofs.chunk_of.Reads as chunk-of-reads
 use Rattle.rules.proofs.rule_of.Reads as rule-of-reads
@@ -43,17 +43,17 @@ map-range-below t =
     and 2 map-range-kinds.ps (falls 2 map-range-kinds.ps _<_ μ-map-range t) map-range.Pre
 
 abbrev calls : ℕ → map-range-lts.Claims
-calls t = (chunk-end-reads.Asked, chunk-end-reads.Learnt, entry-index-reads.Asked, entry-index-reads.Learnt, chunk-of-reads.Asked, chunk-of-reads.Learnt, rule-of-reads.Asked, rule-of-reads.Learnt, put-entry-reads.Asked, put-entry-reads.Learnt, descend-reads.Asked, descend-reads.Learnt, map-range-below t, map-range.Post, is-stirred-reads.Asked, is-stirred-reads.Learnt)
+calls t = (chunk-end-reads.Asked, chunk-end-reads.Learnt, entry-index-reads.Asked, entry-index-reads.Learnt, chunk-of-reads.Asked, chunk-of-reads.Learnt, rule-of-reads.Asked, rule-of-reads.Learnt, put-entry-reads.Asked, put-entry-reads.Learnt, descend-reads.Asked, descend-reads.Learnt, map-range-below t, map-range.Post, ledger-changed-reads.Asked, ledger-changed-reads.Learnt)
 
 abbrev map-range-Inv-loop : map-range-lts.InvT-loop
-map-range-Inv-loop words₀ ledger₀ handle k level map end at₀ frame₀ stirred₀ words ledger at frame stirred =
+map-range-Inv-loop words₀ ledger₀ handle k level map end at₀ frame₀ changed₀ words ledger at frame changed =
     (at ≤ map .region .end .0) × (at % 4096 ≡ 0) × (frame % 4096 ≡ 0) × (frame + (map .region .end .0 - at) ≤ 2 ^ 48)
     × (length words ≡ length words₀) × (length ledger ≡ length ledger₀)
     × (eachChunk level (stepAt level handle k) (chunkMap map (region at (map .region .end .0)) frame) (st words ledger) ≡ eachChunk level (stepAt level handle k) map (st words₀ ledger₀))
-    × (stirred ≡ false → ledger ≡ ledger₀)
+    × (changed ≡ false → ledger ≡ ledger₀)
 
 abbrev map-range-μ-loop : map-range-lts.MeasureT-loop
-map-range-μ-loop words₀ ledger₀ handle k level map end at₀ frame₀ stirred₀ words ledger at frame stirred = map .region .end .0 - at
+map-range-μ-loop words₀ ledger₀ handle k level map end at₀ frame₀ changed₀ words ledger at frame changed = map .region .end .0 - at
 
 -- a chunk, once its end, its slot and its map are known
 abbrev Place : ℕ → Type 0
@@ -235,8 +235,8 @@ map-range-map-range-requires t c κs =
       (shaped-keep (a .handle) s (st (under .descend .last .0) (under .descend .last .1 .0)) (f .shape) (under .descend .kept .0) (under .descend .kept .1 .0), omega (arith, found, under .descend .kept .1 .0), omega (arith, high), f .fit),
     )
 
-map-range-is-stirred-requires : (t : ℕ) → map-range-lts.Need-is-stirred-requires (calls t) (map-range-at t) map-range.Post map-range-Inv-loop map-range-μ-loop
-map-range-is-stirred-requires t c κs = tt
+map-range-ledger-changed-requires : (t : ℕ) → map-range-lts.Need-ledger-changed-requires (calls t) (map-range-at t) map-range.Post map-range-Inv-loop map-range-μ-loop
+map-range-ledger-changed-requires t c κs = tt
 
 map-range-loop-less-3 : (t : ℕ) → map-range-lts.Need-loop-less-3 (calls t) (map-range-at t) map-range.Post map-range-Inv-loop map-range-μ-loop
 map-range-loop-less-3 t c = omega (arith, facts t (c .before .before .before .before .before .before .before .before .before .before .before .before .before .before .before .before .before .before .before .before .before .before) .above)
@@ -260,7 +260,7 @@ map-range-loop-again-3 t c =
       lower .kept .0 ∙ under .kept .0 ∙ at .loop .inv .4,
       lower .kept .1 .0 ∙ under .kept .1 .0 ∙ at .loop .inv .5,
       ap (eachChunk (a .level) (stepAt (a .level) (a .handle) (a .k)) (leftOf t place)) (lower .ensures .0 ∙ chunk-into (a .handle) (a .level) (a .k) (chunkOf t place) s (f .index) r down (under .ensures) _ (c .before .before .before .before .before .before .before .before .before .under .given .1) high) ∙ f .next,
-      λ e. let q = c .is-stirred .ensures e in
+      λ e. let q = c .ledger-changed .ensures e in
           lower .ensures .1 (q .2) ∙ ap (λ (x : St). x .ledger) (below-kept (a .handle) (a .level) (a .k) (place .before .entry-index .result) s (under .ensures) high (q .1)) ∙ at .loop .inv .7 (q .0),
     )
 
@@ -308,7 +308,7 @@ pub +map-range-spec : {M : Type 1} → statement M
     (map-range-loop-again-2 t)
     (map-range-add-map-range t)
     (map-range-map-range-requires t)
-    (map-range-is-stirred-requires t)
+    (map-range-ledger-changed-requires t)
     (map-range-loop-less-3 t)
     (map-range-loop-again-3 t)
     (map-range-same-length t)

@@ -3,7 +3,6 @@ use Prim.Native.Nat.{_%_, _^_, _<_}
 use native.Mathlib.Omega.{arith}
 use borrow.Author.Tests.{not-true, not-false}
 use Rattle.entry.specs.Word.{Plain}
-use Rattle.region.specs.Region.{whole}
 use Rattle.rules.specs.declared.Rule.the-variants.{Write}
 use Rattle.rules.specs.Laws.{rule-page, rule-keep, rule-part, rule-drop, rule-into, rule-block, rule-split}
 use borrow.Author.Needs.{needs}
@@ -36,15 +35,12 @@ is-block-requires : tie.Need-is-block-requires
 is-block-requires c κs = search needs
 
 returns-3 : tie.Need-returns-3
-unfolding whole
 returns-3 c = let a = c .before .before .before .before .before .before .args in rule-part (a .level) (a .map) (a .word) (omega arith) (sym (c .before .before .before .before .is-same .ensures) ∙ c .before .before .before .if2 .left) (sym (c .before .is-block .ensures) ∙ not-true _ (c .if3 .taken))
 
 returns-4 : tie.Need-returns-4
-unfolding whole
 returns-4 c = let a = c .before .before .before .before .before .before .before .before .before .args in rule-drop (a .level) (a .map) (a .word) (omega arith) (sym (c .before .before .before .before .before .before .before .is-same .ensures) ∙ c .before .before .before .before .before .before .if2 .left) (sym (c .before .before .before .before .is-block .ensures) ∙ not-false _ (c .before .before .before .if3 .left)) (c .before .before .if4 .taken) (c .if5 .taken)
 
 returns-5 : tie.Need-returns-5
-unfolding whole
 returns-5 c = let a = c .before .before .before .before .before .before .before .before .before .args in rule-into (a .level) (a .map) (a .word) (omega arith) (sym (c .before .before .before .before .before .before .before .is-same .ensures) ∙ c .before .before .before .before .before .before .if2 .left) (sym (c .before .before .before .before .is-block .ensures) ∙ not-false _ (c .before .before .before .if3 .left)) (c .before .before .if4 .taken) (c .if5 .left)
 
 is-blockable-requires : tie.Need-is-blockable-requires
@@ -54,7 +50,6 @@ leaf-word-requires-2 : tie.Need-leaf-word-requires-2
 leaf-word-requires-2 c κs = leaf-needs (c .before .before .before .before .before .before .before .before .before)
 
 returns-6 : tie.Need-returns-6
-unfolding whole
 returns-6 c =
     let a = c .before .before .before .before .before .before .before .before .before .before .args in
     ap Write (c .leaf-word2 .ensures)
@@ -62,7 +57,6 @@ returns-6 c =
     (sym (c .before .before .is-blockable .ensures) ∙ c .before .if6 .taken)
 
 returns-7 : tie.Need-returns-7
-unfolding whole
 returns-7 c =
     let a = c .before .before .before .before .before .before .before .before .before .args in
     rule-split (a .level) (a .map) (a .word) (omega arith) (sym (c .before .before .before .before .before .before .before .is-same .ensures) ∙ c .before .before .before .before .before .before .if2 .left) (sym (c .before .before .before .before .is-block .ensures) ∙ not-false _ (c .before .before .before .if3 .left)) (c .before .before .if4 .left)

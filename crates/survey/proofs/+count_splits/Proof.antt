@@ -1,10 +1,10 @@
 use mathlib.Core.Path.{_≡_, refl, sym, ap, _∙_}
 use Prim.Native.Nat.{_+_, _*_, _-_, _^_, _≤_}
 use native.Mathlib.Omega.{arith}
-use Rattle.region.specs.Region.{region, whole}
+use Rattle.region.specs.Region.{region}
 use Rattle.region.specs.Chunks.{chunk-fits}
 use Rattle.edit.specs.Each.{eachChunk, each-done, each-step}
-use Rattle.survey.specs.Find.{adding, adding-is, splitsIn, splits-page, splits-whole, splits-part, whole-is}
+use Rattle.survey.specs.Find.{adding, adding-is, splitsIn, splits-page, splits-whole, splits-part}
 use Rattle.survey.specs.Room.{splits-most}
 use Prim.Native.Nat.{ℕ, _<_}
 use borrow.Fn.Kinds.{In}
@@ -79,7 +79,7 @@ count-splits-is-block-requires : (t : ℕ) → count-splits-lts.Need-is-block-re
 count-splits-is-block-requires t c κs = tt
 
 count-splits-returns-2 : (t : ℕ) → count-splits-lts.Need-returns-2 (calls t) (count-splits-at t) count-splits.Post count-splits-Inv-loop count-splits-μ-loop
-count-splits-returns-2 t c = let a = c .before .before .before .args in splits-whole (a .level) (a .region) (omega arith) (whole-is (a .level) (a .region) ∙ sym (c .before .is-block .ensures) ∙ c .if2 .taken)
+count-splits-returns-2 t c = let a = c .before .before .before .args in splits-whole (a .level) (a .region) (omega arith) (sym (c .before .is-block .ensures) ∙ c .if2 .taken)
 
 count-splits-loop-holds : (t : ℕ) → count-splits-lts.Need-loop-holds (calls t) (count-splits-at t) count-splits.Post count-splits-Inv-loop count-splits-μ-loop
 count-splits-loop-holds t c = let p = c .before .before .before .pre .1 in (p, omega arith, refl)
@@ -123,7 +123,7 @@ count-splits-returns-3 t c =
     let a = c .before .before .before .before .before .args in
     sym (each-done (a .level + 1) (adding (splitsIn (3 - (a .level + 1)))) (at .loop .at) (a .region .end .0) (at .loop .count) (omega arith))
     ∙ at .loop .inv .2
-    ∙ splits-part (a .level) (a .region) (omega arith) (whole-is (a .level) (a .region) ∙ sym (c .before .before .before .is-block .ensures) ∙ c .before .before .if2 .left)
+    ∙ splits-part (a .level) (a .region) (omega arith) (sym (c .before .before .before .is-block .ensures) ∙ c .before .before .if2 .left)
 
 pub +count-splits-spec : {M : Type 1} → statement M
 +count-splits-spec = close μ-count-splits λ t. count-splits-lts.spec (calls t)

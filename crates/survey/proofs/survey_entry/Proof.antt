@@ -1,5 +1,5 @@
 use mathlib.Core.Path.{_≡_, sym, _∙_}
-use Rattle.survey.specs.Find.{whole-is, entry-whole, entry-part}
+use Rattle.survey.specs.Find.{entry-whole, entry-part}
 use Rattle.survey.proofs.survey_entry.Statement.{statement}
 use Rattle.survey.proofs.survey_entry.Tie as tie
 use Rattle.survey.proofs.survey_entry.Reads as reads
@@ -15,13 +15,13 @@ survey-whole-requires : tie.Need-survey-whole-requires
 survey-whole-requires c κs = c .before .before .before .pre
 
 returns : tie.Need-returns
-returns c = let a = c .before .before .before .before .args in c .survey-whole .ensures ∙ entry-whole (a .handle) (a .level) (a .edit) (a .word) (a .seen) (whole-is (a .level) (a .edit .region) ∙ sym (c .before .before .is-block .ensures) ∙ c .before .if1 .taken)
+returns c = let a = c .before .before .before .before .args in c .survey-whole .ensures ∙ entry-whole (a .handle) (a .level) (a .edit) (a .word) (a .seen) (sym (c .before .before .is-block .ensures) ∙ c .before .if1 .taken)
 
 survey-part-requires : tie.Need-survey-part-requires
 survey-part-requires c κs = c .before .before .before .pre
 
 returns-2 : tie.Need-returns-2
-returns-2 c = let a = c .before .before .before .before .args in c .survey-part .ensures ∙ entry-part (a .handle) (a .level) (a .edit) (a .word) (a .seen) (whole-is (a .level) (a .edit .region) ∙ sym (c .before .before .is-block .ensures) ∙ c .before .if1 .left)
+returns-2 c = let a = c .before .before .before .before .args in c .survey-part .ensures ∙ entry-part (a .handle) (a .level) (a .edit) (a .word) (a .seen) (sym (c .before .before .is-block .ensures) ∙ c .before .if1 .left)
 
 pub survey-entry-spec : {M : Type 1} → statement M
 survey-entry-spec =

@@ -4,6 +4,7 @@ use mathlib.Core.Path.{_≡_, refl, sym, ap, _∙_, subst⁻¹}
 use Prim.Native.Nat.{_+_, _*_, _-_, _≤_}
 use native.Mathlib.Omega.{arith}
 use lib.ListN.{length}
+use Rattle.laws.specs.Size.{lower}
 use Rattle.laws.specs.Slot.{iter, iter-none, iter-step}
 use Rattle.entry.specs.Sub.{sub-found}
 use Rattle.pool.specs.State.{St, st}
@@ -43,10 +44,6 @@ free-Inv-loop words₀ ledger₀ handle k level i₀ words ledger i =
 
 abbrev free-μ-loop : free-lts.MeasureT-loop
 free-μ-loop words₀ ledger₀ handle k level i₀ words ledger i = 512 - i
-
--- a table's level is one of the upper three
-lower : {level t : ℕ} → 3 - level ≡ t → level < 3 → (3 - (level + 1) < t) × (level + 1 ≤ 3)
-lower e h = (omega arith, omega arith)
 
 free-clear-table-requires : (t : ℕ) → free-lts.Need-clear-table-requires (calls t) (free-at t) free.Post free-Inv-loop free-μ-loop
 free-clear-table-requires t c κs = let p = c .before .before .before .before .before .pre .1 in (p .0, p .1)

@@ -4,6 +4,7 @@ use native.Mathlib.Omega.{arith}
 use lib.Bits.{bitAnd, bitOr}
 use lib.Dec.{eqb}
 use Rattle.laws.specs.Size.{size-pos, size-aligned}
+use Rattle.region.specs.Region.{whole}
 use borrow.Author.Needs.{needs}
 use Rattle.region.proofs.MemoryRegion.is_block.Statement.{statement}
 use Rattle.region.proofs.MemoryRegion.is_block.Tie as tie
@@ -18,6 +19,7 @@ sub-result : tie.Need-sub-result
 sub-result c = omega (arith, c .granularity-at-level .ensures, size-pos (c .before .before .args .level))
 
 returns : tie.Need-returns
+unfolding whole
 returns c =
     let a = c .before .before .args in
     let s = a .self .start .0 in

@@ -1,189 +1,206 @@
-// The calls. Each says its answer in words, and the bench keeps it.
-use crate::state::Bench;
+// The calls. Each says its answer in words, and gives 0 or its refusal; its values go over those of `answer`.
+use crate::state::Args;
+use crate::state::Handle;
 
-// A call that has nothing to say but that it was done.
-fn say_done(refusal: u64, answer: [u64; 4]) {
-    if refusal == 0 {
-        report::say(b"  accepted\n");
-    } else {
-        report::say_refusal(refusal, answer[0], answer[1]);
-    }
-}
+// How an accepted call's answer is said.
+const DONE: u64 = 0;
 
-// A call that answers with a count.
-fn say_counted(refusal: u64, answer: [u64; 4], what: &[u8]) {
-    if refusal == 0 {
-        report::say_count(what, answer[0]);
-        report::say(b"\n");
-    } else {
-        report::say_refusal(refusal, answer[0], answer[1]);
+const IN_USE: u64 = 1;
+
+const ENTRIES: u64 = 2;
+
+pub const ALL_VALUES: u64 = 3;
+
+// An answer. Values that an accepted call does not have are 0.
+pub fn say_answer(form: u64, refusal: u64, answer: &[u64; 4]) {
+    if refusal != 0 {
+        return report::say_refusal(refusal, answer);
     }
+    let forms = b"  accepted
+  accepted: tables in use $
+  accepted: entries $
+  accepted, with # # # #
+";
+    report::say_row(forms, form, answer);
 }
 
 // `make TABLES BASE LEVEL RANGE`, on as many tables.
-pub fn make(
-    words: &mut [u64],
-    ledger: &mut [u32],
-    bench: Bench,
-    base: u64,
-    level: u64,
-    range: u64,
-) -> Bench {
-    let mut answer = [0u64; 4];
-    let refusal = ptb::ptb_make(words, ledger, base, level, range, &mut answer);
-    say_done(refusal, answer);
-    let after = bench.answered(refusal, answer);
-    if refusal != 0 {
-        return after;
-    }
-    after.made(ledger.len(), base, level, range)
+pub fn make(words: &mut [u64], ledger: &mut [u32], handle: Handle, answer: &mut [u64; 4]) -> u64 {
+    let refusal = ptb::ptb_make(
+        words,
+        ledger,
+        handle.base,
+        handle.level,
+        handle.range,
+        answer,
+    );
+    say_answer(DONE, refusal, answer);
+    refusal
 }
 
 // `check`
-pub fn check(words: &[u64], ledger: &[u32], bench: Bench) -> Bench {
-    let mut answer = [0u64; 4];
+pub fn check(words: &[u64], ledger: &[u32], handle: Handle, answer: &mut [u64; 4]) -> u64 {
     let refusal = ptb::ptb_check(
         words,
         ledger,
-        bench.base,
-        bench.level,
-        bench.range,
-        &mut answer,
+        handle.base,
+        handle.level,
+        handle.range,
+        answer,
     );
-    say_done(refusal, answer);
-    bench.answered(refusal, answer)
+    say_answer(DONE, refusal, answer);
+    refusal
 }
 
 // `map START END FRAME FLAGS [noblocks]`; `unmap START END` is a map with frame and flags 0.
-pub fn map(words: &mut [u64], ledger: &mut [u32], bench: Bench, values: &[u64; 6]) -> Bench {
-    let mut answer = [0u64; 4];
+pub fn map(
+    words: &mut [u64],
+    ledger: &mut [u32],
+    handle: Handle,
+    args: Args,
+    answer: &mut [u64; 4],
+) -> u64 {
     let refusal = ptb::ptb_map(
         words,
         ledger,
-        bench.base,
-        bench.level,
-        bench.range,
-        values[0],
-        values[1],
-        values[2],
-        values[3],
-        values[4],
-        &mut answer,
+        handle.base,
+        handle.level,
+        handle.range,
+        args.first,
+        args.second,
+        args.third,
+        args.fourth,
+        args.fifth,
+        answer,
     );
-    say_counted(refusal, answer, b"  accepted: tables in use ");
-    bench.answered(refusal, answer)
+    say_answer(IN_USE, refusal, answer);
+    refusal
 }
 
 // `compact`
-pub fn compact(words: &mut [u64], ledger: &mut [u32], bench: Bench) -> Bench {
-    let mut answer = [0u64; 4];
+pub fn compact(
+    words: &mut [u64],
+    ledger: &mut [u32],
+    handle: Handle,
+    answer: &mut [u64; 4],
+) -> u64 {
     let refusal = ptb::ptb_compact(
         words,
         ledger,
-        bench.base,
-        bench.level,
-        bench.range,
-        &mut answer,
+        handle.base,
+        handle.level,
+        handle.range,
+        answer,
     );
-    say_counted(refusal, answer, b"  accepted: tables in use ");
-    bench.answered(refusal, answer)
+    say_answer(IN_USE, refusal, answer);
+    refusal
 }
 
-// What a modify answers: the tables in use and, live, the page numbers of the entries that it changed.
-fn say_modified(refusal: u64, answer: [u64; 4], list: &[u64]) {
-    say_counted(refusal, answer, b"  accepted: tables in use ");
-    if refusal == 0 {
-        view::say_numbers(list, answer[1]);
-    }
-}
-
-// `modify START END SET CLEAR`, and `live`.
+// `modify START END SET CLEAR`, and `live`. It answers with the tables in use and, live, with the page numbers of the entries that it changed.
 pub fn modify(
     words: &mut [u64],
     ledger: &mut [u32],
-    bench: Bench,
-    values: &[u64; 6],
+    handle: Handle,
+    args: Args,
     live: u64,
-) -> Bench {
-    let mut answer = [0u64; 4];
+    answer: &mut [u64; 4],
+) -> u64 {
     let mut list = [0u64; 512];
     let refusal = ptb::ptb_modify(
         words,
         ledger,
-        bench.base,
-        bench.level,
-        bench.range,
-        values[0],
-        values[1],
-        values[2],
-        values[3],
+        handle.base,
+        handle.level,
+        handle.range,
+        args.first,
+        args.second,
+        args.third,
+        args.fourth,
         live,
         &mut list,
-        &mut answer,
+        answer,
     );
-    say_modified(refusal, answer, &list);
-    bench.answered(refusal, answer)
+    say_answer(IN_USE, refusal, answer);
+    if refusal == 0 {
+        view::say_numbers(&list, answer[1]);
+    }
+    refusal
 }
 
 // `look ADDRESS`
-pub fn look(words: &[u64], ledger: &[u32], bench: Bench, address: u64) -> Bench {
-    let mut answer = [0u64; 4];
+pub fn look(
+    words: &[u64],
+    ledger: &[u32],
+    handle: Handle,
+    address: u64,
+    answer: &mut [u64; 4],
+) -> u64 {
     let refusal = ptb::ptb_look_up(
         words,
         ledger,
-        bench.base,
-        bench.level,
-        bench.range,
+        handle.base,
+        handle.level,
+        handle.range,
         address,
-        &mut answer,
+        answer,
     );
     if refusal == 0 {
-        report::say_looked(answer[0], answer[1], answer[2], answer[3]);
+        report::say_looked(answer);
     } else {
-        report::say_refusal(refusal, answer[0], answer[1]);
+        report::say_refusal(refusal, answer);
     }
-    bench.answered(refusal, answer)
+    refusal
 }
 
 // `list START END`
-pub fn list(words: &[u64], ledger: &[u32], bench: Bench, start: u64, end: u64) -> Bench {
-    let mut answer = [0u64; 4];
+pub fn list(
+    words: &[u64],
+    ledger: &[u32],
+    handle: Handle,
+    args: Args,
+    answer: &mut [u64; 4],
+) -> u64 {
     let mut lines = [0u64; 3072];
     let refusal = ptb::ptb_list(
         words,
         ledger,
-        bench.base,
-        bench.level,
-        bench.range,
-        start,
-        end,
+        handle.base,
+        handle.level,
+        handle.range,
+        args.first,
+        args.second,
         &mut lines,
-        &mut answer,
+        answer,
     );
-    say_counted(refusal, answer, b"  accepted: entries ");
+    say_answer(ENTRIES, refusal, answer);
     if refusal == 0 {
         view::say_lines(&lines, answer[0]);
     }
-    bench.answered(refusal, answer)
+    refusal
 }
 
 // `image TABLE`
-pub fn image(words: &[u64], ledger: &[u32], bench: Bench, table: u64) -> Bench {
-    let mut answer = [0u64; 4];
+pub fn image(
+    words: &[u64],
+    ledger: &[u32],
+    handle: Handle,
+    table: u64,
+    answer: &mut [u64; 4],
+) -> u64 {
     let mut page = [0u8; 4096];
     let refusal = ptb::ptb_image(
         words,
         ledger,
-        bench.base,
-        bench.level,
-        bench.range,
+        handle.base,
+        handle.level,
+        handle.range,
         table,
         &mut page,
-        &mut answer,
+        answer,
     );
-    say_done(refusal, answer);
+    say_answer(DONE, refusal, answer);
     if refusal == 0 {
         report::say_page(&page);
     }
-    bench.answered(refusal, answer)
+    refusal
 }

@@ -1,11 +1,8 @@
 // A command by its number, with its values: the part of the pool that it works on, and the call.
+use calls::Answer;
 use calls::Args;
-use calls::BASE;
+use calls::Bench;
 use calls::Handle;
-use calls::LEVEL;
-use calls::RANGE;
-use calls::REFUSAL;
-use calls::TABLES;
 
 // The first command that is a call, the first that writes.
 const CHECK: u64 = 5;
@@ -28,42 +25,8 @@ fn by_hand(command: u64, count: usize, words: &mut [u64], ledger: &mut [u32], ar
     }
 }
 
-// The calls that read the pool: 5 check, 6 look, 7 list, 8 image.
-fn read(
-    command: u64,
-    words: &[u64],
-    ledger: &[u32],
-    handle: Handle,
-    args: Args,
-    answer: &mut [u64; 4],
-) -> u64 {
-    match command {
-        5 => calls::check(words, ledger, handle, answer),
-        6 => calls::look(words, ledger, handle, args.first, answer),
-        7 => calls::list(words, ledger, handle, args, answer),
-        _ => calls::image(words, ledger, handle, args.first, answer),
-    }
-}
-
-// The calls that write: 9 make, 10 map, 11 unmap, 12 modify, 13 live, 14 compact.
-fn write(
-    command: u64,
-    words: &mut [u64],
-    ledger: &mut [u32],
-    handle: Handle,
-    args: Args,
-    answer: &mut [u64; 4],
-) -> u64 {
-    match command {
-        9 => calls::make(words, ledger, handle, answer),
-        10..=11 => calls::map(words, ledger, handle, args, answer),
-        14 => calls::compact(words, ledger, handle, answer),
-        _ => calls::modify(words, ledger, handle, args, command % 2, answer),
-    }
-}
-
 // The handle that a call is made with: that of the pool, or the one that make asks for.
-fn handle_of(command: u64, kept: &[u64; 8], args: Args) -> Handle {
+fn handle_of(command: u64, handle: Handle, args: Args) -> Handle {
     if command == MAKE {
         return Handle {
             base: args.second,
@@ -71,55 +34,27 @@ fn handle_of(command: u64, kept: &[u64; 8], args: Args) -> Handle {
             range: args.fourth,
         };
     }
-    Handle {
-        base: kept[BASE],
-        level: kept[LEVEL],
-        range: kept[RANGE],
-    }
+    handle
 }
 
-// After a pool is made.
-fn keep_pool(kept: &mut [u64; 8], handle: Handle, tables: usize) {
-    kept[TABLES] = tables as u64;
-    kept[BASE] = handle.base;
-    kept[LEVEL] = handle.level;
-    kept[RANGE] = handle.range;
-}
-
-// The values of the call before are gone.
-fn clear(answer: &mut [u64; 4]) {
-    answer[0] = 0;
-    answer[1] = 0;
-    answer[2] = 0;
-    answer[3] = 0;
-}
-
-// A command on the pool, its words and its ledger.
+// A command on the pool, its words and its ledger. `answer` stays if it is no call.
 fn on_pool(
     command: u64,
     count: usize,
     words: &mut [u64],
     ledger: &mut [u32],
+    handle: Handle,
     args: Args,
-    kept: &mut [u64; 8],
-    answer: &mut [u64; 4],
-) {
+    answer: Answer,
+) -> Answer {
     if command < CHECK {
-        return by_hand(command, count, words, ledger, args);
+        by_hand(command, count, words, ledger, args);
+        return answer;
     }
-    clear(answer);
-    let handle = handle_of(command, kept, args);
     if command < MAKE {
-        kept[REFUSAL] = read(command, words, ledger, handle, args, answer);
-        return;
+        return calls::read(command, words, ledger, handle, args);
     }
-    let refusal = write(command, words, ledger, handle, args, answer);
-    kept[REFUSAL] = refusal;
-    if command == MAKE {
-        if refusal == 0 {
-            keep_pool(kept, handle, ledger.len());
-        }
-    }
+    calls::write(command, words, ledger, handle, args)
 }
 
 // How many tables a command works on: those that make asks for, else the pool's. 9 for too many, 10 for none.
@@ -147,25 +82,38 @@ fn lend(
     words: &mut [u64],
     ledger: &mut [u32],
     tables: usize,
+    handle: Handle,
     args: Args,
-    kept: &mut [u64; 8],
-    answer: &mut [u64; 4],
-) {
+    answer: Answer,
+) -> Answer {
     if ledger.len() < tables {
-        return;
+        return answer;
     }
     if words.len() / 512 < tables {
-        return;
+        return answer;
     }
     on_pool(
         command,
         count,
         &mut words[..512 * tables],
         &mut ledger[..tables],
+        handle,
         args,
-        kept,
         answer,
-    );
+    )
+}
+
+// After a call; a pool that make made is kept.
+fn after(command: u64, bench: Bench, tables: u64, handle: Handle, answer: Answer) -> Bench {
+    let mut kept = bench;
+    kept.answer = answer;
+    if command == MAKE {
+        if answer.refusal == 0 {
+            kept.tables = tables;
+            kept.handle = handle;
+        }
+    }
+    kept
 }
 
 // A command, its number as in the usage table.
@@ -174,29 +122,33 @@ pub fn run(
     count: usize,
     words: &mut [u64],
     ledger: &mut [u32],
+    bench: Bench,
     values: &[u64; 6],
-    kept: &mut [u64; 8],
-    answer: &mut [u64; 4],
     number: u64,
-) {
+) -> Bench {
     if command == 0 {
-        return calls::expect(kept, answer, values, count, number);
+        return calls::expect(bench, values, count, number);
     }
-    let tables = tables_of(command, kept[TABLES], values[0]);
+    let args = args_of(values);
+    let tables = tables_of(command, bench.tables, args.first);
     if 8 < tables {
         say_no_pool(number, tables);
-        return calls::tally(kept, calls::WRONG);
+        return bench.missed();
     }
-    lend(
+    let old = bench.handle;
+    let last = bench.answer;
+    let handle = handle_of(command, old, args);
+    let answer = lend(
         command,
         count,
         words,
         ledger,
         tables as usize,
-        args_of(values),
-        kept,
-        answer,
+        handle,
+        args,
+        last,
     );
+    after(command, bench, tables, handle, answer)
 }
 
 fn say_no_pool(number: u64, tables: u64) {

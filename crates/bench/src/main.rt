@@ -2,6 +2,7 @@
 // Leans on calls for the library's calls, on script for the lines, on report and view for the words.
 mod command;
 
+use calls::Bench;
 use script::Ask;
 use script::Line;
 use script::Word;
@@ -39,10 +40,9 @@ fn turn(
     usage: &[u8],
     words: &mut [u64],
     ledger: &mut [u32],
-    kept: &mut [u64; 8],
-    answer: &mut [u64; 4],
+    bench: Bench,
     number: u64,
-) {
+) -> Bench {
     let mut values = [0u64; 6];
     let ask = script::asked(text, length, usage, &mut values);
     if ask.why == 0 {
@@ -51,36 +51,40 @@ fn turn(
             ask.count,
             words,
             ledger,
+            bench,
             &values,
-            kept,
-            answer,
             number,
         );
     }
-    if ask.why != 6 {
-        complain(text, usage, ask, number);
-        calls::tally(kept, calls::WRONG);
+    if ask.why == 6 {
+        return bench;
     }
+    complain(text, usage, ask, number);
+    bench.missed()
 }
 
 // Line by line to the end of the input.
-fn lines(
-    usage: &[u8],
-    words: &mut [u64],
-    ledger: &mut [u32],
-    kept: &mut [u64; 8],
-    answer: &mut [u64; 4],
-) {
+fn lines(usage: &[u8], words: &mut [u64], ledger: &mut [u32]) -> Bench {
     let mut text = [0u8; 256];
+    let mut bench = Bench::new();
     let mut number = 0;
     while number < 0xFFFF_FFFF {
         number += 1;
         let Line::Length(length) = script::read_line(&mut text) else {
-            return;
+            return bench;
         };
         echo(&text, length);
-        turn(&text, length, usage, words, ledger, kept, answer, number);
+        bench = turn(&text, length, usage, words, ledger, bench, number);
     }
+    bench
+}
+
+// The tallies.
+fn close(bench: Bench) {
+    let form = b"answers as expected: $, not as expected: $, lines not understood: $
+";
+    report::say(b"\n");
+    report::say_row(form, 0, &[bench.held, bench.failed, bench.wrong, 0]);
 }
 
 // Each command with what it takes, what may be left out in brackets. The line's number is the command's.
@@ -103,18 +107,5 @@ compact
 ";
     let mut words = [0u64; 4096];
     let mut ledger = [0u32; 8];
-    let mut kept = [0u64; 8];
-    let mut answer = [0u64; 4];
-    kept[calls::REFUSAL] = calls::NO_CALL;
-    lines(usage, &mut words, &mut ledger, &mut kept, &mut answer);
-    close(&kept);
-}
-
-// The tallies.
-fn close(kept: &[u64; 8]) {
-    let forms = b"
-answers as expected: $, not as expected: $, lines not understood: $
-";
-    report::say(b"\n");
-    report::say_row(forms, 1, &[kept[5], kept[6], kept[7], 0]);
+    close(lines(usage, &mut words, &mut ledger));
 }

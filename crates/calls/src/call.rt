@@ -1,4 +1,5 @@
-// The calls. Each says its answer in words, and gives 0 or its refusal; its values go over those of `answer`.
+// The calls. Each says its answer in words, and gives it back.
+use crate::state::Answer;
 use crate::state::Args;
 use crate::state::Handle;
 
@@ -24,42 +25,50 @@ pub fn say_answer(form: u64, refusal: u64, answer: &[u64; 4]) {
     report::say_row(forms, form, answer);
 }
 
+// What a call answered, to be kept.
+fn answered(refusal: u64, values: &[u64; 4]) -> Answer {
+    Answer {
+        refusal,
+        first: values[0],
+        second: values[1],
+        third: values[2],
+        fourth: values[3],
+    }
+}
+
 // `make TABLES BASE LEVEL RANGE`, on as many tables.
-pub fn make(words: &mut [u64], ledger: &mut [u32], handle: Handle, answer: &mut [u64; 4]) -> u64 {
+fn make(words: &mut [u64], ledger: &mut [u32], handle: Handle) -> Answer {
+    let mut answer = [0u64; 4];
     let refusal = ptb::ptb_make(
         words,
         ledger,
         handle.base,
         handle.level,
         handle.range,
-        answer,
+        &mut answer,
     );
-    say_answer(DONE, refusal, answer);
-    refusal
+    say_answer(DONE, refusal, &answer);
+    answered(refusal, &answer)
 }
 
 // `check`
-pub fn check(words: &[u64], ledger: &[u32], handle: Handle, answer: &mut [u64; 4]) -> u64 {
+fn check(words: &[u64], ledger: &[u32], handle: Handle) -> Answer {
+    let mut answer = [0u64; 4];
     let refusal = ptb::ptb_check(
         words,
         ledger,
         handle.base,
         handle.level,
         handle.range,
-        answer,
+        &mut answer,
     );
-    say_answer(DONE, refusal, answer);
-    refusal
+    say_answer(DONE, refusal, &answer);
+    answered(refusal, &answer)
 }
 
 // `map START END FRAME FLAGS [noblocks]`; `unmap START END` is a map with frame and flags 0.
-pub fn map(
-    words: &mut [u64],
-    ledger: &mut [u32],
-    handle: Handle,
-    args: Args,
-    answer: &mut [u64; 4],
-) -> u64 {
+fn map(words: &mut [u64], ledger: &mut [u32], handle: Handle, args: Args) -> Answer {
+    let mut answer = [0u64; 4];
     let refusal = ptb::ptb_map(
         words,
         ledger,
@@ -71,40 +80,30 @@ pub fn map(
         args.third,
         args.fourth,
         args.fifth,
-        answer,
+        &mut answer,
     );
-    say_answer(IN_USE, refusal, answer);
-    refusal
+    say_answer(IN_USE, refusal, &answer);
+    answered(refusal, &answer)
 }
 
 // `compact`
-pub fn compact(
-    words: &mut [u64],
-    ledger: &mut [u32],
-    handle: Handle,
-    answer: &mut [u64; 4],
-) -> u64 {
+fn compact(words: &mut [u64], ledger: &mut [u32], handle: Handle) -> Answer {
+    let mut answer = [0u64; 4];
     let refusal = ptb::ptb_compact(
         words,
         ledger,
         handle.base,
         handle.level,
         handle.range,
-        answer,
+        &mut answer,
     );
-    say_answer(IN_USE, refusal, answer);
-    refusal
+    say_answer(IN_USE, refusal, &answer);
+    answered(refusal, &answer)
 }
 
 // `modify START END SET CLEAR`, and `live`. It answers with the tables in use and, live, with the page numbers of the entries that it changed.
-pub fn modify(
-    words: &mut [u64],
-    ledger: &mut [u32],
-    handle: Handle,
-    args: Args,
-    live: u64,
-    answer: &mut [u64; 4],
-) -> u64 {
+fn modify(words: &mut [u64], ledger: &mut [u32], handle: Handle, args: Args, live: u64) -> Answer {
+    let mut answer = [0u64; 4];
     let mut list = [0u64; 512];
     let refusal = ptb::ptb_modify(
         words,
@@ -118,23 +117,18 @@ pub fn modify(
         args.fourth,
         live,
         &mut list,
-        answer,
+        &mut answer,
     );
-    say_answer(IN_USE, refusal, answer);
+    say_answer(IN_USE, refusal, &answer);
     if refusal == 0 {
         view::say_numbers(&list, answer[1]);
     }
-    refusal
+    answered(refusal, &answer)
 }
 
 // `look ADDRESS`
-pub fn look(
-    words: &[u64],
-    ledger: &[u32],
-    handle: Handle,
-    address: u64,
-    answer: &mut [u64; 4],
-) -> u64 {
+fn look(words: &[u64], ledger: &[u32], handle: Handle, address: u64) -> Answer {
+    let mut answer = [0u64; 4];
     let refusal = ptb::ptb_look_up(
         words,
         ledger,
@@ -142,24 +136,19 @@ pub fn look(
         handle.level,
         handle.range,
         address,
-        answer,
+        &mut answer,
     );
     if refusal == 0 {
-        report::say_looked(answer);
+        report::say_looked(&answer);
     } else {
-        report::say_refusal(refusal, answer);
+        report::say_refusal(refusal, &answer);
     }
-    refusal
+    answered(refusal, &answer)
 }
 
 // `list START END`
-pub fn list(
-    words: &[u64],
-    ledger: &[u32],
-    handle: Handle,
-    args: Args,
-    answer: &mut [u64; 4],
-) -> u64 {
+fn list(words: &[u64], ledger: &[u32], handle: Handle, args: Args) -> Answer {
+    let mut answer = [0u64; 4];
     let mut lines = [0u64; 3072];
     let refusal = ptb::ptb_list(
         words,
@@ -170,23 +159,18 @@ pub fn list(
         args.first,
         args.second,
         &mut lines,
-        answer,
+        &mut answer,
     );
-    say_answer(ENTRIES, refusal, answer);
+    say_answer(ENTRIES, refusal, &answer);
     if refusal == 0 {
         view::say_lines(&lines, answer[0]);
     }
-    refusal
+    answered(refusal, &answer)
 }
 
 // `image TABLE`
-pub fn image(
-    words: &[u64],
-    ledger: &[u32],
-    handle: Handle,
-    table: u64,
-    answer: &mut [u64; 4],
-) -> u64 {
+fn image(words: &[u64], ledger: &[u32], handle: Handle, table: u64) -> Answer {
+    let mut answer = [0u64; 4];
     let mut page = [0u8; 4096];
     let refusal = ptb::ptb_image(
         words,
@@ -196,11 +180,41 @@ pub fn image(
         handle.range,
         table,
         &mut page,
-        answer,
+        &mut answer,
     );
-    say_answer(DONE, refusal, answer);
+    say_answer(DONE, refusal, &answer);
     if refusal == 0 {
         report::say_page(&page);
     }
-    refusal
+    answered(refusal, &answer)
+}
+
+// The calls that read the pool: 5 check, 6 look, 7 list, 8 image.
+pub fn read(command: u64, words: &[u64], ledger: &[u32], handle: Handle, args: Args) -> Answer {
+    match command {
+        5 => check(words, ledger, handle),
+        6 => look(words, ledger, handle, args.first),
+        7 => list(words, ledger, handle, args),
+        _ => image(words, ledger, handle, args.first),
+    }
+}
+
+// The calls that write: 9 make, 10 map, 11 unmap, 12 modify, 13 live, 14 compact.
+pub fn write(
+    command: u64,
+    words: &mut [u64],
+    ledger: &mut [u32],
+    handle: Handle,
+    args: Args,
+) -> Answer {
+    if command == 9 {
+        return make(words, ledger, handle);
+    }
+    if command < 12 {
+        return map(words, ledger, handle, args);
+    }
+    if command < 14 {
+        return modify(words, ledger, handle, args, command % 2);
+    }
+    compact(words, ledger, handle)
 }

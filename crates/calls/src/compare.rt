@@ -1,23 +1,22 @@
 // What the call before must have answered.
 use crate::call::ALL_VALUES;
 use crate::call::say_answer;
-use crate::state::FAILED;
-use crate::state::HELD;
+use crate::state::Answer;
+use crate::state::Bench;
 use crate::state::NO_CALL;
-use crate::state::REFUSAL;
-use crate::state::tally;
 
 // A value of the answer, counted from 0.
-fn value_at(answer: &[u64; 4], number: usize) -> u64 {
-    if number < 4 {
-        answer[number]
-    } else {
-        answer[3]
+fn value_at(answer: Answer, number: usize) -> u64 {
+    match number {
+        0 => answer.first,
+        1 => answer.second,
+        2 => answer.third,
+        _ => answer.fourth,
     }
 }
 
 // Whether the values from a place on are the answer's.
-fn same_values(answer: &[u64; 4], values: &[u64; 6], from: usize, count: usize) -> bool {
+fn same_values(answer: Answer, values: &[u64; 6], from: usize, count: usize) -> bool {
     let mut place = from;
     let mut number = 0;
     while place < count {
@@ -34,7 +33,8 @@ fn same_values(answer: &[u64; 4], values: &[u64; 6], from: usize, count: usize) 
 }
 
 // `accepted` and its values, or `refused`, its number and its values.
-fn agrees(refusal: u64, answer: &[u64; 4], values: &[u64; 6], count: usize) -> bool {
+fn agrees(answer: Answer, values: &[u64; 6], count: usize) -> bool {
+    let refusal = answer.refusal;
     if refusal == NO_CALL {
         return false;
     }
@@ -54,30 +54,26 @@ fn agrees(refusal: u64, answer: &[u64; 4], values: &[u64; 6], count: usize) -> b
 }
 
 // What the call before answered.
-fn say_before(refusal: u64, answer: &[u64; 4], number: u64) {
+fn say_before(answer: Answer, number: u64) {
     let forms = b"  line $: NOT AS EXPECTED, the call before answered
   nothing: no call came before
 ";
     report::say_row(forms, 0, &[number, 0, 0, 0]);
-    if refusal == NO_CALL {
-        return report::say_row(forms, 1, answer);
+    if answer.refusal == NO_CALL {
+        return report::say_row(forms, 1, &[0; 4]);
     }
-    say_answer(ALL_VALUES, refusal, answer);
+    let values = [answer.first, answer.second, answer.third, answer.fourth];
+    say_answer(ALL_VALUES, answer.refusal, &values);
 }
 
 // Says whether the answer is as expected, and what it was if it is not.
-pub fn expect(
-    kept: &mut [u64; 8],
-    answer: &[u64; 4],
-    values: &[u64; 6],
-    count: usize,
-    number: u64,
-) {
-    let refusal = kept[REFUSAL];
-    if agrees(refusal, answer, values, count) {
+pub fn expect(bench: Bench, values: &[u64; 6], count: usize, number: u64) -> Bench {
+    let answer = bench.answer;
+    let held = agrees(answer, values, count);
+    if held {
         report::say(b"  as expected\n");
-        return tally(kept, HELD);
+    } else {
+        say_before(answer, number);
     }
-    say_before(refusal, answer, number);
-    tally(kept, FAILED);
+    bench.compared(held)
 }

@@ -1,22 +1,5 @@
-// What the bench keeps from line to line, in eight numbers: its pool, the last call's refusal and its tallies. The last call's values lie beside.
+// What the bench keeps from line to line: its pool, what the last call answered, and its tallies.
 use std::num::wrapping_add_u64;
-
-// The tables of the pool, 0 before the first make; then its handle.
-pub const TABLES: usize = 0;
-
-pub const BASE: usize = 1;
-
-pub const LEVEL: usize = 2;
-
-pub const RANGE: usize = 3;
-// Of the last call: 0 or its refusal, NO_CALL before the first.
-pub const REFUSAL: usize = 4;
-// Answers as expected, answers not as expected, lines not understood.
-pub const HELD: usize = 5;
-
-pub const FAILED: usize = 6;
-
-pub const WRONG: usize = 7;
 
 // In place of a refusal's number before the first call: above them all.
 pub const NO_CALL: u64 = 12;
@@ -28,7 +11,7 @@ pub struct Handle {
     pub range: u64,
 }
 
-// The values of a call.
+// The values of a command.
 pub struct Args {
     pub first: u64,
     pub second: u64,
@@ -37,9 +20,63 @@ pub struct Args {
     pub fifth: u64,
 }
 
-// One more in a tally.
-pub fn tally(kept: &mut [u64; 8], place: usize) {
-    if place < 8 {
-        kept[place] = wrapping_add_u64(kept[place], 1);
+// What a call answered: 0 or its refusal, NO_CALL before the first; and its values.
+pub struct Answer {
+    pub refusal: u64,
+    pub first: u64,
+    pub second: u64,
+    pub third: u64,
+    pub fourth: u64,
+}
+
+pub struct Bench {
+    // The tables of the pool, 0 before the first make; then its handle.
+    pub tables: u64,
+    pub handle: Handle,
+    pub answer: Answer,
+    // Answers as expected, answers not as expected, lines not understood.
+    pub held: u64,
+    pub failed: u64,
+    pub wrong: u64,
+}
+
+impl Bench {
+    pub fn new() -> Self {
+        let handle = Handle {
+            base: 0,
+            level: 0,
+            range: 0,
+        };
+        let answer = Answer {
+            refusal: NO_CALL,
+            first: 0,
+            second: 0,
+            third: 0,
+            fourth: 0,
+        };
+        Self {
+            tables: 0,
+            handle,
+            answer,
+            held: 0,
+            failed: 0,
+            wrong: 0,
+        }
+    }
+
+    // After a line that expects an answer.
+    pub fn compared(mut self, held: bool) -> Self {
+        if held {
+            self.held = wrapping_add_u64(self.held, 1);
+        } else {
+            self.failed = wrapping_add_u64(self.failed, 1);
+        }
+        self
+    }
+
+    // After a line that is not understood.
+    pub fn missed(mut self) -> Self {
+        self.wrong = wrapping_add_u64(self.wrong, 1);
+        self
     }
 }

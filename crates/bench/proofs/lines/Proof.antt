@@ -12,10 +12,13 @@ use Rattle.bench.proofs.turn.Reads as turn-reads
 use Rattle.script.proofs.read_line.Reads as read-line-reads
 
 abbrev Inv-loop : tie.InvT-loop
-Inv-loop usage words₀ ledger₀ kept₀ answer₀ text₀ number₀ words ledger kept answer text number = (length words ≡ length words₀) × (length ledger ≡ length ledger₀)
+Inv-loop usage words₀ ledger₀ text₀ bench₀ number₀ words ledger text bench number = (length words ≡ length words₀) × (length ledger ≡ length ledger₀)
 
 abbrev μ-loop : tie.MeasureT-loop
-μ-loop usage words₀ ledger₀ kept₀ answer₀ text₀ number₀ words ledger kept answer text number = 4294967295 - number
+μ-loop usage words₀ ledger₀ text₀ bench₀ number₀ words ledger text bench number = 4294967295 - number
+
+new-requires : tie.Need-new-requires Inv-loop μ-loop
+new-requires c κs = tt
 
 loop-holds : tie.Need-loop-holds Inv-loop μ-loop
 loop-holds c = omega arith
@@ -68,6 +71,7 @@ lines-spec =
     (tie.spec
     Inv-loop
     μ-loop
+    new-requires
     loop-holds
     add-number
     read-line-requires

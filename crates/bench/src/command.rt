@@ -1,139 +1,119 @@
 // A command by its number, with its values: the part of the pool that it works on, and the call.
+use calls::Answer;
+use calls::Args;
 use calls::Bench;
+use calls::Handle;
 
-// The calls that read the pool: 1 check, 2 look, 3 list, 4 image.
-fn read(command: u64, words: &[u64], ledger: &[u32], bench: Bench, values: &[u64; 6]) -> Bench {
+// The first command that is a call, the first that writes.
+const CHECK: u64 = 5;
+
+const MAKE: u64 = 9;
+
+// What shows the pool as it stands, or is written by hand: 1 words, 2 ledger, 3 put, 4 enter.
+fn by_hand(command: u64, count: usize, words: &mut [u64], ledger: &mut [u32], args: Args) {
     match command {
-        1 => calls::check(words, ledger, bench),
-        2 => calls::look(words, ledger, bench, values[0]),
-        3 => calls::list(words, ledger, bench, values[0], values[1]),
-        _ => calls::image(words, ledger, bench, values[0]),
+        1 => {
+            if count == 0 {
+                view::say_words_not_zero(words);
+            } else {
+                view::say_words(words, args.first, args.second, args.third);
+            }
+        }
+        2 => view::say_ledger(ledger),
+        3 => view::put(words, args.first, args.second, args.third),
+        _ => view::enter(ledger, args.first, args.second),
     }
 }
 
-// What shows the pool as it stands: 5 words, 6 ledger.
-fn show(command: u64, words: &[u64], ledger: &[u32], values: &[u64; 6], count: usize) {
-    if command == 6 {
-        return view::say_ledger(ledger);
+// The handle that a call is made with: that of the pool, or the one that make asks for.
+fn handle_of(command: u64, handle: Handle, args: Args) -> Handle {
+    if command == MAKE {
+        return Handle {
+            base: args.second,
+            level: args.third,
+            range: args.fourth,
+        };
     }
-    if count == 0 {
-        return view::say_words_not_zero(words);
-    }
-    view::say_words(words, values[0], values[1], values[2]);
+    handle
 }
 
-// What changes nothing.
-fn look_at(
-    command: u64,
-    words: &[u64],
-    ledger: &[u32],
-    bench: Bench,
-    values: &[u64; 6],
-    count: usize,
-) -> Bench {
-    if command < 5 {
-        return read(command, words, ledger, bench, values);
-    }
-    show(command, words, ledger, values, count);
-    bench
-}
-
-// What is written by hand: 8 put, 9 enter.
-fn by_hand(command: u64, words: &mut [u64], ledger: &mut [u32], values: &[u64; 6]) {
-    if command == 8 {
-        return view::put(words, values[0], values[1], values[2]);
-    }
-    view::enter(ledger, values[0], values[1]);
-}
-
-// What changes maps that stand: 12 modify, 13 live, 14 compact.
-fn change(
-    command: u64,
-    words: &mut [u64],
-    ledger: &mut [u32],
-    bench: Bench,
-    values: &[u64; 6],
-) -> Bench {
-    if command == 14 {
-        return calls::compact(words, ledger, bench);
-    }
-    calls::modify(words, ledger, bench, values, command % 2)
-}
-
-// What writes: 7 make, 8 put, 9 enter, 10 map, 11 unmap, and from 12 on what changes maps that stand.
-fn write(
-    command: u64,
-    words: &mut [u64],
-    ledger: &mut [u32],
-    bench: Bench,
-    values: &[u64; 6],
-) -> Bench {
-    if command == 7 {
-        return calls::make(words, ledger, bench, values[1], values[2], values[3]);
-    }
-    if 12 <= command {
-        return change(command, words, ledger, bench, values);
-    }
-    if 10 <= command {
-        return calls::map(words, ledger, bench, values);
-    }
-    by_hand(command, words, ledger, values);
-    bench
-}
-
-// A command on the pool, its words and its ledger.
+// A command on the pool, its words and its ledger. `answer` stays if it is no call.
 fn on_pool(
     command: u64,
+    count: usize,
     words: &mut [u64],
     ledger: &mut [u32],
-    bench: Bench,
-    values: &[u64; 6],
-    count: usize,
-) -> Bench {
-    if command < 7 {
-        return look_at(command, words, ledger, bench, values, count);
+    handle: Handle,
+    args: Args,
+    answer: Answer,
+) -> Answer {
+    if command < CHECK {
+        by_hand(command, count, words, ledger, args);
+        return answer;
     }
-    write(command, words, ledger, bench, values)
-}
-
-// The first tables of the words, and as much of the ledger.
-fn lend(
-    command: u64,
-    words: &mut [u64],
-    ledger: &mut [u32],
-    bench: Bench,
-    values: &[u64; 6],
-    count: usize,
-    tables: usize,
-) -> Bench {
-    if ledger.len() < tables {
-        return bench;
+    if command < MAKE {
+        return calls::read(command, words, ledger, handle, args);
     }
-    if words.len() / 512 < tables {
-        return bench;
-    }
-    on_pool(
-        command,
-        &mut words[..512 * tables],
-        &mut ledger[..tables],
-        bench,
-        values,
-        count,
-    )
+    calls::write(command, words, ledger, handle, args)
 }
 
 // How many tables a command works on: those that make asks for, else the pool's. 9 for too many, 10 for none.
-fn tables_of(command: u64, bench: Bench, values: &[u64; 6]) -> usize {
-    if command == 7 {
-        if 8 < values[0] {
-            return 9;
+fn tables_of(command: u64, pool: u64, asked: u64) -> u64 {
+    if command == MAKE {
+        return if 8 < asked { 9 } else { asked };
+    }
+    if pool == 0 { 10 } else { pool }
+}
+
+fn args_of(values: &[u64; 6]) -> Args {
+    Args {
+        first: values[0],
+        second: values[1],
+        third: values[2],
+        fourth: values[3],
+        fifth: values[4],
+    }
+}
+
+// A command on the first tables of the words, and as much of the ledger.
+fn lend(
+    command: u64,
+    count: usize,
+    words: &mut [u64],
+    ledger: &mut [u32],
+    tables: usize,
+    handle: Handle,
+    args: Args,
+    answer: Answer,
+) -> Answer {
+    if ledger.len() < tables {
+        return answer;
+    }
+    if words.len() / 512 < tables {
+        return answer;
+    }
+    on_pool(
+        command,
+        count,
+        &mut words[..512 * tables],
+        &mut ledger[..tables],
+        handle,
+        args,
+        answer,
+    )
+}
+
+// After a call; a pool that make made is kept.
+fn after(command: u64, bench: Bench, tables: u64, handle: Handle, answer: Answer) -> Bench {
+    let mut kept = bench;
+    kept.answer = answer;
+    if command == MAKE {
+        if answer.refusal == 0 {
+            kept.tables = tables;
+            kept.handle = handle;
         }
-        return values[0] as usize;
     }
-    if bench.tables == 0 {
-        return 10;
-    }
-    bench.tables
+    kept
 }
 
 // A command, its number as in the usage table.
@@ -149,18 +129,31 @@ pub fn run(
     if command == 0 {
         return calls::expect(bench, values, count, number);
     }
-    let tables = tables_of(command, bench, values);
+    let args = args_of(values);
+    let tables = tables_of(command, bench.tables, args.first);
     if 8 < tables {
         say_no_pool(number, tables);
         return bench.missed();
     }
-    lend(command, words, ledger, bench, values, count, tables)
+    let old = bench.handle;
+    let last = bench.answer;
+    let handle = handle_of(command, old, args);
+    let answer = lend(
+        command,
+        count,
+        words,
+        ledger,
+        tables as usize,
+        handle,
+        args,
+        last,
+    );
+    after(command, bench, tables, handle, answer)
 }
 
-fn say_no_pool(number: u64, tables: usize) {
-    if tables == 9 {
-        report::say_complaint(number, b"there is room for 8 tables at most");
-    } else {
-        report::say_complaint(number, b"there is no pool yet: make comes first");
-    }
+fn say_no_pool(number: u64, tables: u64) {
+    let forms = b"  line $: there is room for 8 tables at most
+  line $: there is no pool yet: make comes first
+";
+    report::say_row(forms, if tables == 9 { 0 } else { 1 }, &[number, 0, 0, 0]);
 }

@@ -14,23 +14,20 @@ fn echo(text: &[u8; 256], length: usize) {
     report::say(b"\n");
 }
 
-fn say_why(why: u64) {
-    let reasons = b": a line has at most 256 bytes
-: no such command: 
-: too few or too many values: 
-: a number above 2^64 - 1: 
-: no number: 
+// Why a line is not understood, as in `Ask`, with the word; where its values are too few or too many, how the command is used.
+fn complain(text: &[u8], usage: &[u8], ask: Ask, number: u64) {
+    let reasons = b"
+  line $: a line has at most 256 bytes
+  line $: no such command: 
+  line $: too few or too many values: 
+  line $: a number above 2^64 - 1: 
+  line $: no number: 
 ";
-    report::say_line(reasons, why);
-}
-
-// Why a line is not understood, with the word; where its values are too few or too many, how the command is used.
-fn complain(text: &[u8], usage: &[u8], number: u64, why: u64, word: Word) {
-    report::say_count(b"  line ", number);
-    say_why(why);
-    if why == 2 {
-        report::say_line(usage, script::place_of(text, word, usage));
+    report::say_form(reasons, ask.why, &[number, 0, 0, 0]);
+    if ask.why == 3 {
+        report::say_line(usage, ask.command);
     } else {
+        let word = ask.word;
         report::say_part(text, word);
     }
     report::say(b"\n");
@@ -47,22 +44,23 @@ fn turn(
     number: u64,
 ) -> Bench {
     let mut values = [0u64; 6];
-    match script::asked(text, length, usage, &mut values) {
-        Ask::Nothing => bench,
-        Ask::Command(command, count) => command::run(
-            command,
-            count,
+    let ask = script::asked(text, length, usage, &mut values);
+    if ask.why == 0 {
+        return command::run(
+            ask.command,
+            ask.count,
             words,
             ledger,
             bench,
             &values,
             number,
-        ),
-        Ask::Wrong(why, word) => {
-            complain(text, usage, number, why, word);
-            bench.missed()
-        }
+        );
     }
+    if ask.why == 6 {
+        return bench;
+    }
+    complain(text, usage, ask, number);
+    bench.missed()
 }
 
 // Line by line to the end of the input.
@@ -83,24 +81,24 @@ fn lines(usage: &[u8], words: &mut [u64], ledger: &mut [u32]) -> Bench {
 
 // The tallies.
 fn close(bench: Bench) {
-    report::say_count(b"\nanswers as expected: ", bench.held);
-    report::say_count(b", not as expected: ", bench.failed);
-    report::say_count(b", lines not understood: ", bench.wrong);
+    let form = b"answers as expected: $, not as expected: $, lines not understood: $
+";
     report::say(b"\n");
+    report::say_row(form, 0, &[bench.held, bench.failed, bench.wrong, 0]);
 }
 
 // Each command with what it takes, what may be left out in brackets. The line's number is the command's.
 fn main() {
     let usage = b"expect accepted|refused [VALUE] [VALUE] [VALUE] [VALUE] [VALUE]
+words [TABLE] [FIRST] [COUNT]
+ledger
+put TABLE WORD VALUE
+enter TABLE NUMBER
 check
 look ADDRESS
 list START END
 image TABLE
-words [TABLE] [FIRST] [COUNT]
-ledger
 make TABLES BASE LEVEL lower|upper
-put TABLE WORD VALUE
-enter TABLE NUMBER
 map START END FRAME FLAGS [noblocks]
 unmap START END
 modify START END SET CLEAR

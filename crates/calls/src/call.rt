@@ -1,189 +1,220 @@
-// The calls. Each says its answer in words, and the bench keeps it.
-use crate::state::Bench;
+// The calls. Each says its answer in words, and gives it back.
+use crate::state::Answer;
+use crate::state::Args;
+use crate::state::Handle;
 
-// A call that has nothing to say but that it was done.
-fn say_done(refusal: u64, answer: [u64; 4]) {
-    if refusal == 0 {
-        report::say(b"  accepted\n");
-    } else {
-        report::say_refusal(refusal, answer[0], answer[1]);
+// How an accepted call's answer is said.
+const DONE: u64 = 0;
+
+const IN_USE: u64 = 1;
+
+const ENTRIES: u64 = 2;
+
+pub const ALL_VALUES: u64 = 3;
+
+// An answer. Values that an accepted call does not have are 0.
+pub fn say_answer(form: u64, refusal: u64, answer: &[u64; 4]) {
+    if refusal != 0 {
+        return report::say_refusal(refusal, answer);
     }
+    let forms = b"  accepted
+  accepted: tables in use $
+  accepted: entries $
+  accepted, with # # # #
+";
+    report::say_row(forms, form, answer);
 }
 
-// A call that answers with a count.
-fn say_counted(refusal: u64, answer: [u64; 4], what: &[u8]) {
-    if refusal == 0 {
-        report::say_count(what, answer[0]);
-        report::say(b"\n");
-    } else {
-        report::say_refusal(refusal, answer[0], answer[1]);
+// What a call answered, to be kept.
+fn answered(refusal: u64, values: &[u64; 4]) -> Answer {
+    Answer {
+        refusal,
+        first: values[0],
+        second: values[1],
+        third: values[2],
+        fourth: values[3],
     }
 }
 
 // `make TABLES BASE LEVEL RANGE`, on as many tables.
-pub fn make(
-    words: &mut [u64],
-    ledger: &mut [u32],
-    bench: Bench,
-    base: u64,
-    level: u64,
-    range: u64,
-) -> Bench {
+fn make(words: &mut [u64], ledger: &mut [u32], handle: Handle) -> Answer {
     let mut answer = [0u64; 4];
-    let refusal = ptb::ptb_make(words, ledger, base, level, range, &mut answer);
-    say_done(refusal, answer);
-    let after = bench.answered(refusal, answer);
-    if refusal != 0 {
-        return after;
-    }
-    after.made(ledger.len(), base, level, range)
+    let refusal = ptb::ptb_make(
+        words,
+        ledger,
+        handle.base,
+        handle.level,
+        handle.range,
+        &mut answer,
+    );
+    say_answer(DONE, refusal, &answer);
+    answered(refusal, &answer)
 }
 
 // `check`
-pub fn check(words: &[u64], ledger: &[u32], bench: Bench) -> Bench {
+fn check(words: &[u64], ledger: &[u32], handle: Handle) -> Answer {
     let mut answer = [0u64; 4];
     let refusal = ptb::ptb_check(
         words,
         ledger,
-        bench.base,
-        bench.level,
-        bench.range,
+        handle.base,
+        handle.level,
+        handle.range,
         &mut answer,
     );
-    say_done(refusal, answer);
-    bench.answered(refusal, answer)
+    say_answer(DONE, refusal, &answer);
+    answered(refusal, &answer)
 }
 
 // `map START END FRAME FLAGS [noblocks]`; `unmap START END` is a map with frame and flags 0.
-pub fn map(words: &mut [u64], ledger: &mut [u32], bench: Bench, values: &[u64; 6]) -> Bench {
+fn map(words: &mut [u64], ledger: &mut [u32], handle: Handle, args: Args) -> Answer {
     let mut answer = [0u64; 4];
     let refusal = ptb::ptb_map(
         words,
         ledger,
-        bench.base,
-        bench.level,
-        bench.range,
-        values[0],
-        values[1],
-        values[2],
-        values[3],
-        values[4],
+        handle.base,
+        handle.level,
+        handle.range,
+        args.first,
+        args.second,
+        args.third,
+        args.fourth,
+        args.fifth,
         &mut answer,
     );
-    say_counted(refusal, answer, b"  accepted: tables in use ");
-    bench.answered(refusal, answer)
+    say_answer(IN_USE, refusal, &answer);
+    answered(refusal, &answer)
 }
 
 // `compact`
-pub fn compact(words: &mut [u64], ledger: &mut [u32], bench: Bench) -> Bench {
+fn compact(words: &mut [u64], ledger: &mut [u32], handle: Handle) -> Answer {
     let mut answer = [0u64; 4];
     let refusal = ptb::ptb_compact(
         words,
         ledger,
-        bench.base,
-        bench.level,
-        bench.range,
+        handle.base,
+        handle.level,
+        handle.range,
         &mut answer,
     );
-    say_counted(refusal, answer, b"  accepted: tables in use ");
-    bench.answered(refusal, answer)
+    say_answer(IN_USE, refusal, &answer);
+    answered(refusal, &answer)
 }
 
-// What a modify answers: the tables in use and, live, the page numbers of the entries that it changed.
-fn say_modified(refusal: u64, answer: [u64; 4], list: &[u64]) {
-    say_counted(refusal, answer, b"  accepted: tables in use ");
-    if refusal == 0 {
-        view::say_numbers(list, answer[1]);
-    }
-}
-
-// `modify START END SET CLEAR`, and `live`.
-pub fn modify(
-    words: &mut [u64],
-    ledger: &mut [u32],
-    bench: Bench,
-    values: &[u64; 6],
-    live: u64,
-) -> Bench {
+// `modify START END SET CLEAR`, and `live`. It answers with the tables in use and, live, with the page numbers of the entries that it changed.
+fn modify(words: &mut [u64], ledger: &mut [u32], handle: Handle, args: Args, live: u64) -> Answer {
     let mut answer = [0u64; 4];
     let mut list = [0u64; 512];
     let refusal = ptb::ptb_modify(
         words,
         ledger,
-        bench.base,
-        bench.level,
-        bench.range,
-        values[0],
-        values[1],
-        values[2],
-        values[3],
+        handle.base,
+        handle.level,
+        handle.range,
+        args.first,
+        args.second,
+        args.third,
+        args.fourth,
         live,
         &mut list,
         &mut answer,
     );
-    say_modified(refusal, answer, &list);
-    bench.answered(refusal, answer)
+    say_answer(IN_USE, refusal, &answer);
+    if refusal == 0 {
+        view::say_numbers(&list, answer[1]);
+    }
+    answered(refusal, &answer)
 }
 
 // `look ADDRESS`
-pub fn look(words: &[u64], ledger: &[u32], bench: Bench, address: u64) -> Bench {
+fn look(words: &[u64], ledger: &[u32], handle: Handle, address: u64) -> Answer {
     let mut answer = [0u64; 4];
     let refusal = ptb::ptb_look_up(
         words,
         ledger,
-        bench.base,
-        bench.level,
-        bench.range,
+        handle.base,
+        handle.level,
+        handle.range,
         address,
         &mut answer,
     );
     if refusal == 0 {
-        report::say_looked(answer[0], answer[1], answer[2], answer[3]);
+        report::say_looked(&answer);
     } else {
-        report::say_refusal(refusal, answer[0], answer[1]);
+        report::say_refusal(refusal, &answer);
     }
-    bench.answered(refusal, answer)
+    answered(refusal, &answer)
 }
 
 // `list START END`
-pub fn list(words: &[u64], ledger: &[u32], bench: Bench, start: u64, end: u64) -> Bench {
+fn list(words: &[u64], ledger: &[u32], handle: Handle, args: Args) -> Answer {
     let mut answer = [0u64; 4];
     let mut lines = [0u64; 3072];
     let refusal = ptb::ptb_list(
         words,
         ledger,
-        bench.base,
-        bench.level,
-        bench.range,
-        start,
-        end,
+        handle.base,
+        handle.level,
+        handle.range,
+        args.first,
+        args.second,
         &mut lines,
         &mut answer,
     );
-    say_counted(refusal, answer, b"  accepted: entries ");
+    say_answer(ENTRIES, refusal, &answer);
     if refusal == 0 {
         view::say_lines(&lines, answer[0]);
     }
-    bench.answered(refusal, answer)
+    answered(refusal, &answer)
 }
 
 // `image TABLE`
-pub fn image(words: &[u64], ledger: &[u32], bench: Bench, table: u64) -> Bench {
+fn image(words: &[u64], ledger: &[u32], handle: Handle, table: u64) -> Answer {
     let mut answer = [0u64; 4];
     let mut page = [0u8; 4096];
     let refusal = ptb::ptb_image(
         words,
         ledger,
-        bench.base,
-        bench.level,
-        bench.range,
+        handle.base,
+        handle.level,
+        handle.range,
         table,
         &mut page,
         &mut answer,
     );
-    say_done(refusal, answer);
+    say_answer(DONE, refusal, &answer);
     if refusal == 0 {
         report::say_page(&page);
     }
-    bench.answered(refusal, answer)
+    answered(refusal, &answer)
+}
+
+// The calls that read the pool: 5 check, 6 look, 7 list, 8 image.
+pub fn read(command: u64, words: &[u64], ledger: &[u32], handle: Handle, args: Args) -> Answer {
+    match command {
+        5 => check(words, ledger, handle),
+        6 => look(words, ledger, handle, args.first),
+        7 => list(words, ledger, handle, args),
+        _ => image(words, ledger, handle, args.first),
+    }
+}
+
+// The calls that write: 9 make, 10 map, 11 unmap, 12 modify, 13 live, 14 compact.
+pub fn write(
+    command: u64,
+    words: &mut [u64],
+    ledger: &mut [u32],
+    handle: Handle,
+    args: Args,
+) -> Answer {
+    if command == 9 {
+        return make(words, ledger, handle);
+    }
+    if command < 12 {
+        return map(words, ledger, handle, args);
+    }
+    if command < 14 {
+        return modify(words, ledger, handle, args, command % 2);
+    }
+    compact(words, ledger, handle)
 }

@@ -4,13 +4,10 @@ mod call;
 mod compare;
 mod state;
 
-pub use call::check;
-pub use call::compact;
-pub use call::image;
-pub use call::list;
-pub use call::look;
-pub use call::make;
-pub use call::map;
-pub use call::modify;
+pub use call::read;
+pub use call::write;
 pub use compare::expect;
+pub use state::Answer;
+pub use state::Args;
 pub use state::Bench;
+pub use state::Handle;

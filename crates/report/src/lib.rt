@@ -1,11 +1,14 @@
 // Answers in words that a person reads, written to standard output.
 // Leans on script for the lines of a text. No function needs anything of its caller.
 mod entry;
+mod form;
 mod page;
 mod refusal;
 
 pub use entry::say_entry;
 pub use entry::say_looked;
+pub use form::say_form;
+pub use form::say_row;
 pub use page::say_page;
 pub use refusal::say_refusal;
 use script::Word;
@@ -33,21 +36,7 @@ pub fn say_line(text: &[u8], number: u64) {
 }
 
 // A number in hexadecimal, of at least so many digits.
-pub fn say_hex(value: u64, width: usize) {
+fn say_hex(value: u64, width: usize) {
     io::write_all(1, b"0x");
     io::print_hex(1, value, width);
-}
-
-// A number in decimal, after what it counts.
-pub fn say_count(what: &[u8], count: u64) {
-    io::write_all(1, what);
-    io::print_decimal(1, count);
-}
-
-// What is wrong with a line of a script.
-pub fn say_complaint(line: u64, why: &[u8]) {
-    say_count(b"  line ", line);
-    say(b": ");
-    say(why);
-    say(b"\n");
 }

@@ -6,8 +6,8 @@ mod usage;
 
 pub use line::Line;
 pub use line::read_line;
-pub use number::Number;
-pub use number::number_of;
+use number::Number;
+use number::number_of;
 pub use usage::Ask;
 pub use usage::asked;
 
@@ -17,12 +17,11 @@ pub struct Word {
     pub end: usize,
 }
 
-// What the words after a command stand for.
-pub enum Values {
-    Count(usize),
-    TooMany,
-    TooLarge(Word),
-    Wrong(Word),
+// How many values the words after a command stand for; or why a word is no value, as in `Ask`, and that word.
+pub struct Values {
+    pub why: u64,
+    pub word: Word,
+    pub count: usize,
 }
 
 // The most words that a line has after its command.
@@ -36,12 +35,22 @@ pub fn byte_at(text: &[u8], at: usize) -> u8 {
     if at < text.len() { text[at] } else { b' ' }
 }
 
+// Whether a byte ends a run of blanks, or a word: a blank does, or the # of a comment.
+fn ends(byte: u8, blanks: bool) -> bool {
+    if byte <= b' ' {
+        return !blanks;
+    }
+    if byte == b'#' {
+        return true;
+    }
+    blanks
+}
+
 // The first place from `at` on, below `end`, where blanks end, or a word does.
 fn skip(text: &[u8], at: usize, end: usize, blanks: bool) -> usize {
     let mut place = at;
     while place < end {
-        let blank = byte_at(text, place) <= b' ';
-        if blank != blanks {
+        if ends(byte_at(text, place), blanks) {
             return place;
         }
         place += 1;
@@ -49,25 +58,13 @@ fn skip(text: &[u8], at: usize, end: usize, blanks: bool) -> usize {
     place
 }
 
-// The next word from `at` on; an empty one where there is none.
+// The next word from `at` on, up to a comment; an empty one where there is none.
 pub fn next_word(text: &[u8], at: usize, end: usize) -> Word {
     let start = skip(text, at, end, true);
     Word {
         start,
         end: skip(text, start, end, false),
     }
-}
-
-// Where the comment of a line begins, or its end.
-pub fn comment(text: &[u8], end: usize) -> usize {
-    let mut place = 0;
-    while place < end {
-        if byte_at(text, place) == b'#' {
-            return place;
-        }
-        place += 1;
-    }
-    place
 }
 
 // Whether a word of one text is a word of another.
@@ -163,7 +160,10 @@ noblocks
 ";
     let place = place_of(text, word, names);
     if place < NOWHERE {
-        return Number::Value(place % 3);
+        return Number {
+            why: 0,
+            value: place % 3,
+        };
     }
     number_of(text, word.start, word.end)
 }
@@ -175,19 +175,31 @@ pub fn values_of(text: &[u8], at: usize, end: usize, values: &mut [u64; 6]) -> V
     while count < MOST {
         let word = next_word(text, place, end);
         if word.end <= word.start {
-            return Values::Count(count);
+            return Values {
+                why: 0,
+                word,
+                count,
+            };
         }
         place = word.end;
-        match value_of(text, word) {
-            Number::Value(value) => values[count] = value,
-            Number::TooLarge => return Values::TooLarge(word),
-            Number::Wrong => return Values::Wrong(word),
+        let number = value_of(text, word);
+        if number.why != 0 {
+            return Values {
+                why: number.why,
+                word,
+                count,
+            };
         }
+        values[count] = number.value;
         count += 1;
     }
     let word = next_word(text, place, end);
     if word.start < word.end {
-        return Values::TooMany;
+        count += 1;
     }
-    Values::Count(count)
+    Values {
+        why: 0,
+        word,
+        count,
+    }
 }

@@ -6,22 +6,8 @@ pub enum Line {
     End,
 }
 
-// A byte of the input.
-enum Byte {
-    Next(u8),
-    End,
-}
-
 // The length at which a line is taken as ended, whatever follows.
 const LONGEST: usize = 0x1_0000_0000;
-
-fn next_byte() -> Byte {
-    let mut one = [0u8; 1];
-    if libc::read(0, &mut one) <= 0 {
-        return Byte::End;
-    }
-    Byte::Next(one[0])
-}
 
 // A byte of the line, where there is room for it.
 fn put(text: &mut [u8; 256], at: usize, byte: u8) {
@@ -32,28 +18,26 @@ fn put(text: &mut [u8; 256], at: usize, byte: u8) {
 
 // The next line, without its end; a carriage return is passed over.
 pub fn read_line(text: &mut [u8; 256]) -> Line {
+    let mut one = [0u8; 1];
     let mut length = 0;
     let mut passed = 0;
     while passed < LONGEST {
         passed += 1;
-        match next_byte() {
-            Byte::End => {
-                if length == 0 {
-                    return Line::End;
-                }
-                return Line::Length(length);
+        if libc::read(0, &mut one) <= 0 {
+            if length == 0 {
+                return Line::End;
             }
-            Byte::Next(byte) => {
-                if byte == b'\n' {
-                    return Line::Length(length);
-                }
-                if byte == b'\r' {
-                    continue;
-                }
-                put(text, length, byte);
-                length += 1;
-            }
+            return Line::Length(length);
         }
+        let byte = one[0];
+        if byte == b'\n' {
+            return Line::Length(length);
+        }
+        if byte == b'\r' {
+            continue;
+        }
+        put(text, length, byte);
+        length += 1;
     }
     Line::Length(length)
 }

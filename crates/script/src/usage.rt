@@ -2,23 +2,21 @@
 // The table has a line for each command: its name, then a word for each value; what may be left out stands in brackets.
 use crate::MOST;
 use crate::NOWHERE;
-use crate::Values;
 use crate::Word;
-use crate::comment;
 use crate::count_words;
 use crate::line_of;
 use crate::next_word;
 use crate::place_of;
 use crate::values_of;
 
-pub enum Ask {
-    // No word.
-    Nothing,
-    // A command by its line in the table, and how many values it has.
-    Command(u64, usize),
-    // Why a line is not understood, and the word: 0 too long, 1 no such command, 2 too few or too many values,
-    // 3 a number above 2^64 - 1, 4 no number.
-    Wrong(u64, Word),
+// What a line asks: a command by its line in the table, with so many values; or why it asks nothing, and the word.
+pub struct Ask {
+    // 0 a command, 1 too long, 2 no such command, 3 too few or too many values, 4 a number above 2^64 - 1, 5 no number,
+    // 6 a line without a word.
+    pub why: u64,
+    pub word: Word,
+    pub command: u64,
+    pub count: usize,
 }
 
 // Whether a command takes so many values.
@@ -37,31 +35,58 @@ fn takes(usage: &[u8], command: u64, count: usize) -> bool {
 fn valued(text: &[u8], name: Word, end: usize, usage: &[u8], values: &mut [u64; 6]) -> Ask {
     let command = place_of(text, name, usage);
     if command == NOWHERE {
-        return Ask::Wrong(1, name);
+        return Ask {
+            why: 2,
+            word: name,
+            command,
+            count: 0,
+        };
     }
-    match values_of(text, name.end, end, values) {
-        Values::Count(count) => {
-            if takes(usage, command, count) {
-                Ask::Command(command, count)
-            } else {
-                Ask::Wrong(2, name)
-            }
-        }
-        Values::TooMany => Ask::Wrong(2, name),
-        Values::TooLarge(word) => Ask::Wrong(3, word),
-        Values::Wrong(word) => Ask::Wrong(4, word),
+    let read = values_of(text, name.end, end, values);
+    let word = read.word;
+    let count = read.count;
+    if read.why != 0 {
+        return Ask {
+            why: read.why,
+            word,
+            command,
+            count,
+        };
+    }
+    if takes(usage, command, count) {
+        return Ask {
+            why: 0,
+            word: name,
+            command,
+            count,
+        };
+    }
+    Ask {
+        why: 3,
+        word: name,
+        command,
+        count,
     }
 }
 
 // What a line asks, up to its comment; its values go over the front of `values`.
 pub fn asked(text: &[u8], length: usize, usage: &[u8], values: &mut [u64; 6]) -> Ask {
     if text.len() < length {
-        return Ask::Wrong(0, Word { start: 0, end: 0 });
+        return Ask {
+            why: 1,
+            word: Word { start: 0, end: 0 },
+            command: 0,
+            count: 0,
+        };
     }
-    let end = comment(text, length);
-    let name = next_word(text, 0, end);
+    let name = next_word(text, 0, length);
     if name.end <= name.start {
-        return Ask::Nothing;
+        return Ask {
+            why: 6,
+            word: name,
+            command: 0,
+            count: 0,
+        };
     }
-    valued(text, name, end, usage, values)
+    valued(text, name, length, usage, values)
 }

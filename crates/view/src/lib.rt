@@ -74,18 +74,23 @@ fn place_of(words: &[u64], table: u64, slot: u64) -> usize {
 
 // A word, by its table and slot.
 fn say_word(table: u64, slot: u64, word: u64) {
-    report::say_count(b"  table ", table);
-    report::say_count(b" word ", slot);
-    report::say(b": ");
-    report::say_hex(word, 1);
-    report::say(b"\n");
+    report::say_row(b"  table $ word $: #\n", 0, &[table, slot, word, 0]);
+}
+
+// What can't be shown or written: 0 a word, 1 a ledger number's table, 2 a ledger number.
+fn say_wrong(what: u64) {
+    let forms = b"  there is no such word
+  there is no such table
+  a ledger number has 32 bits
+";
+    report::say_row(forms, what, &[0; 4]);
 }
 
 // The word at a table's slot, and whether there is one.
 fn say_word_at(words: &[u64], table: u64, slot: u64) -> bool {
     let at = place_of(words, table, slot);
     if words.len() <= at {
-        report::say(b"  there is no such word\n");
+        say_wrong(0);
         return false;
     }
     say_word(table, slot, words[at]);
@@ -125,50 +130,50 @@ fn count_words(words: &[u64]) -> u64 {
 }
 
 pub fn say_words_not_zero(words: &[u64]) {
-    report::say_count(b"  words not zero: ", count_words(words));
-    report::say(b"\n");
+    let count = count_words(words);
+    report::say_row(b"  words not zero: $\n", 0, &[count, 0, 0, 0]);
 }
 
 // A word written by hand.
 pub fn put(words: &mut [u64], table: u64, slot: u64, value: u64) {
     let at = place_of(words, table, slot);
     if words.len() <= at {
-        return report::say(b"  there is no such word\n");
+        return say_wrong(0);
     }
     words[at] = value;
     say_word(table, slot, value);
 }
 
-// The slot that refers to a table, by its ledger number.
+// The slot that refers to a table, by its ledger number: 0 of a free table, below 8 of the root.
 fn say_slot(number: u64) {
+    let forms = b"
+, the root
+, under table $ slot $
+";
     if number < 8 {
-        return report::say(b", the root\n");
+        let form = if number == 0 { 0 } else { 1 };
+        return report::say_row(forms, form, &[0; 4]);
     }
-    report::say_count(b", under table ", (number / 8 - 1) / 512);
-    report::say_count(b" slot ", (number / 8 - 1) % 512);
-    report::say(b"\n");
+    let slot = number / 8 - 1;
+    report::say_row(forms, 2, &[slot / 512, slot % 512, 0, 0]);
 }
 
 // A ledger number: the table's level, and the slot that refers to it.
-fn say_entered(table: u64, number: u64) {
-    report::say_count(b"  table ", table);
-    report::say_count(b": ", number);
-    if number == 0 {
-        return report::say(b", free\n");
-    }
-    report::say_count(b", level ", (number % 8 + 4) % 8);
+fn say_entered(table: u64, entered: u32) {
+    let number = entered as u64;
+    let forms = b"  table $: $, free
+  table $: $, level $
+";
+    let form = if number == 0 { 0 } else { 1 };
+    report::say_form(forms, form, &[table, number, (number % 8 + 4) % 8, 0]);
     say_slot(number);
-}
-
-fn say_row(table: usize, number: u32) {
-    say_entered(table as u64, number as u64);
 }
 
 // The ledger.
 pub fn say_ledger(ledger: &[u32]) {
     let mut table = 0;
     while table < ledger.len() {
-        say_row(table, ledger[table]);
+        say_entered(table as u64, ledger[table]);
         table += 1;
     }
 }
@@ -177,19 +182,18 @@ pub fn say_ledger(ledger: &[u32]) {
 pub fn enter(ledger: &mut [u32], table: u64, number: u64) {
     let at = table as usize;
     if ledger.len() <= at {
-        return report::say(b"  there is no such table\n");
+        return say_wrong(1);
     }
     if 0xFFFF_FFFF < number {
-        return report::say(b"  a ledger number has 32 bits\n");
+        return say_wrong(2);
     }
-    ledger[at] = number as u32;
-    say_entered(table, number);
+    let entered = number as u32;
+    ledger[at] = entered;
+    say_entered(table, entered);
 }
 
 fn say_number(number: u64) {
-    report::say(b"  page number ");
-    report::say_hex(number, 1);
-    report::say(b"\n");
+    report::say_row(b"  page number #\n", 0, &[number, 0, 0, 0]);
 }
 
 // The first numbers of a list, a line each.

@@ -6,6 +6,7 @@ use Rattle.script.proofs.skip.Tie as tie
 use Rattle.script.proofs.skip.Reads as reads
 use Rattle.script.proofs.skip.Lts as lts
 use Rattle.script.proofs.byte_at.Reads as byte-at-reads
+use Rattle.script.proofs.ends.Reads as ends-reads
 
 abbrev Inv-loop : tie.InvT-loop
 Inv-loop text at end blanks place₀ place = Unit {0}
@@ -18,6 +19,9 @@ loop-holds c = tt
 
 byte-at-requires : tie.Need-byte-at-requires Inv-loop μ-loop
 byte-at-requires c κs = tt
+
+ends-requires : tie.Need-ends-requires Inv-loop μ-loop
+ends-requires c κs = tt
 
 returns : tie.Need-returns Inv-loop μ-loop
 returns c = tt
@@ -42,6 +46,7 @@ skip-spec =
     μ-loop
     loop-holds
     byte-at-requires
+    ends-requires
     returns
     add-place
     loop-less

@@ -26,26 +26,14 @@ returns c = tt
 value-of-requires : tie.Need-value-of-requires Inv-loop μ-loop
 value-of-requires c κs = tt
 
-enum-known-value : tie.Need-enum-known-value Inv-loop μ-loop
-enum-known-value c = omega arith
+returns-2 : tie.Need-returns-2 Inv-loop μ-loop
+returns-2 c = tt
 
 mul-values : tie.Need-mul-values Inv-loop μ-loop
 mul-values c = omega arith
 
 element-write-values : tie.Need-element-write-values Inv-loop μ-loop
 element-write-values c = omega arith
-
-enum-told : tie.Need-enum-told Inv-loop μ-loop
-enum-told c = omega arith
-
-returns-2 : tie.Need-returns-2 Inv-loop μ-loop
-returns-2 c = tt
-
-enum-told-2 : tie.Need-enum-told-2 Inv-loop μ-loop
-enum-told-2 c = omega arith
-
-returns-3 : tie.Need-returns-3 Inv-loop μ-loop
-returns-3 c = tt
 
 add-count : tie.Need-add-count Inv-loop μ-loop
 add-count c = omega arith
@@ -59,11 +47,14 @@ loop-again c = omega arith
 next-word-requires-2 : tie.Need-next-word-requires-2 Inv-loop μ-loop
 next-word-requires-2 c κs = tt
 
+add-count-2 : tie.Need-add-count-2 Inv-loop μ-loop
+add-count-2 c = omega arith
+
+returns-3 : tie.Need-returns-3 Inv-loop μ-loop
+returns-3 c = tt
+
 returns-4 : tie.Need-returns-4 Inv-loop μ-loop
 returns-4 c = tt
-
-returns-5 : tie.Need-returns-5 Inv-loop μ-loop
-returns-5 c = tt
 
 pub values-of-spec : {M : Type 1} → statement M
 values-of-spec =
@@ -75,16 +66,13 @@ values-of-spec =
     next-word-requires
     returns
     value-of-requires
-    enum-known-value
+    returns-2
     mul-values
     element-write-values
-    enum-told
-    returns-2
-    enum-told-2
-    returns-3
     add-count
     loop-less
     loop-again
     next-word-requires-2
-    returns-4
-    returns-5)
+    add-count-2
+    returns-3
+    returns-4)

@@ -6,10 +6,10 @@ use Rattle.view.proofs.say_ledger.Statement.{statement}
 use Rattle.view.proofs.say_ledger.Tie as tie
 use Rattle.view.proofs.say_ledger.Reads as reads
 use Rattle.view.proofs.say_ledger.Lts as lts
-use Rattle.view.proofs.say_row.Reads as say-row-reads
+use Rattle.view.proofs.say_entered.Reads as say-entered-reads
 
 abbrev Inv-loop : tie.InvT-loop
-Inv-loop ledger table₀ table = (table ≤ length ledger)
+Inv-loop ledger table₀ table = table ≤ length ledger
 
 abbrev μ-loop : tie.MeasureT-loop
 μ-loop ledger table₀ table = length ledger - table
@@ -17,14 +17,14 @@ abbrev μ-loop : tie.MeasureT-loop
 loop-holds : tie.Need-loop-holds Inv-loop μ-loop
 loop-holds c = omega arith
 
-mul-say-row : tie.Need-mul-say-row Inv-loop μ-loop
-mul-say-row c = omega arith
+mul-say-entered : tie.Need-mul-say-entered Inv-loop μ-loop
+mul-say-entered c = omega arith
 
-shared-slice-read-say-row : tie.Need-shared-slice-read-say-row Inv-loop μ-loop
-shared-slice-read-say-row c = omega arith
+shared-slice-read-say-entered : tie.Need-shared-slice-read-say-entered Inv-loop μ-loop
+shared-slice-read-say-entered c = omega arith
 
-say-row-requires : tie.Need-say-row-requires Inv-loop μ-loop
-say-row-requires c κs = tt
+say-entered-requires : tie.Need-say-entered-requires Inv-loop μ-loop
+say-entered-requires c κs = tt
 
 add-table : tie.Need-add-table Inv-loop μ-loop
 add-table c = omega arith
@@ -45,9 +45,9 @@ say-ledger-spec =
     Inv-loop
     μ-loop
     loop-holds
-    mul-say-row
-    shared-slice-read-say-row
-    say-row-requires
+    mul-say-entered
+    shared-slice-read-say-entered
+    say-entered-requires
     add-table
     loop-less
     loop-again

@@ -1,18 +1,20 @@
 -- `read_line` ends: it takes no more bytes than the longest line has. Assumes nothing.
 use Prim.Native.Nat.{_-_, _≤_}
+use mathlib.Core.Path.{_≡_}
+use lib.ListN.{length}
 use native.Mathlib.Omega.{arith}
 use Rattle.script.proofs.line.read_line.Statement.{statement}
 use Rattle.script.proofs.line.read_line.Tie as tie
 use Rattle.script.proofs.line.read_line.Reads as reads
 use Rattle.script.proofs.line.read_line.Lts as lts
-use Rattle.script.proofs.line.next_byte.Reads as next-byte-reads
+use Rattle.libc.proofs.read.Reads as read-reads
 use Rattle.script.proofs.line.put.Reads as put-reads
 
 abbrev Inv-loop : tie.InvT-loop
-Inv-loop text₀ length₀ passed₀ text length passed = length ≤ passed
+Inv-loop text₀ one₀ l₀ passed₀ text one l passed = (length one ≡ 1) × (l ≤ passed)
 
 abbrev μ-loop : tie.MeasureT-loop
-μ-loop text₀ length₀ passed₀ text length passed = 4294967296 - passed
+μ-loop text₀ one₀ l₀ passed₀ text one l passed = 4294967296 - passed
 
 loop-holds : tie.Need-loop-holds Inv-loop μ-loop
 loop-holds c = omega arith
@@ -20,11 +22,11 @@ loop-holds c = omega arith
 add-passed : tie.Need-add-passed Inv-loop μ-loop
 add-passed c = omega arith
 
-next-byte-requires : tie.Need-next-byte-requires Inv-loop μ-loop
-next-byte-requires c κs = tt
+slice-aggregate-read : tie.Need-slice-aggregate-read Inv-loop μ-loop
+slice-aggregate-read c = omega arith
 
-enum-told : tie.Need-enum-told Inv-loop μ-loop
-enum-told c = omega arith
+read-requires : tie.Need-read-requires Inv-loop μ-loop
+read-requires c κs = tt
 
 returns : tie.Need-returns Inv-loop μ-loop
 returns c = tt
@@ -32,8 +34,8 @@ returns c = tt
 returns-2 : tie.Need-returns-2 Inv-loop μ-loop
 returns-2 c = tt
 
-enum-known-byte : tie.Need-enum-known-byte Inv-loop μ-loop
-enum-known-byte c = omega arith
+array-read-byte : tie.Need-array-read-byte Inv-loop μ-loop
+array-read-byte c = omega arith
 
 returns-3 : tie.Need-returns-3 Inv-loop μ-loop
 returns-3 c = tt
@@ -67,11 +69,11 @@ read-line-spec =
     μ-loop
     loop-holds
     add-passed
-    next-byte-requires
-    enum-told
+    slice-aggregate-read
+    read-requires
     returns
     returns-2
-    enum-known-byte
+    array-read-byte
     returns-3
     loop-less
     loop-again

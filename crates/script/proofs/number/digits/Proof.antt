@@ -9,10 +9,10 @@ use Rattle.script.proofs.byte_at.Reads as byte-at-reads
 use Rattle.script.proofs.number.append.Reads as append-reads
 
 abbrev Inv-loop : tie.InvT-loop
-Inv-loop text start end hex value₀ place₀ value place = Unit {0}
+Inv-loop text start end hex number₀ place₀ number place = Unit {0}
 
 abbrev μ-loop : tie.MeasureT-loop
-μ-loop text start end hex value₀ place₀ value place = end - place
+μ-loop text start end hex number₀ place₀ number place = end - place
 
 loop-holds : tie.Need-loop-holds Inv-loop μ-loop
 loop-holds c = tt
@@ -23,20 +23,8 @@ byte-at-requires c κs = tt
 append-requires : tie.Need-append-requires Inv-loop μ-loop
 append-requires c κs = tt
 
-enum-known-more : tie.Need-enum-known-more Inv-loop μ-loop
-enum-known-more c = omega arith
-
-enum-told : tie.Need-enum-told Inv-loop μ-loop
-enum-told c = omega arith
-
 returns : tie.Need-returns Inv-loop μ-loop
 returns c = tt
-
-enum-told-2 : tie.Need-enum-told-2 Inv-loop μ-loop
-enum-told-2 c = omega arith
-
-returns-2 : tie.Need-returns-2 Inv-loop μ-loop
-returns-2 c = tt
 
 add-place : tie.Need-add-place Inv-loop μ-loop
 add-place c = omega arith
@@ -47,8 +35,8 @@ loop-less c = omega arith
 loop-again : tie.Need-loop-again Inv-loop μ-loop
 loop-again c = tt
 
-returns-3 : tie.Need-returns-3 Inv-loop μ-loop
-returns-3 c = tt
+returns-2 : tie.Need-returns-2 Inv-loop μ-loop
+returns-2 c = tt
 
 pub digits-spec : {M : Type 1} → statement M
 digits-spec =
@@ -59,12 +47,8 @@ digits-spec =
     loop-holds
     byte-at-requires
     append-requires
-    enum-known-more
-    enum-told
     returns
-    enum-told-2
-    returns-2
     add-place
     loop-less
     loop-again
-    returns-3)
+    returns-2)

@@ -39,7 +39,8 @@ fn differ(tallies: &mut [u64; 12], number: u64, came: &[u64; 13], line: &[u64; 1
     if 20 < tallies[kind::DIFFERENT] {
         return;
     }
-    report::say_count(b"line ", number);
+    io::write_all(1, b"line ");
+    io::print_decimal(1, number);
     io::write_all(1, b": came");
     say_answer(came);
     io::write_all(1, b", the list says");

@@ -89,8 +89,8 @@ uint64_t ptb_look_up(const uint64_t *words, size_t words_len, const uint32_t *le
                      uint64_t base, uint64_t level, uint64_t range, uint64_t va, uint64_t answer[4]);
 
 /*
- * Lists the entries that start..end meets (start rounded down and end up to 4096), ascending, four numbers a line: start, end, word, level. What lies in `lines` after
- * the last line stays.
+ * Lists the entries that start..end meets (start rounded down and end up to 4096), ascending, four numbers a line: start,
+ * end, word, level. What lies in `lines` after the last line stays.
  * Refusals 1, 2, 5, 6, 8, 11 (lines_len is below four numbers a line; answer[0] is what is needed). Accepted: answer[0] the
  * count of lines.
  */

@@ -65,6 +65,7 @@ fn tables_of(command: u64, pool: u64, asked: u64) -> u64 {
     if pool == 0 { 10 } else { pool }
 }
 
+// A line's values by their place.
 fn args_of(values: &[u64; 6]) -> Args {
     Args {
         first: values[0],
@@ -151,6 +152,7 @@ pub fn run(
     after(command, bench, tables, handle, answer)
 }
 
+// Why a command has no tables to work on.
 fn say_no_pool(number: u64, tables: u64) {
     let forms = b"  line $: there is room for 8 tables at most
   line $: there is no pool yet: make comes first

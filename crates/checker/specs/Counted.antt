@@ -2,12 +2,12 @@
 -- ledger numbers as there are used tables but the root, and each of them holds a table word; so counting the table words finds whether there are others.
 -- Assumes nothing.
 use mathlib.Core.Path.{_≡_, refl, sym, ap, _∙_, subst, subst⁻¹}
-use mathlib.Core.Bool.{Bool, true, false, _&&_}
+use mathlib.Core.Bool.{Bool, _&&_}
 use mathlib.Core.Logic.{_⊎_, inl, inr, _≢_}
 use Prim.Native.Nat.{ℕ, zero, suc, _+_, _*_, _-_, _/_, _%_, _^_, _≤_, _<_}
 use native.Mathlib.Nat.{zero-add, le-antisymm}
 use native.Mathlib.Omega.{arith}
-use lib.Dec.{T, eqb, eqb→eq, leb, leb→le, ltb, ltb→lt, lt→ltb}
+use lib.Dec.{T, eqb, eqb→eq, ltb, ltb→lt, lt→ltb}
 use lib.ListN.{length}
 use Rattle.laws.specs.Sum.{sum, sum-ext, sum-none, sum-one, sum-add, sum-swap, sum-some, sum-at, sum-tight, tally, tally-yes, tally-no}
 use Rattle.laws.specs.Test.{byBool, eq-or, and-l, and-r, and-i, or-e, eq→eqb, same-test, allBelow, all-to, all-of, from-to, from-of}

@@ -8,7 +8,7 @@ use Rattle.rules.specs.declared.Rule.the-variants.{Write, Keep, Drop, Down}
 use Rattle.ends.specs.Laws.{Other, other-write, other-keep, other-drop}
 use Rattle.rules.proofs.Rule.{enum}
 use Rattle.entry.specs.declared.Sub.{Sub}
-use Rattle.entry.specs.declared.Sub.the-variants.{Table, Outside, Leaf}
+use Rattle.entry.specs.declared.Sub.the-variants.{Leaf}
 use Rattle.entry.proofs.Sub as sub
 
 pub no-down : (r : Rule) → (tagOf (declared enum) r ≡ 0) ⊎ ((tagOf (declared enum) r ≡ 1) ⊎ (tagOf (declared enum) r ≡ 2)) → Other r

@@ -5,8 +5,7 @@ use mathlib.Core.Logic.{⊎-elim}
 use Prim.Native.Nat.{ℕ, suc, _+_, _*_, _-_, _/_, _%_, _^_, _≤_, _<_}
 use native.Mathlib.Nat.{mul-le-mul-right, le-div-iff-mul-le, div-add-mod'}
 use native.Mathlib.Omega.{arith}
-use lib.Dec.{eqb, ltb}
-use borrow.Author.Tests.{eq-eqb, ne-eqb, lt-ltb}
+use borrow.Author.Tests.{eq-eqb, ne-eqb}
 use Rattle.laws.specs.Size.{sizeAt, size-pos, size-step, size-low, size-room, next-multiple, down}
 use Rattle.laws.specs.Test.{le-or}
 use Rattle.entry.specs.Word.{addressOf, flagsOf, address-below}

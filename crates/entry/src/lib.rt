@@ -2,8 +2,7 @@
 use address::PhysicalAddress;
 ghost use mathlib.Core.Path.{_≡_};
 ghost use Prim.Native.Nat.{_%_, _^_};
-ghost use lib.Dec.{eqb};
-ghost use Rattle.entry.specs.Word.{addressOf, flagsOf, kindOf, linkOf, only};
+ghost use Rattle.entry.specs.Word.{flagsOf, kindOf, linkOf, only};
 ghost use Rattle.entry.specs.Sub.{subOf};
 
 // The flags that a caller may give to an El1Attributes table: bits 0, 2 to 11 and 50 to 63.
@@ -27,32 +26,11 @@ pub enum Sub {
     Leaf,
 }
 
-// The address in a word.
-pub fn output_address(word: u64) -> PhysicalAddress
-    ensures { λ r. ⌜ r .0 ≡ addressOf word ⌝ }
-{
-    PhysicalAddress(word & ADDRESS_BITS)
-}
-
 // The rest of a word.
 pub fn flags(word: u64) -> u64
     ensures { λ r. ⌜ r ≡ flagsOf word ⌝ }
 {
     word & !ADDRESS_BITS
-}
-
-// Whether bit 0 is set.
-pub fn is_valid(word: u64) -> bool
-    ensures { λ r. ⌜ r ≡ eqb (word % 2) 1 ⌝ }
-{
-    word % 2 == 1
-}
-
-// Whether both low bits are set.
-pub fn is_table_or_page(word: u64) -> bool
-    ensures { λ r. ⌜ r ≡ eqb (word % 4) 3 ⌝ }
-{
-    word % 4 == 3
 }
 
 // Whether the flags are all from the set.

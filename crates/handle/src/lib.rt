@@ -11,6 +11,7 @@ const UPPER: u64 = 1;
 // A level past those that a root may have.
 const NO_LEVEL: usize = 4;
 
+// 0 is lower; for a number that names no range it does not matter.
 fn range_of(range: u64) -> VaRange
     ensures { λ r. ⌜ r ≡ rangeOf range ⌝ }
 {

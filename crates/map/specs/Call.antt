@@ -1,6 +1,6 @@
 -- The whole call (document 01, "Putting down a map" and "The refusal slip"): answer and state for every input. Refusals 1 to 9 in their order; a refusal leaves
 -- the state as it was. Assumes nothing.
-use mathlib.Core.Path.{_≡_, refl, sym, ap, _∙_}
+use mathlib.Core.Path.{_≡_, sym, ap}
 use mathlib.Core.Bool.{true, false, cond}
 use Prim.Native.Nat.{ℕ, _-_, _≤_, _<_}
 use lib.Dec.{ltb}

@@ -3,7 +3,6 @@ use mathlib.Core.Path.{_≡_, refl}
 use mathlib.Core.Bool.{Bool, true, false, cond}
 use Prim.Native.Nat.{ℕ, _-_, _/_, _%_, _≤_}
 use native.Mathlib.Omega.{arith}
-use lib.Bits.{bitAnd}
 use lib.Dec.{eqb, lit<}
 use borrow.Author.Tests.{eqb-false}
 use Rattle.entry.specs.Word.{only}
@@ -16,7 +15,7 @@ use Rattle.pool.specs.declared.Outcome.{Outcome}
 use Rattle.pool.specs.declared.Outcome.the-variants.{Accepted, Refused}
 use Rattle.verify.specs.Verify.{endFits, verify, verified-forwards}
 use Rattle.edit.specs.declared.Edit.{Edit}
-use Rattle.permit.specs.Permit.{asked, verifyBits, thenRegion, verifyEdit, asked-span}
+use Rattle.permit.specs.Permit.{asked, settable, settable-says, verifyBits, thenRegion, verifyEdit, asked-span}
 use Rattle.mapped.specs.Terms.{rootOf}
 use Rattle.mapped.specs.Stand.{Allowed}
 use Rattle.mapped.specs.Pieces.{Area}
@@ -47,11 +46,10 @@ unfolding verifyBits
 bits-pass h set clear ok =
     let a = passes-not (eqb (set / 2 % 2) 1) (InvalidFlags set) _ ok in
     let b = passes-not (eqb (clear / 2 % 2) 1) (InvalidFlags clear) _ (a .1) in
-    let c = passes-if (only (flagSet h) set) (FlagSet set) _ (b .1) in
-    let d = passes-not (eqb (set % 2) 1) (FlagSet set) _ (c .1) in
-    let e = passes-if (eqb (bitAnd set clear) 0) (FlagSet set) _ (d .1) in
-    let f = passes-if (only (flagSet h) clear) (FlagSet clear) Accepted (e .1) in
-    (flags-allowed h set (c .0) (not-one (set / 2) (a .0)), flags-allowed h clear (f .0) (not-one (clear / 2) (b .0)), not-one set (d .0))
+    let c = passes-if (settable (flagSet h) set clear) (FlagSet set) _ (b .1) in
+    let d = settable-says (flagSet h) set clear (c .0) in
+    let f = passes-if (only (flagSet h) clear) (FlagSet clear) Accepted (c .1) in
+    (flags-allowed h set (d .0) (not-one (set / 2) (a .0)), flags-allowed h clear (f .0) (not-one (clear / 2) (b .0)), not-one set (d .1))
 
 -- ---- what is left of a call
 
@@ -87,17 +85,12 @@ bits-early : (h : Handle) (set clear : ℕ) → Early (verifyBits h set clear)
 unfolding verifyBits
 bits-early h set clear =
     let last : Outcome = cond (only (flagSet h) clear) Accepted (Refused (FlagSet clear)) in
-    let clash : Outcome = cond (eqb (bitAnd set clear) 0) last (Refused (FlagSet set)) in
-    let odd : Outcome = cond (eqb (set % 2) 1) (Refused (FlagSet set)) clash in
-    let from : Outcome = cond (only (flagSet h) set) odd (Refused (FlagSet set)) in
+    let from : Outcome = cond (settable (flagSet h) set clear) last (Refused (FlagSet set)) in
     let second : Outcome = cond (eqb (clear / 2 % 2) 1) (Refused (InvalidFlags clear)) from in
     cond-early (eqb (set / 2 % 2) 1) (Refused (InvalidFlags set)) second (lit< tt)
     (cond-early (eqb (clear / 2 % 2) 1) (Refused (InvalidFlags clear)) from (lit< tt)
-    (cond-early (only (flagSet h) set) odd (Refused (FlagSet set))
-    (cond-early (eqb (set % 2) 1) (Refused (FlagSet set)) clash (lit< tt)
-    (cond-early (eqb (bitAnd set clear) 0) last (Refused (FlagSet set))
+    (cond-early (settable (flagSet h) set clear) last (Refused (FlagSet set))
     (cond-early (only (flagSet h) clear) Accepted (Refused (FlagSet clear)) tt (lit< tt)) (lit< tt)))
-    (lit< tt)))
 
 pub asked-early : (h : Handle) (end : ℕ) (e : Edit) → Early (verifyEdit h end e)
 unfolding verifyEdit

@@ -1,9 +1,9 @@
 -- The closed form is the count: for an entry that is no table, and for a table whose words are lawful, with all below it. Leans on `Closed` and `Missed`.
 -- Assumes nothing.
 use mathlib.Core.Path.{_≡_, refl, sym, ap, ap₂, subst, _∙_}
-use mathlib.Core.Bool.{Bool, true, false, true≢false}
+use mathlib.Core.Bool.{true, false, true≢false}
 use mathlib.Core.Logic.{_⊎_, inl, inr}
-use Prim.Native.Nat.{ℕ, zero, suc, _+_, _*_, _-_, _/_, _%_, _^_, _≤_, _<_}
+use Prim.Native.Nat.{ℕ, zero, suc, _+_, _-_, _%_, _≤_, _<_}
 use native.Mathlib.Omega.{arith}
 use Rattle.laws.specs.Size.{sizeAt}
 use Rattle.laws.specs.Test.{byBool, eq-or}
@@ -18,10 +18,10 @@ use Rattle.pool.specs.declared.Handle.{Handle}
 use Rattle.rules.specs.declared.Map.{Map}
 use Rattle.rules.specs.declared.Rule.{Rule}
 use Rattle.rules.specs.declared.Rule.the-variants.{Down}
-use Rattle.rules.specs.Rules.{rule2, ruleOf, chunkMap}
+use Rattle.rules.specs.Rules.{rule2, ruleOf}
 use Rattle.need.specs.Needed.{ifDown, childWord, neededLeaf, needBelow, needChunk, needTable, needed, sumChunks, firstChunk, afterFirst, sum-none, sum-first, sum-is, slot-below}
-use Rattle.need.specs.Closed.{startOf, endOf, frameOf, restAt, rests, closedLeaf, closed, rest-one, level-next, left-next, rests-none, rests-blocks, rests-cut}
-use Rattle.need.specs.Missed.{Same, says-same, Blocks, Barred, blocks-or, fits-block, barred-block, rule-none, rule-whole, rule-down, Lawful, child-lawful, Missed, missed-lawful, missed-plain, missed-rule2, Part, missed-block, missed-part, missed-later}
+use Rattle.need.specs.Closed.{startOf, endOf, frameOf, rests, closedLeaf, closed, rest-one, level-next, left-next, rests-none, rests-blocks, rests-cut}
+use Rattle.need.specs.Missed.{says-same, Blocks, Barred, blocks-or, fits-block, barred-block, rule-none, rule-whole, rule-down, Lawful, child-lawful, Missed, missed-lawful, missed-plain, missed-rule2, Part, missed-block, missed-part, missed-later}
 
 -- ---- a region that begins with an entry, chunk by chunk
 

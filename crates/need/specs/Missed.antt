@@ -3,19 +3,19 @@
 use mathlib.Core.Path.{_≡_, refl, sym, ap, _∙_}
 use mathlib.Core.Bool.{Bool, true, false, true≢false, not, cond, _&&_}
 use mathlib.Core.Logic.{_⊎_, inl, inr}
-use Prim.Native.Nat.{ℕ, zero, suc, _+_, _*_, _-_, _/_, _%_, _^_, _≤_, _<_}
+use Prim.Native.Nat.{ℕ, _+_, _*_, _-_, _%_, _^_, _≤_, _<_}
 use native.Mathlib.Nat.{mul-mod-left, mul-le-mul-right}
 use native.Mathlib.Omega.{arith}
-use lib.Dec.{T, eqb, leb, ltb, eqb→eq, leb→le, le→leb, ltb→lt}
+use lib.Dec.{T, eqb, leb, ltb, eqb→eq, leb→le, ltb→lt}
 use borrow.Author.Tests.{eq-eqb, ne-eqb, le-leb, lt-leb, lt-ltb, eqb-false, not-true}
 use Rattle.laws.specs.Size.{sizeAt, size-pos, size-step, size-pages, size-next, size-parts, size-room, down, multiple-of, multiple-is, add-multiple, mod-on, next-multiple}
-use Rattle.laws.specs.Test.{byBool, le-or, eq-or, and-l, and-r, and-i, is-true, is-false, eq→eqb}
-use Rattle.entry.specs.Word.{addressOf, flagsOf, address-and-flags, address-below, address-back, flags-back, valid, flags-low}
+use Rattle.laws.specs.Test.{byBool, eq-or, and-l, and-r, is-true, is-false}
+use Rattle.entry.specs.Word.{addressOf, flagsOf, address-below, address-back, flags-back, valid, flags-low}
 use Rattle.region.specs.Region.{entryLast, entryIndex, whole}
 use Rattle.region.specs.Chunks.{in-entry}
 use Rattle.rules.specs.declared.Map.{Map}
 use Rattle.rules.specs.declared.Rule.{Rule}
-use Rattle.rules.specs.declared.Rule.the-variants.{Write, Keep, Drop, Down}
+use Rattle.rules.specs.declared.Rule.the-variants.{Drop, Down}
 use Rattle.rules.specs.Rules.{tableWord, rule2, blockable, rule3, rule4, ruleOf}
 use Rattle.need.specs.Needed.{ifDown, childWord, child-hole, child-block}
 use Rattle.need.specs.Closed.{startOf, endOf, frameOf}

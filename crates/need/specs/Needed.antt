@@ -13,7 +13,7 @@ use Rattle.entry.specs.Sub.{subOf}
 use Rattle.entry.specs.declared.Sub.{Sub}
 use Rattle.entry.specs.declared.Sub.the-variants.{Table, Outside, Leaf}
 use Rattle.region.specs.Region.{region, entryIndex, chunkEnd}
-use Rattle.region.specs.Chunks.{met, met-none, met-step, chunks, chunks-none, chunks-step}
+use Rattle.region.specs.Chunks.{met, met-step, chunks, chunks-none, chunks-step}
 use Rattle.region.specs.declared.MemoryRegion.{MemoryRegion}
 use Rattle.pool.specs.State.{St, tables, wordAt}
 use Rattle.table.specs.Table.{rising-at}

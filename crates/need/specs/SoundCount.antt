@@ -1,20 +1,19 @@
 -- In a sound pool every word that is no table is lawful at its level, so that the closed form is the count. Leans on `Count`. Assumes nothing.
-use mathlib.Core.Path.{_≡_, refl, sym, ap, subst, _∙_}
-use mathlib.Core.Bool.{Bool, true, false, cond, _&&_, _||_}
+use mathlib.Core.Path.{_≡_, ap, subst, _∙_}
+use mathlib.Core.Bool.{cond, _&&_}
 use mathlib.Core.Logic.{_⊎_, inl, inr}
-use Prim.Native.Nat.{ℕ, zero, suc, _+_, _*_, _-_, _/_, _%_, _^_, _≤_, _<_}
+use Prim.Native.Nat.{ℕ, zero, suc, _+_, _-_, _/_, _%_, _≤_, _<_}
 use native.Mathlib.Omega.{arith}
 use lib.Dec.{T, eqb, leb, ltb, eqb→eq, leb→le, ltb→lt, lt→ltb}
 use Rattle.laws.specs.Size.{sizeAt}
-use Rattle.laws.specs.Test.{and-l, and-r, and-i, or-e, cond-true, cond-false, eq→eqb, allBelow, all-to, allFrom, from-to}
+use Rattle.laws.specs.Test.{and-l, and-r, and-i, or-e, cond-true, cond-false, eq→eqb}
 use Rattle.entry.specs.Word.{addressOf, linkOf, only, plainFlags}
 use Rattle.entry.specs.Sub.{subOf, sub-found}
-use Rattle.entry.specs.declared.Sub.{Sub}
-use Rattle.entry.specs.declared.Sub.the-variants.{Table, Outside, Leaf}
+use Rattle.entry.specs.declared.Sub.the-variants.{Table}
 use Rattle.pool.specs.State.{St, tables, wordAt, numberAt}
 use Rattle.pool.specs.Number.{rootNumber, levelOf, parentOf, slotOf}
 use Rattle.pool.specs.Refuse.{Shaped}
-use Rattle.pool.specs.Sound.{flagSet, fits, leafb, namesb, hangsb, tableb, linkb, refersb, slotb, soundb}
+use Rattle.pool.specs.Sound.{flagSet, fits, leafb, namesb, hangsb, tableb, linkb, refersb, slotb, soundb, sound-table, sound-slot}
 use Rattle.pool.specs.declared.Handle.{Handle}
 use Rattle.rules.specs.declared.Map.{Map}
 use Rattle.entry.specs.Sub.{sub-some}
@@ -48,25 +47,12 @@ record UsedAt (s : St) (level k : ℕ) : Type 0 where
   at : levelOf (numberAt s k) ≡ level
 
 module _ (h : Handle) (s : St) (shape : Shaped h s) (sound : T (soundb h s)) where
-  table-holds : (k : ℕ) → k < tables s → T (tableb h s k)
-  unfolding soundb
-  table-holds k l = all-to (tables s) (tableb h s) (and-l (allBelow (tables s) (tableb h s)) (allFrom 0 (s .words) (λ x w. slotb h s (x / 512) (x % 512) w)) sound) k l
-
-  slot-holds : (k i : ℕ) → k < tables s → i < 512 → T (slotb h s k i (wordAt s k i))
-  unfolding soundb
-  slot-holds k i l b =
-      let t = from-to 0 (s .words) (λ x w. slotb h s (x / 512) (x % 512) w)
-      (and-r (allBelow (tables s) (tableb h s)) (allFrom 0 (s .words) (λ x w. slotb h s (x / 512) (x % 512) w)) sound) (512 * k + i) (omega (arith, shape .sized)) in
-      let p : (0 + (512 * k + i)) / 512 ≡ k = omega arith in
-      let q : (0 + (512 * k + i)) % 512 ≡ i = omega arith in
-      subst (λ (y : ℕ). T (slotb h s y i (wordAt s k i))) p (subst (λ (y : ℕ). T (slotb h s ((0 + (512 * k + i)) / 512) y (wordAt s k i))) q t)
-
   -- the word of a used table, past the test for a free one
   used-slot : (level k i : ℕ) → UsedAt s level k → i < 512
       → T (cond (refersb (numberAt s k) (wordAt s k i)) (linkb (h .base .0) s k i (wordAt s k i)) (leafb (flagSet h) (levelOf (numberAt s k)) (wordAt s k i)))
   unfolding slotb
   used-slot level k i u b =
-      cond-false (eqb (numberAt s k) 0) (eqb (wordAt s k i) 0) _ (λ t. u .used (eqb→eq (numberAt s k) 0 t)) (slot-holds k i (u .inside) b)
+      cond-false (eqb (numberAt s k) 0) (eqb (wordAt s k i) 0) _ (λ t. u .used (eqb→eq (numberAt s k) 0 t)) (sound-slot h s sound (shape .sized) k i (u .inside) b)
 
   -- a leaf is lawful
   leaf-lawful : (level k i : ℕ) → level < 3 → UsedAt s level k → i < 512 → (wordAt s k i % 4 ≡ 3 → ⊥) → Lawful level (wordAt s k i)
@@ -138,7 +124,7 @@ module _ (h : Handle) (s : St) (shape : Shaped h s) (sound : T (soundb h s)) whe
             let f = sub-found (h .base .0) (tables s) (3 - suc left) (wordAt s k i) j e in
             let next : 3 - suc left + 1 ≡ 3 - left = omega arith in
             lawful-from left j (omega arith)
-            (subst (λ (n : ℕ). UsedAt s n j) next (named-used (3 - suc left) k j u (f .below) (link-named (3 - suc left) k i j u b e) (table-holds j (f .below))))),
+            (subst (λ (n : ℕ). UsedAt s n j) next (named-used (3 - suc left) k j u (f .below) (link-named (3 - suc left) k i j u b e) (sound-table h s sound j (f .below))))),
       )
 
   -- the root and all below it
@@ -146,7 +132,7 @@ module _ (h : Handle) (s : St) (shape : Shaped h s) (sound : T (soundb h s)) whe
   unfolding tableb rootNumber
   sound-lawful =
       let top = shape .level in
-      let e : numberAt s 0 ≡ 4 + h .level = eqb→eq (numberAt s 0) (4 + h .level) (table-holds 0 (shape .some)) in
+      let e : numberAt s 0 ≡ 4 + h .level = eqb→eq (numberAt s 0) (4 + h .level) (sound-table h s sound 0 (shape .some)) in
       lawful-from (3 - h .level) 0 (omega arith) (record { inside = shape .some; used = (λ z. omega arith); at = omega arith })
 
   -- refusal 9's count, as the code makes it, is document 01's

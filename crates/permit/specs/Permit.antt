@@ -40,12 +40,7 @@ unfoldable pub verifyBits : Handle → ℕ → ℕ → Outcome
 verifyBits h set clear =
     cond (eqb (set / 2 % 2) 1) (Refused (InvalidFlags set))
     (cond (eqb (clear / 2 % 2) 1) (Refused (InvalidFlags clear))
-    (cond (only (flagSet h) set)
-    (cond (eqb (set % 2) 1) (Refused (FlagSet set))
-    (cond (eqb (bitAnd set clear) 0)
-    (cond (only (flagSet h) clear) Accepted (Refused (FlagSet clear)))
-    (Refused (FlagSet set))))
-    (Refused (FlagSet set))))
+    (cond (settable (flagSet h) set clear) (cond (only (flagSet h) clear) Accepted (Refused (FlagSet clear))) (Refused (FlagSet set))))
 
 -- the region is looked at where the bits are accepted
 unfoldable pub thenRegion : Outcome → Handle → MemoryRegion → Outcome
@@ -79,18 +74,14 @@ module _ (m set clear : ℕ) where
   unfolding settable
   set-apart from even = rw (from, ne-eqb (set % 2) 1 even)
 
--- three tests in a row, each with the same refusal
-none-of : (a b c : Bool) (x y : Outcome) → a && (not b && c) ≡ false → y ≡ cond a (cond b y (cond c x y)) y
-none-of false b c x y e = refl
-none-of true true c x y e = refl
-none-of true false false x y e = refl
-none-of true false true x y e = absurd (true≢false e)
-
-all-of : (a b c : Bool) (x y : Outcome) → a && (not b && c) ≡ true → x ≡ cond a (cond b y (cond c x y)) y
-all-of true false true x y e = refl
-all-of true false false x y e = absurd (true≢false (sym e))
-all-of true true c x y e = absurd (true≢false (sym e))
-all-of false b c x y e = absurd (true≢false (sym e))
+  pub settable-says : settable m set clear ≡ true → (only m set ≡ true) × (eqb (set % 2) 1 ≡ false)
+  unfolding settable
+  settable-says e = go (only m set) (eqb (set % 2) 1) (eqb (bitAnd set clear) 0) e
+    where
+      go : (a b c : Bool) → a && (not b && c) ≡ true → (a ≡ true) × (b ≡ false)
+      go true false c e = (refl, refl)
+      go true true c e = absurd (true≢false (sym e))
+      go false b c e = absurd (true≢false (sym e))
 
 module _ (h : Handle) (set clear : ℕ) where
   pub bits-set-invalid : set / 2 % 2 ≡ 1 → Refused (InvalidFlags set) ≡ verifyBits h set clear
@@ -103,42 +94,36 @@ module _ (h : Handle) (set clear : ℕ) where
     bits-clear-invalid e = rw (ne-eqb (set / 2 % 2) 1 one, eq-eqb (clear / 2 % 2) 1 e)
 
     module _ (two : clear / 2 % 2 ≡ 1 → ⊥) where
-      pub bits-set-outside : only (flagSet h) set ≡ false → Refused (FlagSet set) ≡ verifyBits h set clear
+      pub bits-unsettable : settable (flagSet h) set clear ≡ false → Refused (FlagSet set) ≡ verifyBits h set clear
       unfolding verifyBits
-      bits-set-outside e = rw (ne-eqb (set / 2 % 2) 1 one, ne-eqb (clear / 2 % 2) 1 two, e)
+      bits-unsettable e = rw (ne-eqb (set / 2 % 2) 1 one, ne-eqb (clear / 2 % 2) 1 two, e)
+
+      pub bits-settable : settable (flagSet h) set clear ≡ true → cond (only (flagSet h) clear) Accepted (Refused (FlagSet clear)) ≡ verifyBits h set clear
+      unfolding verifyBits
+      bits-settable e = rw (ne-eqb (set / 2 % 2) 1 one, ne-eqb (clear / 2 % 2) 1 two, e)
+
+      pub bits-set-outside : only (flagSet h) set ≡ false → Refused (FlagSet set) ≡ verifyBits h set clear
+      bits-set-outside e = bits-unsettable (sym (set-outside (flagSet h) set clear e))
 
       module _ (from : only (flagSet h) set ≡ true) where
         pub bits-set-valid : set % 2 ≡ 1 → Refused (FlagSet set) ≡ verifyBits h set clear
-        unfolding verifyBits
-        bits-set-valid e = rw (ne-eqb (set / 2 % 2) 1 one, ne-eqb (clear / 2 % 2) 1 two, from, eq-eqb (set % 2) 1 e)
+        bits-set-valid e = bits-unsettable (sym (set-valid (flagSet h) set clear from e))
 
         module _ (even : set % 2 ≡ 1 → ⊥) where
           pub bits-clash : (bitAnd set clear ≡ 0 → ⊥) → Refused (FlagSet set) ≡ verifyBits h set clear
-          unfolding verifyBits
-          bits-clash n = rw (ne-eqb (set / 2 % 2) 1 one, ne-eqb (clear / 2 % 2) 1 two, from, ne-eqb (set % 2) 1 even, ne-eqb (bitAnd set clear) 0 n)
+          bits-clash n = bits-unsettable (sym (set-apart (flagSet h) set clear from even) ∙ ne-eqb (bitAnd set clear) 0 n)
 
           module _ (apart : bitAnd set clear ≡ 0) where
             by-clear : (b : Bool) → only (flagSet h) clear ≡ b → cond b Accepted (Refused (FlagSet clear)) ≡ verifyBits h set clear
-            unfolding verifyBits
             by-clear b e =
-                rw (ne-eqb (set / 2 % 2) 1 one, ne-eqb (clear / 2 % 2) 1 two, from, ne-eqb (set % 2) 1 even, eq-eqb (bitAnd set clear) 0 apart, e)
+                ap (λ (x : Bool). cond x Accepted (Refused (FlagSet clear))) (sym e)
+                ∙ bits-settable (sym (set-apart (flagSet h) set clear from even) ∙ eq-eqb (bitAnd set clear) 0 apart)
 
             pub bits-clear-outside : only (flagSet h) clear ≡ false → Refused (FlagSet clear) ≡ verifyBits h set clear
             bits-clear-outside e = by-clear false e
 
             pub bits-accepted : only (flagSet h) clear ≡ true → Accepted ≡ verifyBits h set clear
             bits-accepted e = by-clear true e
-
-      -- the tests of the bits to set, taken together
-      pub bits-unsettable : settable (flagSet h) set clear ≡ false → Refused (FlagSet set) ≡ verifyBits h set clear
-      unfolding verifyBits settable
-      bits-unsettable e =
-          rw (ne-eqb (set / 2 % 2) 1 one, ne-eqb (clear / 2 % 2) 1 two) (none-of (only (flagSet h) set) (eqb (set % 2) 1) (eqb (bitAnd set clear) 0) (cond (only (flagSet h) clear) Accepted (Refused (FlagSet clear))) (Refused (FlagSet set)) e)
-
-      pub bits-settable : settable (flagSet h) set clear ≡ true → cond (only (flagSet h) clear) Accepted (Refused (FlagSet clear)) ≡ verifyBits h set clear
-      unfolding verifyBits settable
-      bits-settable e =
-          rw (ne-eqb (set / 2 % 2) 1 one, ne-eqb (clear / 2 % 2) 1 two) (all-of (only (flagSet h) set) (eqb (set % 2) 1) (eqb (bitAnd set clear) 0) (cond (only (flagSet h) clear) Accepted (Refused (FlagSet clear))) (Refused (FlagSet set)) e)
 
 module _ (h : Handle) (end : ℕ) (e : Edit) where
   pub edit-end : endFits end ≡ false → Refused (End end) ≡ verifyEdit h end e

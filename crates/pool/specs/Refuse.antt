@@ -1,6 +1,6 @@
 -- The refusal slip: each refusal's number and what it carries; refusal 1; an answer together with the state that it leaves.
 -- Assumes nothing.
-use mathlib.Core.Bool.{Bool, true, false, cond, _&&_}
+use mathlib.Core.Bool.{Bool, _&&_}
 use mathlib.Core.List.{List, [], _∷_}
 use mathlib.Core.Path.{_≡_}
 use Prim.Native.Nat.{ℕ, _+_, _*_, _%_, _^_, _≤_}
@@ -13,7 +13,7 @@ use Rattle.pool.specs.declared.Handle.{Handle}
 use Rattle.pool.specs.declared.Refusal.{Refusal}
 use Rattle.pool.specs.declared.Refusal.the-variants.{Shape, End, InvalidFlags, FlagSet, RegionBackwards, AddressRange, Frame, Unsound, WantOfRoom, HouseRule, Short}
 use Rattle.pool.specs.declared.Outcome.{Outcome}
-use Rattle.pool.specs.declared.Outcome.the-variants.{Accepted, Refused}
+use Rattle.pool.specs.declared.Outcome.the-variants.{Refused}
 
 -- document 01, "The refusal slip": No.
 abbrev pub number : Refusal → ℕ

@@ -1,11 +1,12 @@
 -- When a pool is sound (document 01, "Pool and ledger"), as a test that computes on the lists, clause by clause. Assumes nothing.
-use mathlib.Core.Bool.{Bool, true, false, not, cond, _&&_, _||_}
-use mathlib.Core.List.{List}
-use Prim.Native.Nat.{ℕ, zero, suc, _+_, _-_, _/_, _%_}
+use mathlib.Core.Path.{_≡_, ap, _∙_, subst}
+use mathlib.Core.Bool.{Bool, not, cond, _&&_, _||_}
+use Prim.Native.Nat.{ℕ, zero, suc, _+_, _*_, _-_, _/_, _%_, _<_}
+use native.Mathlib.Omega.{arith}
 use lib.Dec.{T, eqb, leb, leb→le, le→leb, ltb}
-use lib.ListN.{length, getD}
+use lib.ListN.{length}
 use Rattle.laws.specs.Size.{sizeAt}
-use Rattle.laws.specs.Test.{and-l, and-r, and-i, allBelow, allFrom}
+use Rattle.laws.specs.Test.{and-l, and-r, and-i, allBelow, all-to, allFrom, from-to}
 use Rattle.entry.specs.Word.{addressOf, linkOf, only, el1Flags, plainFlags}
 use Rattle.pool.specs.State.{St, tables, wordAt, numberAt}
 use Rattle.pool.specs.Number.{rootNumber, levelOf, parentOf, slotOf, Names}
@@ -73,3 +74,26 @@ names-says x t = record { kind = leb→le 4 (x % 8) (and-l (leb 4 (x % 8)) (leb 
 pub says-names : (x : ℕ) → Names x → T (namesb x)
 unfolding namesb
 says-names x names = and-i (leb 4 (x % 8)) (leb 1 (x / 8)) (le→leb 4 (x % 8) (names .kind)) (le→leb 1 (x / 8) (names .some))
+
+-- ---- what the tables and slots of a sound pool pass
+
+module _ (h : Handle) (s : St) where
+  abbrev pub wordb : ℕ → ℕ → Bool
+  wordb x w = slotb h s (x / 512) (x % 512) w
+
+  -- slot i of table k is word 512·k + i
+  pub slot-place : (k i : ℕ) → i < 512 → wordb (0 + (512 * k + i)) (wordAt s k i) ≡ slotb h s k i (wordAt s k i)
+  slot-place k i inside =
+      let over : (0 + (512 * k + i)) / 512 ≡ k = omega arith in
+      let at : (0 + (512 * k + i)) % 512 ≡ i = omega arith in
+      ap (λ (q : ℕ). slotb h s q ((0 + (512 * k + i)) % 512) (wordAt s k i)) over ∙ ap (λ (q : ℕ). slotb h s k q (wordAt s k i)) at
+
+  pub sound-table : T (soundb h s) → (k : ℕ) → k < tables s → T (tableb h s k)
+  unfolding soundb
+  sound-table t k below = all-to (tables s) (tableb h s) (and-l (allBelow (tables s) (tableb h s)) (allFrom 0 (s .words) wordb) t) k below
+
+  pub sound-slot : T (soundb h s) → length (s .words) ≡ 512 * tables s → (k i : ℕ) → k < tables s → i < 512 → T (slotb h s k i (wordAt s k i))
+  unfolding soundb
+  sound-slot t sized k i below inside =
+      subst T (slot-place k i inside)
+      (from-to 0 (s .words) wordb (and-r (allBelow (tables s) (tableb h s)) (allFrom 0 (s .words) wordb) t) (512 * k + i) (omega (arith, sized)))

@@ -23,7 +23,7 @@ use Rattle.compact.specs.Call as compact
 use Rattle.modify.specs.Call as modify
 use Rattle.modify.specs.declared.Modified.{Modified}
 use Rattle.handle.specs.Handle.{handleOf, no-range}
-use Rattle.answer.specs.Answer.{Slip, slip, refused, told, toldCounted, toldLooked, toldListed, toldModified}
+use Rattle.answer.specs.Answer.{Slip, refused, told, toldCounted, toldLooked, toldListed, toldModified}
 
 -- ---- make
 

@@ -8,8 +8,8 @@ use lib.Dec.{ltb}
 use borrow.Author.Tests.{lt-ltb}
 use Rattle.laws.specs.Test.{le-or}
 use Rattle.region.specs.Region.{region, entryIndex, chunkEnd}
-use Rattle.region.specs.Chunks.{chunks, chunks-step, chunks-none}
-use Rattle.pool.specs.State.{St, st, wordAt, storeAt}
+use Rattle.region.specs.Chunks.{chunks-step, chunks-none}
+use Rattle.pool.specs.State.{St, wordAt, storeAt}
 use Rattle.table.specs.Table.{Taken, taken}
 use Rattle.pool.specs.declared.Handle.{Handle}
 use Rattle.pool.specs.declared.Found.{Found}

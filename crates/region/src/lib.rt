@@ -2,7 +2,6 @@
 use address::VirtualAddress;
 ghost use mathlib.Core.Path.{_≡_};
 ghost use Prim.Native.Nat.{_-_};
-ghost use lib.Dec.{eqb};
 ghost use Rattle.region.specs.Region.{rounded, whole, entryLast, entryIndex, chunkEnd, nextChunk};
 
 // The addresses from start up to end, which is not among them.
@@ -72,12 +71,6 @@ impl MemoryRegion {
             return 0;
         }
         self.end.0 - self.start.0
-    }
-
-    pub fn is_empty(self) -> bool
-        ensures { λ r. ⌜ r ≡ eqb (self .start .0) (self .end .0) ⌝ }
-    {
-        self.start.0 == self.end.0
     }
 
     // Whether both ends are multiples of the entry's size at this level.

@@ -13,9 +13,8 @@ fn name_of(bit: u64, rest: u64) -> u64 {
     }
 }
 
-// A name: of bits 0 to 11 and 50 to 63, counted without those between; then of the attribute index 0 to 7 (bits 2 to 4), and of shareability
-// 0 to 3 (bits 8 and 9), whose 1 has none.
-fn say_name(line: u64) {
+// The names of bits 0 to 11 and 50 to 63, counted without those between.
+fn say_bit(line: u64) {
     let names = b" VALID
  TABLE_OR_PAGE
 
@@ -42,9 +41,19 @@ fn say_name(line: u64) {
  AP_TABLE_NO_EL0
  AP_TABLE_NO_WRITE
  NS_TABLE
+";
+    say_line(names, line);
+}
 
- ATTRIBUTE_INDEX_1\n ATTRIBUTE_INDEX_2\n ATTRIBUTE_INDEX_3
- ATTRIBUTE_INDEX_4\n ATTRIBUTE_INDEX_5\n ATTRIBUTE_INDEX_6
+// The names of the attribute index 0 to 7 (bits 2 to 4), then of shareability 0 to 3 (bits 8 and 9), whose 1 has none.
+fn say_field(line: u64) {
+    let names = b"
+ ATTRIBUTE_INDEX_1
+ ATTRIBUTE_INDEX_2
+ ATTRIBUTE_INDEX_3
+ ATTRIBUTE_INDEX_4
+ ATTRIBUTE_INDEX_5
+ ATTRIBUTE_INDEX_6
  ATTRIBUTE_INDEX_7
 
  0x100
@@ -52,6 +61,14 @@ fn say_name(line: u64) {
  INNER_SHAREABLE
 ";
     say_line(names, line);
+}
+
+// A name: the bits' 26, then the fields'.
+fn say_name(line: u64) {
+    if line < 26 {
+        return say_bit(line);
+    }
+    say_field(line - 26);
 }
 
 // The flags that have a name, each after a blank. Bits 0 to 11 and 50 to 63 are brought together.

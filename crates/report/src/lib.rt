@@ -13,6 +13,7 @@ pub use page::say_page;
 pub use refusal::say_refusal;
 use script::Word;
 
+// A text as it stands.
 pub fn say(text: &[u8]) {
     io::write_all(1, text);
 }

@@ -25,6 +25,7 @@ fn end_of(at: usize) -> usize {
     if at < 4096 { at + 8 } else { at }
 }
 
+// Two digits, after a blank.
 fn say_byte(byte: u8) {
     say(b" ");
     io::print_hex(1, byte as u64, 2);
@@ -40,6 +41,7 @@ fn say_row(page: &[u8], at: usize) {
     }
 }
 
+// A row with its place, unless it is zero.
 fn say_row_if(page: &[u8], at: usize) {
     if is_zero(page, at) {
         return;

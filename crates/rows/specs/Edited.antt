@@ -26,7 +26,7 @@ use Rattle.edit.specs.Own.{putNumber, ownChunk, ownRange}
 use Rattle.edit.specs.Range.{own, onward, downChunk, ownWork, modifyRange}
 use Rattle.survey.specs.House.{houseRule, mayChange}
 use Rattle.survey.specs.Find.{adding, splitsIn, breach, ifBlock, surveyPart, surveyWhole, surveyEntry, surveySub, surveyChunk, surveyRange}
-use Rattle.permit.specs.Permit.{asked, verifyBits, thenRegion, verifyEdit, verifySurvey}
+use Rattle.permit.specs.Permit.{asked, settable, verifyBits, thenRegion, verifyEdit, verifySurvey}
 use Rattle.modify.specs.Call.{modifying, answerOf, editTables, orElse, modifySound, modifyCall}
 use Rattle.modify.specs.declared.Modified.{Modified}
 use Rattle.modify.specs.declared.Modified.the-variants.{Tables, Live, Refused}
@@ -53,5 +53,5 @@ unfolding sizeAt down up putPart allBelow allFrom alignUp addressOf flagsOf kind
     chunks rootNumber numberOf firstFrom lowestFree used free putTable zeros rising takeAt takeFound takeTable maxTables shaped flagSet plainFlags fits leafb namesb hangsb
     tableb linkb refersb slotb soundb endFits span inRange verify valid tableWord leafWord whole fillOf splitEntry belowOf below edited ofKind editWord eachOf eachChunk
     putNumber ownChunk ownRange own onward downChunk ownWork modifyRange houseRule mayChange adding splitsIn breach ifBlock surveyPart surveyWhole surveyEntry surveySub
-    surveyChunk surveyRange asked verifyBits thenRegion verifyEdit verifySurvey answerOf editTables orElse modifySound modifyCall handle fresh word table poolA poolF Sets
+    surveyChunk surveyRange asked settable verifyBits thenRegion verifyEdit verifySurvey answerOf editTables orElse modifySound modifyCall handle fresh word table poolA poolF Sets
 case-I = (refl, refl, refl)

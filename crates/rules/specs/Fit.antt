@@ -1,14 +1,14 @@
 -- What refusals 3, 4, 5 and 7 leave of a map: whole pages, frames below 2^48, flags that share no bit with an address; its chunks are such maps too.
 -- Assumes nothing.
-use mathlib.Core.Path.{_≡_, refl, ap, _∙_}
+use mathlib.Core.Path.{_≡_, ap, _∙_}
 use mathlib.Core.Bool.{Bool, true, false, cond}
 use Prim.Native.Nat.{ℕ, _+_, _*_, _-_, _%_, _^_, _≤_, _<_}
 use native.Mathlib.Nat.{mul-mod-left}
 use native.Mathlib.Omega.{arith}
-use lib.Dec.{eqb, leb}
+use lib.Dec.{leb}
 use borrow.Author.Tests.{eq-eqb, ne-eqb, le-leb, lt-leb}
 use Rattle.laws.specs.Size.{sizeAt, size-pages, size-pos, down-paged}
-use Rattle.entry.specs.Word.{addressOf, flagsOf, valid, leafWord, Plain}
+use Rattle.entry.specs.Word.{flagsOf, valid, leafWord, Plain}
 use Rattle.region.specs.Region.{region, entryLast, chunkEnd}
 use Rattle.region.specs.Chunks.{chunk-fits}
 use Rattle.rules.specs.declared.Map.{Map}

@@ -1,17 +1,17 @@
 -- The test `soundb` decides soundness: for a pool that refusal 1 lets pass it holds exactly when document 01's clauses do. Assumes nothing.
-use mathlib.Core.Path.{_≡_, refl, sym, ap, _∙_, subst, subst⁻¹}
-use mathlib.Core.Bool.{Bool, cond, _&&_}
+use mathlib.Core.Path.{_≡_, refl, sym, _∙_, subst, subst⁻¹}
+use mathlib.Core.Bool.{cond, _&&_}
 use mathlib.Core.Logic.{_⊎_, inl, inr, _≢_, _↔_}
 use Prim.Native.Nat.{ℕ, zero, suc, _+_, _*_, _-_, _/_, _%_, _<_}
 use native.Mathlib.Omega.{arith}
 use lib.Dec.{T, eqb, eqb→eq, ltb, ltb→lt, lt→ltb}
 use lib.ListN.{length, getD}
-use Rattle.laws.specs.Test.{eq-or, and-l, and-r, and-i, or-e, or-l, or-r, cond-true, cond-false, cond-of, eq→eqb, allBelow, all-to, all-of, allFrom, from-to, from-of}
+use Rattle.laws.specs.Test.{eq-or, and-l, and-r, and-i, or-e, or-l, or-r, cond-true, cond-false, cond-of, eq→eqb, allBelow, all-of, allFrom, from-of}
 use Rattle.entry.specs.Word.{addressOf, linkOf, link-address}
 use Rattle.pool.specs.State.{St, tables, wordAt, numberAt, used-in}
 use Rattle.pool.specs.Number.{rootNumber, levelOf, parentOf, slotOf}
 use Rattle.pool.specs.Refuse.{Shaped}
-use Rattle.pool.specs.Sound.{flagSet, leafb, namesb, hangsb, tableb, linkb, refersb, slotb, soundb, names-says, says-names}
+use Rattle.pool.specs.Sound.{flagSet, leafb, namesb, hangsb, tableb, linkb, refersb, slotb, soundb, names-says, says-names, wordb, slot-place, sound-table, sound-slot}
 use Rattle.pool.specs.declared.Handle.{Handle}
 use Rattle.forest.specs.Sound.{TableWord}
 use Rattle.sound.specs.Clauses.{InUse, levelAt, HangsIn, LinksTo, LeafWord, SoundPool}
@@ -133,52 +133,34 @@ module _ (h : Handle) (s : St) where
       pos zero nz = absurd (nz tt)
       pos (suc y) nz = omega arith
 
-  -- slot i of table k is word 512·k + i
-  place : (k i : ℕ) → i < 512 → slotb h s ((0 + (512 * k + i)) / 512) ((0 + (512 * k + i)) % 512) (wordAt s k i) ≡ slotb h s k i (wordAt s k i)
-  place k i inside =
-      let over : (0 + (512 * k + i)) / 512 ≡ k = omega arith in
-      let at : (0 + (512 * k + i)) % 512 ≡ i = omega arith in
-      ap (λ (q : ℕ). slotb h s q ((0 + (512 * k + i)) % 512) (wordAt s k i)) over ∙ ap (λ (q : ℕ). slotb h s k q (wordAt s k i)) at
-
 -- ---- the whole
 
 module _ {h : Handle} {s : St} (shape : Shaped h s) where
-  abbrev word : ℕ → ℕ → Bool
-  word x w = slotb h s (x / 512) (x % 512) w
-
   pub decide-sound : T (soundb h s) → SoundPool h s
   unfolding soundb tableb
   decide-sound t = record {
     sized = shape .sized;
-    root = eqb→eq (numberAt s 0) (rootNumber (h .level)) (table 0 (omega (arith, shape .some)));
+    root = eqb→eq (numberAt s 0) (rootNumber (h .level)) (sound-table h s t 0 (omega (arith, shape .some)));
     hangs = λ k other used. (parentOf (numberAt s k), slotOf (numberAt s k), hang k other used);
-    links = λ k i inside used. slot-link h s k i (slot k i (used-in s k used) inside) used;
-    leaves = λ k i inside used. slot-leaf h s k i (slot k i (used-in s k used) inside) used;
-    free = λ k i below inside none. slot-zero h s k i (slot k i below inside) none;
+    links = λ k i inside used. slot-link h s k i (sound-slot h s t (shape .sized) k i (used-in s k used) inside) used;
+    leaves = λ k i inside used. slot-leaf h s k i (sound-slot h s t (shape .sized) k i (used-in s k used) inside) used;
+    free = λ k i below inside none. slot-zero h s k i (sound-slot h s t (shape .sized) k i below inside) none;
   }
     where
-      table : (k : ℕ) → k < tables s → T (tableb h s k)
-      table = all-to (tables s) (tableb h s) (and-l (allBelow (tables s) (tableb h s)) (allFrom 0 (s .words) word) t)
-
       hang : (k : ℕ) → k ≢ 0 → InUse s k → HangsIn h s k (parentOf (numberAt s k)) (slotOf (numberAt s k))
       hang zero other used = absurd (other refl)
-      hang (suc k) other used = go (or-e (eqb (numberAt s (suc k)) 0) (hangsb (h .base .0) s (suc k)) (table (suc k) (used-in s (suc k) used)))
+      hang (suc k) other used = go (or-e (eqb (numberAt s (suc k)) 0) (hangsb (h .base .0) s (suc k)) (sound-table h s t (suc k) (used-in s (suc k) used)))
         where
           go : T (eqb (numberAt s (suc k)) 0) ⊎ T (hangsb (h .base .0) s (suc k)) → HangsIn h s (suc k) (parentOf (numberAt s (suc k))) (slotOf (numberAt s (suc k)))
           go (inl z) = absurd (omega (arith, used, eqb→eq (numberAt s (suc k)) 0 z))
           go (inr hangs) = hangs-says h s (suc k) hangs
 
-      slot : (k i : ℕ) → k < tables s → i < 512 → T (slotb h s k i (wordAt s k i))
-      slot k i below inside =
-          subst T (place h s k i inside)
-          (from-to 0 (s .words) word (and-r (allBelow (tables s) (tableb h s)) (allFrom 0 (s .words) word) t) (512 * k + i) (omega (arith, shape .sized)))
-
   pub sound-decide : SoundPool h s → T (soundb h s)
   unfolding soundb tableb
   sound-decide P =
-      and-i (allBelow (tables s) (tableb h s)) (allFrom 0 (s .words) word)
+      and-i (allBelow (tables s) (tableb h s)) (allFrom 0 (s .words) (wordb h s))
       (all-of (tables s) (tableb h s) (λ k below. table k))
-      (from-of 0 (s .words) word at)
+      (from-of 0 (s .words) (wordb h s) at)
     where
       table : (k : ℕ) → T (tableb h s k)
       table zero = eq→eqb (numberAt s 0) (rootNumber (h .level)) (P .root)
@@ -190,14 +172,14 @@ module _ {h : Handle} {s : St} (shape : Shaped h s) where
               let at = P .hangs (suc k) (λ e. omega arith) (omega arith) in
               or-r (eqb (numberAt s (suc k)) 0) (hangsb (h .base .0) s (suc k)) (says-hangs h s (suc k) (at .0) (at .1) (at .2))
 
-      at : (j : ℕ) → j < length (s .words) → T (word (0 + j) (getD (s .words) j 0))
+      at : (j : ℕ) → j < length (s .words) → T (wordb h s (0 + j) (getD (s .words) j 0))
       at j below =
           let k = j / 512 in
           let i = j % 512 in
           let inside : i < 512 = omega arith in
           let e : 512 * k + i ≡ j = omega arith in
-          subst (λ (x : ℕ). T (word (0 + x) (getD (s .words) x 0))) e
-          (subst⁻¹ T (place h s k i inside) (says-slot h s shape P k i (omega (arith, shape .sized)) inside))
+          subst (λ (x : ℕ). T (wordb h s (0 + x) (getD (s .words) x 0))) e
+          (subst⁻¹ T (slot-place h s k i inside) (says-slot h s shape P k i (omega (arith, shape .sized)) inside))
 
   -- the pool check accepts only a sound pool, and every sound pool
   pub sound-exactly : T (soundb h s) ↔ SoundPool h s

@@ -34,6 +34,7 @@ pub const COMMENT: usize = 13;
 
 pub const END: usize = 14;
 
+// The kind of a line by the letter that it begins with.
 pub fn kind_of(letter: u8) -> usize {
     match letter {
         b'n' => MAKE,

@@ -3,6 +3,7 @@
 // What a sum begins with.
 const START: u64 = 0x9E37_79B9_7F4A_7C15;
 
+// One step.
 fn mix(sum: u64, number: u64) -> u64 {
     let with = sum ^ number;
     let left = with ^ (with << 13);
@@ -51,6 +52,7 @@ pub fn left(
     ledger(self::words(listed, words, length), numbers, count)
 }
 
+// The casts stand alone, so that the loops have fewer temporaries.
 fn wide(number: u32) -> u64 {
     number as u64
 }

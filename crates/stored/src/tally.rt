@@ -3,6 +3,7 @@ use crate::kind;
 use crate::numbers;
 use std::num::wrapping_add_u64;
 
+// One more line of a kind.
 fn add(tallies: &mut [u64; 12], kind: usize) {
     if kind < 12 {
         tallies[kind] = wrapping_add_u64(tallies[kind], 1);
@@ -24,6 +25,7 @@ fn same(kind: usize, came: &[u64; 13], line: &[u64; 13]) -> bool {
     true
 }
 
+// The six numbers of an answer.
 fn say_answer(line: &[u64; 13]) {
     let mut place = numbers::ANSWER;
     while place < numbers::END {
@@ -80,6 +82,7 @@ pub fn compare(
     }
 }
 
+// What is counted under a kind.
 fn say_kind(kind: u64) {
     let names = b"make 
 , lent anew 

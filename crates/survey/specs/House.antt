@@ -1,7 +1,7 @@
 -- The house rule for live edits of a valid entry (document 01, "Putting down a map", Modify). Assumes nothing.
 use mathlib.Core.Path.{_≡_, refl}
 use mathlib.Core.Bool.{Bool}
-use Prim.Native.Nat.{ℕ, _+_, _-_, _^_}
+use Prim.Native.Nat.{ℕ, _-_}
 use lib.Bits.{bitXor}
 use Rattle.entry.specs.Word.{only}
 use Rattle.pool.specs.declared.Handle.{Handle}
@@ -9,10 +9,6 @@ use Rattle.pool.specs.declared.Handle.{Handle}
 -- "only bits 0 (clearing), 7, 10, 11, 51, 53, 54 and 55 to 58 may change"; setting bit 0 is refused 4
 unfoldable pub houseRule : Handle → ℕ
 houseRule h = 0x07E8_0000_0000_0C81
-
-pub house-bits : (h : Handle) → houseRule h ≡ 1 + 2 ^ 7 + 2 ^ 10 + 2 ^ 11 + 2 ^ 51 + 2 ^ 53 + 2 ^ 54 + (2 ^ 59 - 2 ^ 55)
-unfolding houseRule
-house-bits h = refl
 
 -- a valid entry may change from one word to the other while its table is in use
 unfoldable pub mayChange : Handle → ℕ → ℕ → Bool

@@ -129,6 +129,7 @@ fn count_words(words: &[u64]) -> u64 {
     count
 }
 
+// How many words of the pool are not zero.
 pub fn say_words_not_zero(words: &[u64]) {
     let count = count_words(words);
     report::say_row(b"  words not zero: $\n", 0, &[count, 0, 0, 0]);
@@ -192,6 +193,7 @@ pub fn enter(ledger: &mut [u32], table: u64, number: u64) {
     say_entered(table, entered);
 }
 
+// A line of the list that a live modify fills.
 fn say_number(number: u64) {
     report::say_row(b"  page number #\n", 0, &[number, 0, 0, 0]);
 }

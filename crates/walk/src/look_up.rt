@@ -11,7 +11,6 @@ ghost use mathlib.Core.Path.{_≡_};
 ghost use Prim.Native.Nat.{_*_, _≤_};
 ghost use lib.ListN.{length};
 ghost use Rattle.pool.specs.State.{st};
-ghost use Rattle.pool.specs.Refuse.{Shaped};
 ghost use Rattle.walk.specs.Arm.{frameOf, flagsIn, at, says, walk};
 ghost use Rattle.walk.specs.Walk.{slotsOf};
 ghost use Rattle.walk.specs.LookUp.{answer, spanned, lookUpCall};

@@ -1,3 +1,4 @@
+-- `has_frames`: each way through the code by its law. Assumes nothing.
 use native.Mathlib.Omega.{arith}
 use Rattle.ask.specs.Ask.{fit-part, fit-past, fit-rest}
 use Rattle.ask.proofs.has_frames.Statement.{statement}

@@ -1,4 +1,5 @@
-use mathlib.Core.Path.{_≡_, sym, _∙_}
+-- `verify_frame`: each way through the code by its law. Assumes nothing.
+use mathlib.Core.Path.{sym, _∙_}
 use borrow.Author.Tests.{not-true, not-false}
 use Rattle.ask.specs.Ask.{frame-not, frame-may}
 use Rattle.ask.proofs.verify_frame.Statement.{statement}

@@ -1,3 +1,4 @@
+-- `is_sound`: each way through the code by its law. Assumes nothing.
 use mathlib.Core.Path.{sym}
 use Rattle.pool.specs.State.{st}
 use Rattle.checker.specs.Check.{count-unsound, count-sound}

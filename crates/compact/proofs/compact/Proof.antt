@@ -1,3 +1,4 @@
+-- `compact`: each way through the code by its law. Assumes nothing.
 use mathlib.Core.Path.{_≡_, sym, _∙_}
 use mathlib.Core.Bool.{true}
 use native.Mathlib.Omega.{arith}

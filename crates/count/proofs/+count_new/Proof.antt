@@ -1,18 +1,18 @@
-use mathlib.Core.Path.{_≡_, refl, sym, ap, subst⁻¹, _∙_}
+-- `count_new`: each way through the code by its law. Assumes nothing.
+use mathlib.Core.Path.{_≡_, sym, ap, subst⁻¹, _∙_}
 use Prim.Native.Nat.{_+_, _*_, _-_, _%_, _^_, _≤_}
 use native.Mathlib.Omega.{arith}
-use lib.ListN.{length}
 use Rattle.entry.proofs.Tags.{is-outside}
 use Rattle.entry.specs.Sub.{sub-below}
-use Rattle.region.specs.Region.{region, entryLast, chunkEnd, entryIndex}
+use Rattle.region.specs.Region.{region, entryLast, entryIndex}
 use Rattle.region.specs.Chunks.{chunk-fits}
-use Rattle.pool.specs.State.{St, st}
+use Rattle.pool.specs.State.{st}
 use Rattle.rules.specs.declared.Map.{Map}
 use Rattle.rules.specs.Rules.{ruleOf, chunkMap}
 use Rattle.rules.specs.Fit.{Fit}
 use Rattle.rules.specs.Fit.{chunk-paged, chunk-fit, rest-paged}
 use Rattle.need.specs.Needed.{sumChunks, sum-none, sum-first}
-use Rattle.need.specs.Closed.{closed, closedLeaf}
+use Rattle.need.specs.Closed.{closed}
 use Rattle.count.specs.Laws.{countAt, closed-done, closed-open, count-fit, entry-outside, entry-leaf, entry-none, entry-table}
 use Rattle.ends.proofs.Tags.{no-down}
 use Prim.Native.Nat.{ℕ, _<_}

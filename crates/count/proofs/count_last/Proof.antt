@@ -1,10 +1,10 @@
+-- `count_last`: each way through the code by its law. Assumes nothing.
 use mathlib.Core.Path.{_≡_, sym, ap, subst⁻¹, _∙_}
 use Prim.Native.Nat.{ℕ, _+_, _*_, _-_, _%_, _^_, _≤_, _<_}
 use native.Mathlib.Omega.{arith}
-use lib.ListN.{length}
-use Rattle.region.specs.Region.{region, chunkEnd, entryIndex}
+use Rattle.region.specs.Region.{region, entryIndex}
 use Rattle.region.specs.Chunks.{chunk-fits}
-use Rattle.pool.specs.State.{St, st}
+use Rattle.pool.specs.State.{st}
 use Rattle.rules.specs.declared.Map.{Map}
 use Rattle.rules.specs.Rules.{chunkMap}
 use Rattle.rules.specs.Fit.{Fit, chunk-paged, chunk-fit, rest-paged}

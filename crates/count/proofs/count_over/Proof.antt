@@ -1,9 +1,10 @@
-use mathlib.Core.Path.{sym, ap, _∙_}
-use Prim.Native.Nat.{ℕ, _-_}
+-- `count_over`: each way through the code by its law. Assumes nothing.
+use mathlib.Core.Path.{_∙_}
+use Prim.Native.Nat.{_-_}
 use native.Mathlib.Omega.{arith}
 use Rattle.pool.specs.State.{st}
-use Rattle.need.specs.Closed.{closed, closed-met}
-use Rattle.count.specs.Laws.{over, over-none, over-some}
+use Rattle.need.specs.Closed.{closed-met}
+use Rattle.count.specs.Laws.{over-none, over-some}
 use Rattle.count.proofs.count_over.Statement.{statement}
 use Rattle.count.proofs.count_over.Tie as tie
 use Rattle.count.proofs.count_over.Reads as reads

@@ -1,3 +1,4 @@
+-- `chunk_edit`: each way through the code by its law. Assumes nothing.
 use mathlib.Core.Path.{refl}
 use Rattle.edit.proofs.chunk_edit.Statement.{statement}
 use Rattle.edit.proofs.chunk_edit.Tie as tie

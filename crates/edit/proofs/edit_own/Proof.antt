@@ -1,11 +1,12 @@
+-- `edit_own`: each way through the code by its law. Assumes nothing.
 use mathlib.Core.Path.{_≡_, refl, sym, ap, _∙_}
-use Prim.Native.Nat.{ℕ, _+_, _*_, _-_, _/_, _%_, _^_, _≤_, _<_}
+use Prim.Native.Nat.{ℕ, _+_, _*_, _-_, _≤_, _<_}
 use native.Mathlib.Omega.{arith}
 use lib.ListN.{length, length-set}
-use Rattle.region.specs.Region.{region, chunkEnd, entryIndex}
+use Rattle.region.specs.Region.{region, entryIndex}
 use Rattle.region.specs.Chunks.{chunk-fits}
 use Rattle.edit.specs.Each.{eachChunk, each-done, each-step}
-use Rattle.edit.specs.Own.{Noted, noted, ownChunk, ownRange, own-same, own-changed, own-all}
+use Rattle.edit.specs.Own.{noted, ownChunk, own-same, own-changed, own-all}
 use Rattle.edit.proofs.edit_own.Statement.{statement}
 use Rattle.edit.proofs.edit_own.Tie as tie
 use Rattle.edit.proofs.edit_own.Reads as reads

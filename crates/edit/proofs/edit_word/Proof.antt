@@ -1,3 +1,4 @@
+-- `edit_word`: each way through the code by its law. Assumes nothing.
 use Rattle.edit.specs.Word.{edit-table, edit-block, edit-page, edit-hole}
 use Rattle.edit.proofs.edit_word.Statement.{statement}
 use Rattle.edit.proofs.edit_word.Tie as tie

@@ -1,3 +1,4 @@
+-- `is_own`: each way through the code by its law. Assumes nothing.
 use mathlib.Core.Path.{_∙_}
 use Rattle.edit.specs.Range.{own-table, own-leaf}
 use Rattle.edit.proofs.is_own.Statement.{statement}

@@ -1,3 +1,4 @@
+-- `put_number`: each way through the code by its law. Assumes nothing.
 use native.Mathlib.Omega.{arith}
 use borrow.Author.Tests.{not-true, not-false}
 use Rattle.edit.specs.Own.{number-off, number-full, number-put}

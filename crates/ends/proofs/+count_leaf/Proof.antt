@@ -1,13 +1,14 @@
-use mathlib.Core.Path.{_≡_, refl, sym, ap, ap₂, subst⁻¹, _∙_}
+-- `count_leaf`: each way through the code by its law. Assumes nothing.
+use mathlib.Core.Path.{_≡_, ap, ap₂, subst⁻¹, _∙_}
 use Prim.Native.Nat.{_+_, _*_, _-_, _≤_, _^_}
 use native.Mathlib.Omega.{arith}
-use Rattle.region.specs.Region.{region, chunkEnd}
+use Rattle.region.specs.Region.{region}
 use Rattle.region.specs.Chunks.{chunk-fits}
 use Rattle.rules.specs.declared.Map.{Map}
 use Rattle.rules.specs.Rules.{chunkMap}
 use Rattle.rules.specs.Fit.{Fit}
 use Rattle.rules.specs.Laws.{down-high}
-use Rattle.need.specs.Needed.{childWord, firstChunk, afterFirst}
+use Rattle.need.specs.Needed.{childWord, firstChunk}
 use Rattle.need.specs.Closed.{rests, closedLeaf}
 use Rattle.ends.specs.Laws.{leaf-none, leaf-low, leaf-down, leaf-fit, rests-fit, first-fit, length-fits}
 use Rattle.ends.proofs.Tags.{no-down}

@@ -1,5 +1,6 @@
-use mathlib.Core.Path.{_≡_, sym, ap, _∙_}
-use Prim.Native.Nat.{ℕ, _+_, _-_, _≤_}
+-- `count_rest`: each way through the code by its law. Assumes nothing.
+use mathlib.Core.Path.{_≡_}
+use Prim.Native.Nat.{_+_, _-_}
 use native.Mathlib.Omega.{arith}
 use Rattle.need.specs.Closed.{rests}
 use Rattle.ends.specs.Laws.{rests-done, rests-open, rests-fit}

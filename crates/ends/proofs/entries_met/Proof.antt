@@ -1,7 +1,7 @@
-use mathlib.Core.Path.{_≡_, sym, _∙_}
-use Prim.Native.Nat.{ℕ, _-_, _/_}
+-- `entries_met`: each way through the code by its law. Assumes nothing.
+use mathlib.Core.Path.{sym}
+use Prim.Native.Nat.{_-_}
 use native.Mathlib.Omega.{arith}
-use Rattle.laws.specs.Size.{sizeAt}
 use Rattle.region.specs.Chunks.{met-none, met-most, met-some}
 use Rattle.ends.specs.Laws.{met-order}
 use Rattle.ends.proofs.entries_met.Statement.{statement}

@@ -1,10 +1,11 @@
+-- `is_missed`: each way through the code by its law. Assumes nothing.
 use mathlib.Core.Path.{_≡_, sym, ap, _∙_}
 use Prim.Native.Nat.{ℕ, _+_, _-_, _%_}
 use native.Mathlib.Omega.{arith}
 use lib.Bits.{bitAnd}
 use lib.Dec.{eqb, ltb}
 use Rattle.laws.specs.Size.{sizeAt, size-pos, size-mod}
-use Rattle.entry.specs.Word.{addressOf, mask-address}
+use Rattle.entry.specs.Word.{mask-address}
 use Rattle.need.specs.Missed.{test-start, test-address, test-hole, test-table, test-block}
 use Rattle.ends.proofs.is_missed.Statement.{statement}
 use Rattle.ends.proofs.is_missed.Tie as tie

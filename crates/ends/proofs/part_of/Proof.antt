@@ -1,11 +1,12 @@
-use mathlib.Core.Path.{_≡_, sym, ap, ap₂, _∙_}
+-- `part_of`: each way through the code by its law. Assumes nothing.
+use mathlib.Core.Path.{_≡_, sym, ap₂, _∙_}
 use Prim.Native.Nat.{ℕ, _+_, _*_, _-_, _^_}
 use native.Mathlib.Omega.{arith}
 use lib.Bits.{bitAnd}
 use Rattle.laws.specs.Size.{sizeAt, size-pos, size-down, down}
-use Rattle.entry.specs.Word.{addressOf, flagsOf, address-below, mask-address}
+use Rattle.entry.specs.Word.{addressOf, address-below, mask-address}
 use Rattle.region.specs.Region.{entryIndex}
-use Rattle.need.specs.Needed.{childWord, slot-below, child-hole, child-block}
+use Rattle.need.specs.Needed.{slot-below, child-hole, child-block}
 use Rattle.ends.specs.Laws.{PartFits, part-fits}
 use Rattle.ends.proofs.part_of.Statement.{statement}
 use Rattle.ends.proofs.part_of.Tie as tie

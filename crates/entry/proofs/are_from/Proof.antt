@@ -1,3 +1,4 @@
+-- `are_from`: each way through the code by its law. Assumes nothing.
 use mathlib.Core.Path.{refl}
 use Rattle.entry.specs.Word.{only}
 use Rattle.entry.proofs.are_from.Statement.{statement}

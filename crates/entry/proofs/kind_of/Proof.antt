@@ -1,6 +1,7 @@
-use mathlib.Core.Path.{_≡_, refl, sym}
+-- `kind_of`: each way through the code by its law. Assumes nothing.
+use mathlib.Core.Path.{_≡_, sym}
 use mathlib.Core.Logic.{_⊎_, inl, inr, _≢_}
-use Prim.Native.Nat.{ℕ, _%_, _≤_, _<_}
+use Prim.Native.Nat.{ℕ, _%_, _<_}
 use native.Mathlib.Omega.{arith}
 use Rattle.laws.specs.Test.{eq-or}
 use Rattle.entry.specs.declared.Kind.the-variants.{Hole}

@@ -1,5 +1,5 @@
 -- `next_table` gives a table below only where the map does the same there. Assumes nothing.
-use mathlib.Core.Path.{_≡_, sym, _∙_}
+use mathlib.Core.Path.{sym, _∙_}
 use native.Mathlib.Omega.{arith}
 use Rattle.entry.specs.Sub.{sub-below}
 use Rattle.region.specs.Region.{entryIndex}

@@ -1,3 +1,4 @@
+-- `count_pages`: each way through the code by its law. Assumes nothing.
 use mathlib.Core.Path.{sym}
 use native.Mathlib.Omega.{arith}
 use borrow.Author.Tests.{lt-ltb}

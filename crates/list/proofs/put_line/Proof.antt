@@ -1,3 +1,4 @@
+-- `put_line`: each way through the code by its law. Assumes nothing.
 use native.Mathlib.Omega.{arith}
 use lib.ListN.{length-set}
 use Rattle.list.specs.Lines.{numbers, put-four}

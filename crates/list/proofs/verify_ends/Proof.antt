@@ -1,5 +1,5 @@
-use mathlib.Core.Path.{_≡_, sym, _∙_}
-use native.Mathlib.Omega.{arith}
+-- `verify_ends`: each way through the code by its law. Assumes nothing.
+use mathlib.Core.Path.{sym, _∙_}
 use borrow.Author.Tests.{not-true, not-false}
 use Rattle.list.specs.Listing.{ends-past, ends-fit}
 use Rattle.list.proofs.verify_ends.Statement.{statement}

@@ -1,4 +1,5 @@
-use mathlib.Core.Path.{_≡_, sym, _∙_}
+-- `are_settable`: each way through the code by its law. Assumes nothing.
+use mathlib.Core.Path.{sym, _∙_}
 use borrow.Author.Tests.{not-true, not-false}
 use Rattle.permit.specs.Permit.{set-outside, set-valid, set-apart}
 use Rattle.permit.proofs.are_settable.Statement.{statement}

@@ -1,3 +1,4 @@
+-- `verify_survey`: each way through the code by its law. Assumes nothing.
 use native.Mathlib.Omega.{arith}
 use borrow.Author.Tests.{not-true, not-false}
 use Rattle.permit.specs.Permit.{survey-full, survey-off, survey-broken, survey-short, survey-accepted}

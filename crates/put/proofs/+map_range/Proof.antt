@@ -1,11 +1,12 @@
+-- `map_range`: each way through the code by its law. Assumes nothing.
 use mathlib.Core.Path.{_≡_, refl, sym, ap, _∙_, subst⁻¹}
 use mathlib.Core.Bool.{false}
-use Prim.Native.Nat.{_+_, _*_, _-_, _%_, _^_, _≤_}
+use Prim.Native.Nat.{_+_, _-_, _%_, _^_, _≤_}
 use native.Mathlib.Omega.{arith}
 use lib.ListN.{length}
-use Rattle.region.specs.Region.{region, chunkEnd, entryIndex}
+use Rattle.region.specs.Region.{region, entryIndex}
 use Rattle.region.specs.Chunks.{chunk-fits}
-use Rattle.pool.specs.State.{St, st, tables, wordAt}
+use Rattle.pool.specs.State.{St, st}
 use Rattle.pool.specs.Refuse.{Shaped, shaped-keep}
 use Rattle.rules.specs.declared.Map.{Map}
 use Rattle.rules.specs.Rules.{chunkMap}

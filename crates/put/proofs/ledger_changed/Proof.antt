@@ -1,3 +1,4 @@
+-- `ledger_changed`: each way through the code by its law. Assumes nothing.
 use mathlib.Core.Bool.{true≢false}
 use borrow.Author.Needs.{needs}
 use Rattle.put.proofs.ledger_changed.Statement.{statement}

@@ -1,8 +1,9 @@
+-- `put_entry`: each way through the code by its law. Assumes nothing.
 use mathlib.Core.Path.{refl, _∙_}
 use mathlib.Core.Bool.{true≢false}
 use native.Mathlib.Omega.{arith}
 use lib.ListN.{length-set}
-use Rattle.pool.specs.State.{St, st}
+use Rattle.pool.specs.State.{st}
 use Rattle.put.specs.Laws.{put-write, put-keep, put-drop}
 use Rattle.put.proofs.put_entry.Statement.{statement}
 use Rattle.put.proofs.put_entry.Tie as tie

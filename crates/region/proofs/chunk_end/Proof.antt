@@ -1,3 +1,4 @@
+-- `chunk_end`: each way through the code by its law. Assumes nothing.
 use native.Mathlib.Omega.{arith}
 use Rattle.region.specs.Region.{chunkEnd}
 use borrow.Author.Needs.{needs}

@@ -1,3 +1,4 @@
+-- `leaf_word`: each way through the code by its law. Assumes nothing.
 use native.Mathlib.Omega.{arith}
 use Rattle.rules.specs.Fit.{word-fits, leaf-hole, leaf-page, leaf-block}
 use Rattle.rules.proofs.leaf_word.Statement.{statement}

@@ -1,4 +1,4 @@
-use borrow.Author.Tests.{not-true, not-false}
+-- `add_breach`: each way through the code by its law. Assumes nothing.
 use Rattle.survey.specs.Find.{breach-kept, breach-first}
 use Rattle.survey.proofs.add_breach.Statement.{statement}
 use Rattle.survey.proofs.add_breach.Tie as tie

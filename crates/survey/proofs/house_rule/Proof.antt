@@ -1,3 +1,4 @@
+-- `house_rule`: each way through the code by its law. Assumes nothing.
 use Rattle.survey.specs.House.{house-is}
 use Rattle.survey.proofs.house_rule.Statement.{statement}
 use Rattle.survey.proofs.house_rule.Tie as tie

@@ -1,3 +1,4 @@
+-- `may_change`: each way through the code by its law. Assumes nothing.
 use mathlib.Core.Path.{_∙_}
 use Rattle.survey.specs.House.{change-is}
 use Rattle.survey.proofs.may_change.Statement.{statement}

@@ -1,4 +1,5 @@
-use mathlib.Core.Path.{_≡_, sym, _∙_}
+-- `survey_entry`: each way through the code by its law. Assumes nothing.
+use mathlib.Core.Path.{sym, _∙_}
 use Rattle.survey.specs.Find.{entry-whole, entry-part}
 use Rattle.survey.proofs.survey_entry.Statement.{statement}
 use Rattle.survey.proofs.survey_entry.Tie as tie

@@ -1,3 +1,4 @@
+-- `survey_whole`: each way through the code by its law. Assumes nothing.
 use mathlib.Core.Path.{sym, _∙_}
 use native.Mathlib.Omega.{arith}
 use Rattle.survey.specs.Find.{whole-same, whole-allowed, whole-breach}

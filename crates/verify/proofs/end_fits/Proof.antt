@@ -1,3 +1,4 @@
+-- `end_fits`: each way through the code by its law. Assumes nothing.
 use Rattle.verify.proofs.end_fits.Statement.{statement}
 use Rattle.verify.proofs.end_fits.Tie as tie
 use Rattle.verify.proofs.end_fits.Reads as reads

@@ -1,3 +1,4 @@
+-- `verify_region`: each way through the code by its law. Assumes nothing.
 use mathlib.Core.Path.{_∙_}
 use native.Mathlib.Omega.{arith}
 use Rattle.verify.specs.Verify.{verify-backwards, verify-forwards}

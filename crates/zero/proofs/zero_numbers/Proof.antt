@@ -1,3 +1,4 @@
+-- `zero_numbers`: each way through the code by its law. Assumes nothing.
 use Prim.Native.Nat.{_-_}
 use native.Mathlib.Omega.{arith}
 use lib.ListN.{length}

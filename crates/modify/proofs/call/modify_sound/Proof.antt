@@ -1,3 +1,4 @@
+-- `modify_sound`: each way through the code by its law. Assumes nothing.
 use Rattle.pool.specs.Refuse.{maxTables}
 use mathlib.Core.Path.{_≡_, sym, _∙_}
 use mathlib.Core.Bool.{true}
@@ -6,7 +7,7 @@ use native.Mathlib.Omega.{arith}
 use lib.ListN.{length}
 use borrow.Author.Tests.{not-true, not-false}
 use Rattle.pool.specs.State.{st}
-use Rattle.pool.specs.Number.{used, free, used-free}
+use Rattle.pool.specs.Number.{free, used-free}
 use Rattle.pool.specs.Sound.{soundb}
 use Rattle.modify.specs.Call.{sound-not, sound-refused, sound-edited}
 use Rattle.modify.proofs.call.modify_sound.Statement.{statement}

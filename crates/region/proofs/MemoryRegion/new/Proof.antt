@@ -1,4 +1,4 @@
-use native.Mathlib.Omega.{arith}
+-- `new`: each way through the code by its law. Assumes nothing.
 use mathlib.Core.Path.{ap₂}
 use Rattle.region.specs.Region.{region, rounded}
 use borrow.Author.Needs.{needs}

@@ -1,3 +1,4 @@
+-- `is_spanned`: each way through the code by its law. Assumes nothing.
 use native.Mathlib.Omega.{arith}
 use Rattle.laws.specs.Size.{size-high}
 use Rattle.walk.specs.LookUp.{span-lower, span-upper}

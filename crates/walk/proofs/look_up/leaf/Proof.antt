@@ -1,3 +1,4 @@
+-- `leaf`: each way through the code by its law. Assumes nothing.
 use Rattle.walk.proofs.Tags.{both-set}
 use mathlib.Core.Path.{sym, _∙_}
 use Rattle.walk.specs.LookUp.{leaf-hole, leaf-block, leaf-page}

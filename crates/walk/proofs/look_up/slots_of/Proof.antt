@@ -1,3 +1,4 @@
+-- `slots_of`: each way through the code by its law. Assumes nothing.
 use mathlib.Core.Path.{refl}
 use Rattle.walk.specs.Arm.{bits, lowBit, index}
 use Rattle.walk.specs.Walk.{slotsOf}

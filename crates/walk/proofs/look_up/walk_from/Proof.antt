@@ -1,3 +1,4 @@
+-- `walk_from`: each way through the code by its law. Assumes nothing.
 use Rattle.walk.proofs.Tags.{is-leaf}
 use Rattle.walk.specs.LookUp.{answer}
 use borrow.Author.Needs.{needs}

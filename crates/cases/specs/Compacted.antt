@@ -11,8 +11,8 @@ use Rattle.pool.specs.Refuse.{maxTables, shaped, out}
 use Rattle.pool.specs.Sound.{flagSet, fits, leafb, namesb, hangsb, tableb, linkb, refersb, slotb, soundb}
 use Rattle.pool.specs.declared.Counted.the-variants.{Tables}
 use Rattle.table.specs.Table.{putTable, zeros, clear}
-use Rattle.compact.specs.Compact.{allZero, releaseEmpty, compactSub, compactEntry, compactTable}
-use Rattle.compact.specs.Call.{compacted, compactSound, compactCall}
+use Rattle.emptied.specs.Compact.{allZero, releaseEmpty, compactSub, compactEntry, compactTable}
+use Rattle.emptied.specs.Call.{compacted, compactSound, compactCall}
 use Rattle.rows.specs.Bench.{handle, fresh, word, table, poolG}
 
 -- both empty tables are freed, the lower one first, and the pool is as it was made

@@ -10,8 +10,8 @@ ghost use Prim.Native.Nat.{_*_, _-_, _≤_, _<_};
 ghost use lib.ListN.{length};
 ghost use Rattle.pool.specs.State.{st};
 ghost use Rattle.pool.specs.Refuse.{out};
-ghost use Rattle.compact.specs.Compact.{allZero, releaseEmpty, compactTable};
-ghost use Rattle.compact.specs.Call.{compactCall};
+ghost use Rattle.emptied.specs.Compact.{allZero, releaseEmpty, compactTable};
+ghost use Rattle.emptied.specs.Call.{compactCall};
 
 // Whether a table's words are all zero.
 pub fn is_empty(table: &[u64]) -> bool

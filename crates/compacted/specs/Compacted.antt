@@ -27,7 +27,7 @@ use Rattle.walk.specs.Walk.{slot-below}
 use Rattle.walked.specs.AsBefore.{walkOf, hole, shown}
 use Rattle.walked.specs.Any.{slotsOf, met}
 use Rattle.walked.specs.Walked.{walk-of-tree}
-use Rattle.compact.specs.Call.{compacted, compactCall, call-compacted}
+use Rattle.emptied.specs.Call.{compacted, compactCall, call-compacted}
 use Rattle.compacted.specs.Empty.{not-all-zero}
 use Rattle.compacted.specs.Run.{Ready, Worked, pool-again, shaped-again, table-worked}
 use Rattle.compacted.specs.Tight.{NoneEmpty, tight-none, table-same}

@@ -13,7 +13,7 @@ use Rattle.pool.specs.State.{St, wordAt}
 use Rattle.forest.specs.Compact.{emptyWords}
 use Rattle.sound.specs.Codec.{slotWord, word-in}
 use Rattle.sound.specs.Lists.{Inside}
-use Rattle.compact.specs.Compact.{allZero, tableWords}
+use Rattle.emptied.specs.Compact.{allZero, tableWords}
 
 -- ---- a list of zeros, word by word
 

@@ -25,7 +25,7 @@ use Rattle.sound.specs.Lists.{Inside, clear-tables, clear-words}
 use Rattle.sound.specs.Step.{used-inside}
 use Rattle.sound.specs.Store.{cleared}
 use Rattle.sound.specs.FreeRun.{SameSize, size-trans}
-use Rattle.compact.specs.Compact.{allZero, tableWords, releaseEmpty, compactEntry, compactTable, release-kept, release-freed, entry-table, entry-leaf}
+use Rattle.emptied.specs.Compact.{allZero, tableWords, releaseEmpty, compactEntry, compactTable, release-kept, release-freed, entry-table, entry-leaf}
 use Rattle.compacted.specs.Empty.{empty-is}
 
 -- where a run stands: at table k of a sound pool, with `left` levels below its own

@@ -20,7 +20,7 @@ use Rattle.sound.specs.Clauses.{InUse, SoundPool}
 use Rattle.sound.specs.Generic.{pool-sound}
 use Rattle.sound.specs.Hanging.{root-left, root-under}
 use Rattle.sound.specs.Step.{used-inside}
-use Rattle.compact.specs.Compact.{allZero, tableWords, releaseEmpty, compactEntry, compactTable, release-kept}
+use Rattle.emptied.specs.Compact.{allZero, tableWords, releaseEmpty, compactEntry, compactTable, release-kept}
 use Rattle.compacted.specs.Empty.{empty-is}
 use Rattle.compacted.specs.Run.{Ready, entry-none, entry-some}
 

@@ -16,7 +16,7 @@ use Rattle.pool.specs.declared.Counted.the-variants as counted
 use Rattle.sound.specs.Clauses.{InUse}
 use Rattle.sound.specs.Hanging.{Follows, OneSlot, Leads, reach, one-path, refer-once, root-unreferred, free-unreferred}
 use Rattle.checker.specs.Check.{checkCall}
-use Rattle.compact.specs.Call.{compactCall}
+use Rattle.emptied.specs.Call.{compactCall}
 use Rattle.walk.specs.LookUp.{lookUpCall}
 use Rattle.walk.specs.declared.Looked.the-variants as looked
 use Rattle.walked.specs.AsBefore.{walkOf, mapped, shown}

@@ -16,7 +16,7 @@ use Rattle.sound.specs.Clauses.{InUse, SoundPool}
 use Rattle.sound.specs.Made.{made-sound}
 use Rattle.walk.specs.LookUp.{answer, spanned, lookUpCall, look-walks}
 use Rattle.walked.specs.AsBefore.{walkOf, mapped, hole, shown}
-use Rattle.compact.specs.Call.{compacted, compactCall}
+use Rattle.emptied.specs.Call.{compacted, compactCall}
 use Rattle.compacted.specs.Compacted.{compact-answers, compact-keeps-sound, compact-walks-as-before, compact-leaves-no-empty-table, compact-again-answers}
 use Rattle.compacted.specs.Compacted.{compact-never-more-tables}
 use Rattle.mapped.specs.Terms.{Lawful, InSpan}

@@ -10,7 +10,7 @@ use Rattle.entry.specs.Sub.{sub-found}
 use Rattle.entry.proofs.Tags.{no-table}
 use Rattle.pool.specs.State.{St, st}
 use Rattle.pool.specs.declared.Handle.{Handle}
-use Rattle.compact.specs.Compact.{releaseEmpty, compactEntry, compactTable, entry-table, entry-outside, entry-leaf, compact-down, compact-last}
+use Rattle.emptied.specs.Compact.{releaseEmpty, compactEntry, compactTable, entry-table, entry-outside, entry-leaf, compact-down, compact-last}
 use borrow.Fn.Kinds.{In}
 use borrow.Fn.PlainCycle.{Measures, is, falls, and}
 use Rattle.compact.proofs.compact_subtables.Reads as reads

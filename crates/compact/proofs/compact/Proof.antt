@@ -6,7 +6,7 @@ use borrow.Author.Tests.{not-true, not-false}
 use Rattle.pool.specs.State.{st}
 use Rattle.pool.specs.Refuse.{maxTables, shaped, Shaped, shaped-says}
 use Rattle.pool.specs.Sound.{soundb}
-use Rattle.compact.specs.Call.{call-misshaped, call-unsound, call-compacted}
+use Rattle.emptied.specs.Call.{call-misshaped, call-unsound, call-compacted}
 use Rattle.compact.proofs.compact.Statement.{statement}
 use Rattle.compact.proofs.compact.Tie as tie
 use Rattle.compact.proofs.compact.Reads as reads

@@ -3,7 +3,7 @@ use mathlib.Core.Path.{_≡_, refl, sym, _∙_}
 use Prim.Native.Nat.{_≤_, _-_}
 use native.Mathlib.Omega.{arith}
 use lib.ListN.{length, drop}
-use Rattle.compact.specs.Compact.{allZero, zero-none, zero-some, zero-more}
+use Rattle.emptied.specs.Compact.{allZero, zero-none, zero-some, zero-more}
 use Rattle.compact.proofs.is_empty.Statement.{statement}
 use Rattle.compact.proofs.is_empty.Tie as tie
 use Rattle.compact.proofs.is_empty.Reads as reads

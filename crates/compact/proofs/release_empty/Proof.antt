@@ -6,7 +6,7 @@ use lib.ListN.{length-set}
 use borrow.Author.Tests.{not-true, not-false}
 use Rattle.laws.specs.Part.{partOf}
 use Rattle.pool.specs.State.{st}
-use Rattle.compact.specs.Compact.{allZero, tableWords, release-kept, release-freed}
+use Rattle.emptied.specs.Compact.{allZero, tableWords, release-kept, release-freed}
 use Rattle.compact.proofs.release_empty.Statement.{statement}
 use Rattle.compact.proofs.release_empty.Tie as tie
 use Rattle.compact.proofs.release_empty.Reads as reads

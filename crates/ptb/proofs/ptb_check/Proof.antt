@@ -1,6 +1,6 @@
 -- `ptb_check`: the call told outside. Assumes nothing.
 use Rattle.pool.specs.State.{st}
-use Rattle.ptb.specs.Face.{check-told}
+use Rattle.face.specs.Face.{check-told}
 use Rattle.ptb.proofs.ptb_check.Statement.{statement}
 use Rattle.ptb.proofs.ptb_check.Tie as tie
 use Rattle.ptb.proofs.ptb_check.Reads as reads

@@ -1,7 +1,7 @@
 -- `ptb_compact`: the call told outside. Assumes nothing.
 use native.Mathlib.Omega.{arith}
 use Rattle.pool.specs.State.{st}
-use Rattle.ptb.specs.Face.{compact-told}
+use Rattle.face.specs.Face.{compact-told}
 use Rattle.ptb.proofs.ptb_compact.Statement.{statement}
 use Rattle.ptb.proofs.ptb_compact.Tie as tie
 use Rattle.ptb.proofs.ptb_compact.Reads as reads

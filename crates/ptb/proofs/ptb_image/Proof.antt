@@ -1,7 +1,7 @@
 -- `ptb_image`: the call told outside. Assumes nothing.
 use native.Mathlib.Omega.{arith}
 use Rattle.pool.specs.State.{st}
-use Rattle.ptb.specs.Face.{image-told}
+use Rattle.face.specs.Face.{image-told}
 use Rattle.ptb.proofs.ptb_image.Statement.{statement}
 use Rattle.ptb.proofs.ptb_image.Tie as tie
 use Rattle.ptb.proofs.ptb_image.Reads as reads

@@ -1,7 +1,7 @@
 -- `ptb_list`: the call told outside. Assumes nothing.
 use native.Mathlib.Omega.{arith}
 use Rattle.pool.specs.State.{st}
-use Rattle.ptb.specs.Face.{list-told}
+use Rattle.face.specs.Face.{list-told}
 use Rattle.ptb.proofs.ptb_list.Statement.{statement}
 use Rattle.ptb.proofs.ptb_list.Tie as tie
 use Rattle.ptb.proofs.ptb_list.Reads as reads

@@ -1,6 +1,6 @@
 -- `ptb_look_up`: the call told outside. Assumes nothing.
 use Rattle.pool.specs.State.{st}
-use Rattle.ptb.specs.Face.{look-up-told}
+use Rattle.face.specs.Face.{look-up-told}
 use Rattle.ptb.proofs.ptb_look_up.Statement.{statement}
 use Rattle.ptb.proofs.ptb_look_up.Tie as tie
 use Rattle.ptb.proofs.ptb_look_up.Reads as reads

@@ -1,7 +1,7 @@
 -- `ptb_make`: the call told outside. Assumes nothing.
 use native.Mathlib.Omega.{arith}
 use Rattle.pool.specs.State.{st}
-use Rattle.ptb.specs.Face.{make-told}
+use Rattle.face.specs.Face.{make-told}
 use Rattle.ptb.proofs.ptb_make.Statement.{statement}
 use Rattle.ptb.proofs.ptb_make.Tie as tie
 use Rattle.ptb.proofs.ptb_make.Reads as reads

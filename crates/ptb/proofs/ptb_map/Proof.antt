@@ -1,7 +1,7 @@
 -- `ptb_map`: the call told outside. Assumes nothing.
 use native.Mathlib.Omega.{arith}
 use Rattle.pool.specs.State.{st}
-use Rattle.ptb.specs.Face.{map-told}
+use Rattle.face.specs.Face.{map-told}
 use Rattle.ptb.proofs.ptb_map.Statement.{statement}
 use Rattle.ptb.proofs.ptb_map.Tie as tie
 use Rattle.ptb.proofs.ptb_map.Reads as reads

@@ -1,6 +1,6 @@
 -- `ptb_modify`: the call told outside. Assumes nothing.
 use Rattle.pool.specs.State.{st}
-use Rattle.ptb.specs.Face.{modify-told}
+use Rattle.face.specs.Face.{modify-told}
 use Rattle.ptb.proofs.ptb_modify.Statement.{statement}
 use Rattle.ptb.proofs.ptb_modify.Tie as tie
 use Rattle.ptb.proofs.ptb_modify.Reads as reads

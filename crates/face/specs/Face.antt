@@ -19,7 +19,7 @@ use Rattle.walk.specs.declared.Looked.{Looked}
 use Rattle.list.specs.Listing.{listCall, list-misshaped, Listing, listing}
 use Rattle.list.specs.declared.Listed.{Listed}
 use Rattle.map.specs.Call as map
-use Rattle.compact.specs.Call as compact
+use Rattle.emptied.specs.Call as compact
 use Rattle.modify.specs.Call as modify
 use Rattle.modify.specs.declared.Modified.{Modified}
 use Rattle.handle.specs.Handle.{handleOf, no-range}

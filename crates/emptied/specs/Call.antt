@@ -11,7 +11,7 @@ use Rattle.pool.specs.declared.Handle.{Handle}
 use Rattle.pool.specs.declared.Refusal.the-variants.{Shape, Unsound}
 use Rattle.pool.specs.declared.Counted.{Counted}
 use Rattle.pool.specs.declared.Counted.the-variants.{Tables, Refused}
-use Rattle.compact.specs.Compact.{compactTable}
+use Rattle.emptied.specs.Compact.{compactTable}
 
 -- from the root down
 unfoldable pub compacted : Handle → St → St

@@ -1,0 +1,1 @@
+// Theorems alone: what compact does, on lists, stands in specs/.

@@ -1,0 +1,2 @@
+-- The calls with numbers alone.
+pub mod Face

@@ -1,0 +1,1 @@
+// Theorems alone: what each call with numbers alone answers and leaves stands in specs/.

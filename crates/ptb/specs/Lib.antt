@@ -1,2 +1,0 @@
--- What a caller outside sees: each call's whole effect.
-pub mod Face

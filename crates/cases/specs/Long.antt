@@ -19,7 +19,7 @@ use Rattle.split.specs.Split.{splitEntry, belowOf, below, inFound, into}
 use Rattle.put.specs.Put.{dropEntry, byRule, mapChunk, eachOf, eachChunk, mapRange}
 use Rattle.need.specs.Needed.{ifDown, sumOf, sumChunks, childWord, neededLeaf, needBelow, needChunk, needTable, needed}
 use Rattle.ask.specs.Ask.{asked, frameAsked, first, verifyMap}
-use Rattle.map.specs.Call.{putDown, mapSound, orElse, mapCall}
+use Rattle.mapping.specs.Call.{putDown, mapSound, orElse, mapCall}
 use Rattle.rows.specs.Bench.{handle, fresh, word, table, Holds, poolB, poolF, poolH, EF, H}
 
 -- E, F: the whole GiB after B, without VALID and with A's map; H

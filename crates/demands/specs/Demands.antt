@@ -22,7 +22,7 @@ use Rattle.walk.specs.declared.Looked.the-variants as looked
 use Rattle.walked.specs.AsBefore.{walkOf, mapped, shown}
 use Rattle.list.specs.Listing.{listCall}
 use Rattle.list.specs.declared.Listed.the-variants as listed
-use Rattle.map.specs.Call.{mapCall}
+use Rattle.mapping.specs.Call.{mapCall}
 use Rattle.mapped.specs.Terms.{Call, Maps, Valid, InRegion, frameFor, Apart, InTurn, none, next, InSpan}
 use Rattle.mapped.specs.Call.{call-shaped}
 use Rattle.mapped.specs.Mapped.{map-keeps-sound, map-region-walks, map-elsewhere-as-before}

@@ -37,7 +37,7 @@ use Rattle.list.specs.declared.Listed.the-variants as listed
 use Rattle.need.specs.Needed.{needed}
 use Rattle.rules.specs.declared.Map.{Map}
 use Rattle.ask.specs.Ask.{asked, frameAsked, verifyMap, ask-end, ask-invalid, ask-set, ask-region, ask-frame}
-use Rattle.map.specs.Call.{putDown, mapSound, mapCall, sound-not, sound-full, sound-mapped, call-misshaped, call-refused, call-asked}
+use Rattle.mapping.specs.Call.{putDown, mapSound, mapCall, sound-not, sound-full, sound-mapped, call-misshaped, call-refused, call-asked}
 use Rattle.demands.specs.Slip.{Misshaped, BadEnd, HasBit1, OutsideSet, Backwards, BeyondRange, BeyondSpan, BadFrame, MakeSlip, CheckSlip, LookUpSlip, ImageSlip, ListSlip}
 use Rattle.demands.specs.Slip.{MapSlip}
 use Rattle.demands.specs.Told.{Lowest, Told, none-below, number-range, shape-lowest}

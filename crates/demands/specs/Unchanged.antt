@@ -29,7 +29,7 @@ use Rattle.rules.specs.declared.Map.{Map}
 use Rattle.modify.specs.declared.Modified.{Modified}
 use Rattle.modify.specs.Call.{Modifying, modifying}
 use Rattle.ask.specs.Ask.{asked, verifyMap}
-use Rattle.map.specs.Call.{putDown, mapSound, mapCall, sound-not, sound-full, sound-mapped, call-misshaped, call-refused, call-asked}
+use Rattle.mapping.specs.Call.{putDown, mapSound, mapCall, sound-not, sound-full, sound-mapped, call-misshaped, call-refused, call-asked}
 use Rattle.demands.specs.Decided.{accepted-not}
 
 -- ---- NO SECOND ANSWER: what meets a contract is what its definition gives, answer and all that was lent together

@@ -18,7 +18,7 @@ use Rattle.walk.specs.LookUp.{lookUpCall, look-misshaped}
 use Rattle.walk.specs.declared.Looked.{Looked}
 use Rattle.list.specs.Listing.{listCall, list-misshaped, Listing, listing}
 use Rattle.list.specs.declared.Listed.{Listed}
-use Rattle.map.specs.Call as map
+use Rattle.mapping.specs.Call as map
 use Rattle.emptied.specs.Call as compact
 use Rattle.modify.specs.Call as modify
 use Rattle.modify.specs.declared.Modified.{Modified}

@@ -17,7 +17,7 @@ ghost use Rattle.pool.specs.Number.{used};
 ghost use Rattle.pool.specs.Refuse.{Shaped, out};
 ghost use Rattle.pool.specs.declared.Counted.the-variants.{Tables};
 ghost use Rattle.rules.specs.Fit.{Fit};
-ghost use Rattle.map.specs.Call.{putDown, mapSound, mapCall};
+ghost use Rattle.mapping.specs.Call.{putDown, mapSound, mapCall};
 
 // The map, from the lowest table over its region, and the tables in use afterwards: counted again only where one was taken or freed.
 fn put_down(words: &mut [u64], ledger: &mut [u32], handle: Handle, map: Map, before: usize) -> usize

@@ -22,7 +22,7 @@ use Rattle.rules.specs.declared.Map.{Map}
 use Rattle.need.specs.Needed.{needed}
 use Rattle.put.specs.Put.{mapRange}
 use Rattle.ask.specs.Ask.{verifyMap}
-use Rattle.map.specs.Call.{refused, mapSound, sound-not, sound-full, sound-mapped, put-down, call-misshaped, call-refused, call-asked}
+use Rattle.mapping.specs.Call.{refused, mapSound, sound-not, sound-full, sound-mapped, put-down, call-misshaped, call-refused, call-asked}
 use Rattle.forest.specs.Tree.{Tree}
 use Rattle.sound.specs.Clauses.{SoundPool}
 use Rattle.sound.specs.Codec.{shaped-placed, rootTree}

@@ -17,7 +17,7 @@ use Rattle.pool.specs.declared.Counted.{Counted}
 use Rattle.pool.specs.declared.Counted.the-variants.{Tables}
 use Rattle.rules.specs.declared.Map.{Map}
 use Rattle.ask.specs.Ask.{asked, verifyMap}
-use Rattle.map.specs.Call.{mapCall}
+use Rattle.mapping.specs.Call.{mapCall}
 use Rattle.forest.specs.Tree.{Tree}
 use Rattle.sound.specs.Clauses.{SoundPool}
 use Rattle.sound.specs.Codec.{rootTree}

@@ -30,7 +30,7 @@ use Rattle.split.specs.Split.{splitEntry, belowOf, below, inFound, into}
 use Rattle.put.specs.Put.{dropEntry, byRule, mapChunk, eachOf, eachChunk, mapRange}
 use Rattle.need.specs.Needed.{ifDown, sumOf, sumChunks, childWord, neededLeaf, needBelow, needChunk, needTable, needed}
 use Rattle.ask.specs.Ask.{asked, frameAsked, first, verifyMap}
-use Rattle.map.specs.Call.{putDown, mapSound, orElse, mapCall}
+use Rattle.mapping.specs.Call.{putDown, mapSound, orElse, mapCall}
 
 unfoldable pub handle : ℕ → Handle
 handle level = record { base = record { 0 = 0x8000_0000 }; level = level; range = Lower }

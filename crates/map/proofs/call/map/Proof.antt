@@ -9,7 +9,7 @@ use Rattle.pool.specs.Refuse.{shaped, shaped-says}
 use Rattle.rules.specs.declared.Map.{Map}
 use Rattle.rules.specs.Fit.{Fit}
 use Rattle.ask.specs.Ask.{verifyMap, asked-is, asked-fit}
-use Rattle.map.specs.Call.{mapSound, call-misshaped, call-refused, call-asked}
+use Rattle.mapping.specs.Call.{mapSound, call-misshaped, call-refused, call-asked}
 use Rattle.map.proofs.call.map.Statement.{statement}
 use Rattle.map.proofs.call.map.Tie as tie
 use Rattle.map.proofs.call.map.Reads as reads

@@ -16,7 +16,7 @@ use Rattle.need.specs.Needed.{needed}
 use Rattle.need.specs.Closed.{closed}
 use Rattle.count.specs.Laws.{over-past, over-within}
 use Rattle.need.specs.SoundCount.{closed-needed}
-use Rattle.map.specs.Call.{sound-not, sound-full, sound-mapped}
+use Rattle.mapping.specs.Call.{sound-not, sound-full, sound-mapped}
 use Rattle.map.proofs.call.map_sound.Statement.{statement}
 use Rattle.map.proofs.call.map_sound.Tie as tie
 use Rattle.map.proofs.call.map_sound.Reads as reads

@@ -6,7 +6,7 @@ use native.Mathlib.Omega.{arith}
 use Rattle.pool.specs.State.{st}
 use Rattle.pool.specs.Number.{used}
 use Rattle.pool.specs.Refuse.{maxTables}
-use Rattle.map.specs.Call.{put-down}
+use Rattle.mapping.specs.Call.{put-down}
 use Rattle.map.proofs.call.put_down.Statement.{statement}
 use Rattle.map.proofs.call.put_down.Tie as tie
 use Rattle.map.proofs.call.put_down.Reads as reads

@@ -1,0 +1,1 @@
+// Theorems alone: the call map, on lists, stands in specs/.

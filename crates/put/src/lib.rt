@@ -25,7 +25,7 @@ fn drop_entry(words: &mut [u64], ledger: &mut [u32], handle: Handle, level: usiz
     let Sub::Table(j) = kind else {
         return;
     };
-    table::free(words, ledger, handle, j, level + 1);
+    prune::free(words, ledger, handle, j, level + 1);
 }
 
 // A rule that goes no lower, carried out on slot i of table k. Whether a table was taken or freed, now or before.

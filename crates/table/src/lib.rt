@@ -1,14 +1,13 @@
-// One table's words, lent as a part of the pool from its middle; a table taken, freed, and freed with all that hangs from it.
-use entry::Sub;
+// One table's words, lent as a part of the pool from its middle; a table taken, and a table freed.
 use pool::Found;
 use pool::Handle;
 use pool::ledger;
 ghost use mathlib.Core.Path.{_≡_};
-ghost use Prim.Native.Nat.{_+_, _*_, _-_, _≤_, _<_, _^_};
+ghost use Prim.Native.Nat.{_+_, _*_, _≤_, _<_, _^_};
 ghost use lib.ListN.{length};
 ghost use Rattle.pool.specs.State.{st};
 ghost use Rattle.pool.specs.Refuse.{Shaped};
-ghost use Rattle.table.specs.Table.{clear, rising, taken, takeTable, freeTree};
+ghost use Rattle.table.specs.Table.{clear, rising, taken, takeTable};
 
 // A table's words, from the first on, each one step above the one before.
 pub fn fill(table: &mut [u64], first: u64, step: u64)
@@ -60,26 +59,4 @@ pub fn take_table(
     ledger[j] = (4 + level + 8 * (512 * p + i + 1)) as u32;
     words[512 * p + i] = entry::link(handle.base, j);
     Found::At(j)
-}
-
-// Frees table k, at this level, and every table below it.
-pub fn free(words: &mut [u64], ledger: &mut [u32], handle: Handle, k: usize, level: usize)
-    requires { ⌜ (length (now words) ≡ 512 * length (now ledger)) × (k < length (now ledger)) × (level ≤ 3) ⌝ }
-    ensures { λ _. ⌜ st (now (words .exit)) (now (ledger .exit)) ≡ freeTree (3 - level) handle k (st (now (words .entry)) (now (ledger .entry))) ⌝ }
-{
-    if address::LEAF_LEVEL <= level {
-        clear_table(words, ledger, k);
-        return;
-    }
-    let mut i = 0;
-    while i < 512 {
-        let word = words[512 * k + i];
-        i += 1;
-        let kind = entry::subtable(handle.base, ledger.len(), level, word);
-        let Sub::Table(j) = kind else {
-            continue;
-        };
-        free(words, ledger, handle, j, level + 1);
-    }
-    clear_table(words, ledger, k);
 }

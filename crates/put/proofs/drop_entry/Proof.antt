@@ -12,7 +12,7 @@ use Rattle.put.proofs.drop_entry.Tie as tie
 use Rattle.put.proofs.drop_entry.Reads as reads
 use Rattle.put.proofs.drop_entry.Lts as lts
 use Rattle.entry.proofs.subtable.Reads as subtable-reads
-use Rattle.table.proofs.free.Reads as free-reads
+use Rattle.prune.proofs.free.Reads as free-reads
 
 subtable-requires : tie.Need-subtable-requires
 subtable-requires c κs = search needs

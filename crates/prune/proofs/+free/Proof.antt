@@ -10,17 +10,17 @@ use Rattle.laws.specs.Slot.{iter, iter-none, iter-step}
 use Rattle.entry.specs.Sub.{sub-found}
 use Rattle.pool.specs.State.{St, st}
 use Rattle.pool.specs.declared.Handle.{Handle}
 use Rattle.table.specs.Table.{clear, freeSlot, freeTree, slot-table, slot-outside, slot-leaf, free-down, free-last}
 use Prim.Native.Nat.{ℕ, _<_}
 use borrow.Fn.Kinds.{In}
 use borrow.Fn.PlainCycle.{Measures, is, falls, and}
-use Rattle.table.proofs.free.Reads as free
-use Rattle.table.proofs.free.Kinds as free-kinds
-use Rattle.table.proofs.+free.Lts-free as free-lts
+use Rattle.prune.proofs.free.Reads as free
+use Rattle.prune.proofs.free.Kinds as free-kinds
+use Rattle.prune.proofs.+free.Lts-free as free-lts
 use Rattle.entry.proofs.subtable.Reads as subtable-reads
 use Rattle.table.proofs.clear_table.Reads as clear-table-reads
-use Rattle.table.proofs.+free.{statement}
-use Rattle.table.proofs.+free.Tie.{close}
+use Rattle.prune.proofs.+free.{statement}
+use Rattle.prune.proofs.+free.Tie.{close}
 
 abbrev μ-free : Measures 2 free-kinds.ps ℕ
 μ-free κs a = 3 - a .1 .1 .1 .1 .0

@@ -30,7 +30,8 @@ use Rattle.verify.specs.Verify.{endFits, verify}
 use Rattle.walk.specs.Arm.{Walked, hole, block, page as one-page, outside, walk}
 use Rattle.walk.specs.LookUp.{answer, lookUpCall, look-misshaped, look-beyond, look-walks}
 use Rattle.walk.specs.declared.Looked.the-variants as looked
-use Rattle.list.specs.Listing.{Listing, verifyEnds, linesOf, listLines, listCall, list-misshaped, list-region, list-unsound, list-sound, ends-past, ends-fit, list-short}
+use Rattle.lines.specs.Lines.{linesOf}
+use Rattle.list.specs.Listing.{Listing, verifyEnds, listLines, listCall, list-misshaped, list-region, list-unsound, list-sound, ends-past, ends-fit, list-short}
 use Rattle.list.specs.Listing.{list-written}
 use Rattle.list.specs.declared.Listed.{Listed}
 use Rattle.list.specs.declared.Listed.the-variants as listed

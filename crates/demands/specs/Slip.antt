@@ -22,7 +22,7 @@ use Rattle.pool.specs.declared.Refusal.{Refusal}
 use Rattle.pool.specs.declared.Refusal.the-variants.{Shape, End, InvalidFlags, FlagSet, RegionBackwards, AddressRange, Frame, Unsound, WantOfRoom, HouseRule, Short}
 use Rattle.sound.specs.Clauses.{SoundPool}
 use Rattle.walk.specs.Arm.{walk, outside}
-use Rattle.list.specs.Listing.{linesOf}
+use Rattle.lines.specs.Lines.{linesOf}
 use Rattle.need.specs.Needed.{needed}
 use Rattle.ask.specs.Ask.{asked}
 use Rattle.permit.specs.Permit.{asked as askedEdit}

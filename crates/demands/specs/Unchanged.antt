@@ -21,7 +21,8 @@ use Rattle.pool.specs.declared.Outcome.the-variants.{Accepted, Refused}
 use Rattle.pool.specs.declared.Counted.{Counted}
 use Rattle.pool.specs.declared.Counted.the-variants as counted
 use Rattle.emptied.specs.Call.{compactCall, call-misshaped as compact-misshaped, call-unsound as compact-unsound, call-compacted}
-use Rattle.list.specs.Listing.{Listing, listing, verifyEnds, linesOf, listLines, listCall, list-misshaped, list-region, list-unsound, list-sound, list-short, list-written}
+use Rattle.lines.specs.Lines.{linesOf}
+use Rattle.list.specs.Listing.{Listing, listing, verifyEnds, listLines, listCall, list-misshaped, list-region, list-unsound, list-sound, list-short, list-written}
 use Rattle.list.specs.declared.Listed.{Listed}
 use Rattle.list.specs.declared.Listed.the-variants as listed
 use Rattle.need.specs.Needed.{needed}

@@ -1,4 +1,2 @@
--- The lines of list, the call, and what the lines cover.
-pub mod Lines
+-- The call list.
 pub mod Listing
-pub mod Cover

@@ -21,7 +21,7 @@ use Rattle.pool.specs.declared.Refusal.the-variants.{Shape, End, Unsound, Short
 use Rattle.pool.specs.declared.Outcome.{Outcome}
 use Rattle.pool.specs.declared.Outcome.the-variants.{Accepted, Refused}
 use Rattle.verify.specs.Verify.{endFits, verify, refused-never, verified-span, span-length}
-use Rattle.list.specs.Lines.{Line, numbers, length-numbers, linesFrom}
+use Rattle.lines.specs.Lines.{Line, numbers, length-numbers, linesFrom, linesOf}
 use Rattle.list.specs.declared.Listed.{Listed}
 use Rattle.list.specs.declared.Listed.the-variants.{Lines, Refused as refused}
 
@@ -44,10 +44,6 @@ put ls list = numbers ls ++ drop (4 * length ls) list
 -- refusal 11
 unfoldable pub listLines : List Line → List ℕ → Listing
 listLines ls list = cond (leb (4 * length ls) (length list)) (listing (Lines (length ls)) (put ls list)) (listing (refused (Short (4 * length ls))) list)
-
--- the lines of a region down from the root
-unfoldable pub linesOf : Handle → St → MemoryRegion → List Line
-linesOf h s r = linesFrom (h .base .0) (tables s) (s .words) (3 - h .level) 0 r
 
 -- refusal 8
 unfoldable pub listSound : Handle → St → MemoryRegion → List ℕ → Listing

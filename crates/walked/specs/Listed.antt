@@ -26,9 +26,9 @@ use Rattle.sound.specs.Decide.{decide-sound}
 use Rattle.walk.specs.Arm.{lowBit, at, away, says, reach}
 use Rattle.walk.specs.Walk.{size-is}
 use Rattle.walk.specs.LookUp.{answer, spanned, lookUpCall}
-use Rattle.list.specs.Lines.{Line}
-use Rattle.list.specs.Listing.{verifyEnds, listing, put, listLines, linesOf, listSound, listVerified, listCall, ends-verified}
-use Rattle.list.specs.Cover.{Covers, covers-map, Meets, list-covers, nth, inside, ascending, holds, InLine, covered}
+use Rattle.lines.specs.Lines.{Line, linesOf}
+use Rattle.lines.specs.Cover.{Covers, covers-map, Meets, list-covers, nth, inside, ascending, holds, InLine, covered}
+use Rattle.list.specs.Listing.{verifyEnds, listing, put, listLines, listSound, listVerified, listCall, ends-verified}
 use Rattle.list.specs.declared.Listed.{Listed}
 use Rattle.list.specs.declared.Listed.the-variants.{Lines, Refused as refused}
 use Rattle.walked.specs.Walked.{never-away}

@@ -11,20 +11,20 @@ use Rattle.entry.proofs.Tags.{no-table}
 use Rattle.entry.specs.declared.Sub.the-variants.{Table, Outside, Leaf}
 use Rattle.region.specs.Chunks.{chunksOf}
 use Rattle.region.specs.declared.ChunkedIterator.{ChunkedIterator}
-use Rattle.list.specs.Lines.{Line, each, linesFrom, linesAt, lines-table, lines-other, lines-each, lines-pages, next-chunk, next-none, each-none, count-step}
+use Rattle.lines.specs.Lines.{Line, each, linesFrom, linesAt, lines-table, lines-other, lines-each, lines-pages, next-chunk, next-none, each-none, count-step}
 use Prim.Native.Nat.{ℕ, _<_}
 use borrow.Fn.Kinds.{In}
 use borrow.Fn.PlainCycle.{Measures, is, falls, and}
-use Rattle.list.proofs.count_lines.Reads as count-lines
-use Rattle.list.proofs.count_lines.Kinds as count-lines-kinds
-use Rattle.list.proofs.+count_lines.Lts-count_lines as count-lines-lts
+use Rattle.lines.proofs.count_lines.Reads as count-lines
+use Rattle.lines.proofs.count_lines.Kinds as count-lines-kinds
+use Rattle.lines.proofs.+count_lines.Lts-count_lines as count-lines-lts
 use Rattle.entry.proofs.subtable.Reads as subtable-reads
 use Rattle.region.proofs.ChunkedIterator.next.Reads as next-reads
 use Rattle.region.proofs.MemoryRegion.split.Reads as split-reads
-use Rattle.list.proofs.count_pages.Reads as count-pages-reads
-use Rattle.list.proofs.get_entry.Reads as get-entry-reads
-use Rattle.list.proofs.+count_lines.{statement}
-use Rattle.list.proofs.+count_lines.Tie.{close}
+use Rattle.lines.proofs.count_pages.Reads as count-pages-reads
+use Rattle.lines.proofs.get_entry.Reads as get-entry-reads
+use Rattle.lines.proofs.+count_lines.{statement}
+use Rattle.lines.proofs.+count_lines.Tie.{close}
 
 abbrev μ-count-lines : Measures 1 count-lines-kinds.ps ℕ
 μ-count-lines κs a = 3 - a .1 .1 .1 .1 .0

@@ -4,10 +4,10 @@ use native.Mathlib.Omega.{arith}
 use borrow.Author.Tests.{lt-ltb}
 use Rattle.laws.specs.Size.{sizeAt}
 use Rattle.region.specs.Chunks.{met, met-none}
-use Rattle.list.proofs.count_pages.Statement.{statement}
-use Rattle.list.proofs.count_pages.Tie as tie
-use Rattle.list.proofs.count_pages.Reads as reads
-use Rattle.list.proofs.count_pages.Lts as lts
+use Rattle.lines.proofs.count_pages.Statement.{statement}
+use Rattle.lines.proofs.count_pages.Tie as tie
+use Rattle.lines.proofs.count_pages.Reads as reads
+use Rattle.lines.proofs.count_pages.Lts as lts
 
 returns : tie.Need-returns
 returns c = let r = c .before .before .args .region in sym (met-none 3 (r .start .0) (r .end .0) (c .if1 .taken))

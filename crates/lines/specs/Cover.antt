@@ -20,8 +20,7 @@ use Rattle.pool.specs.declared.Handle.{Handle}
 use Rattle.walk.specs.Arm.{at, away, fetch, reachFrom}
 use Rattle.walk.specs.Walk.{reach-table, reach-outside, reach-leaf}
 use Rattle.walk.specs.Page.{same-fetch}
-use Rattle.list.specs.Lines.{Line, line, each, linesFrom, linesAt, lines-table, lines-other, lines-each}
-use Rattle.list.specs.Listing.{linesOf}
+use Rattle.lines.specs.Lines.{Line, line, each, linesFrom, linesAt, lines-table, lines-other, lines-each, linesOf}
 
 -- lines end to end from s to e, none empty, of each of which P says something
 pub data Covers (P : Line → Type 0) (e : ℕ) : ℕ → List Line → Type 0 where

@@ -6,10 +6,10 @@ use lib.ListN.{getD}
 use Rattle.walk.specs.Arm.{index, fetch}
 use Rattle.walk.specs.Walk.{slot-below, index-is}
 use Rattle.region.specs.Region.{entryIndex}
-use Rattle.list.proofs.get_entry.Statement.{statement}
-use Rattle.list.proofs.get_entry.Tie as tie
-use Rattle.list.proofs.get_entry.Reads as reads
-use Rattle.list.proofs.get_entry.Lts as lts
+use Rattle.lines.proofs.get_entry.Statement.{statement}
+use Rattle.lines.proofs.get_entry.Tie as tie
+use Rattle.lines.proofs.get_entry.Reads as reads
+use Rattle.lines.proofs.get_entry.Lts as lts
 use Rattle.region.proofs.entry_index.Reads as entry-index-reads
 
 -- the Arm walk's index is the slot

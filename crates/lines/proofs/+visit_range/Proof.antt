@@ -11,20 +11,20 @@ use Rattle.entry.proofs.Tags.{no-table}
 use Rattle.entry.specs.declared.Sub.the-variants.{Table, Outside, Leaf}
 use Rattle.region.specs.Chunks.{chunksOf}
 use Rattle.region.specs.declared.ChunkedIterator.{ChunkedIterator}
-use Rattle.list.specs.Lines.{Line, line, each, numbers, linesFrom, linesAt, lines-table, lines-other, lines-each, next-chunk, next-none, each-none, count-step, write-step, write-done, written, writeLines, Written}
+use Rattle.lines.specs.Lines.{Line, line, each, numbers, linesFrom, linesAt, lines-table, lines-other, lines-each, next-chunk, next-none, each-none, count-step, write-step, write-done, written, writeLines, Written}
 use Prim.Native.Nat.{ℕ, _<_}
 use borrow.Fn.Kinds.{In}
 use borrow.Fn.PlainCycle.{Measures, is, falls, and}
-use Rattle.list.proofs.visit_range.Reads as visit-range
-use Rattle.list.proofs.visit_range.Kinds as visit-range-kinds
-use Rattle.list.proofs.+visit_range.Lts-visit_range as visit-range-lts
+use Rattle.lines.proofs.visit_range.Reads as visit-range
+use Rattle.lines.proofs.visit_range.Kinds as visit-range-kinds
+use Rattle.lines.proofs.+visit_range.Lts-visit_range as visit-range-lts
 use Rattle.entry.proofs.subtable.Reads as subtable-reads
 use Rattle.region.proofs.ChunkedIterator.next.Reads as next-reads
 use Rattle.region.proofs.MemoryRegion.split.Reads as split-reads
-use Rattle.list.proofs.get_entry.Reads as get-entry-reads
-use Rattle.list.proofs.put_line.Reads as put-line-reads
-use Rattle.list.proofs.+visit_range.{statement}
-use Rattle.list.proofs.+visit_range.Tie.{close}
+use Rattle.lines.proofs.get_entry.Reads as get-entry-reads
+use Rattle.lines.proofs.put_line.Reads as put-line-reads
+use Rattle.lines.proofs.+visit_range.{statement}
+use Rattle.lines.proofs.+visit_range.Tie.{close}
 
 abbrev μ-visit-range : Measures 2 visit-range-kinds.ps ℕ
 μ-visit-range κs a = 3 - a .1 .1 .1 .1 .0

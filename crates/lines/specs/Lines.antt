@@ -17,6 +17,8 @@ use Rattle.region.specs.declared.NextChunk.the-variants.{Chunk, Done}
 use Rattle.entry.specs.Sub.{subOf, sub-leaf}
 use Rattle.entry.specs.declared.Sub.{Sub}
 use Rattle.entry.specs.declared.Sub.the-variants.{Table, Outside, Leaf}
+use Rattle.pool.specs.State.{St, tables}
+use Rattle.pool.specs.declared.Handle.{Handle}
 use Rattle.walk.specs.Arm.{fetch}
 
 -- "start, end, word, level for each"
@@ -93,6 +95,10 @@ module _ (base n : ℕ) (words : List ℕ) where
           let up : 3 - level ≡ suc (3 - (level + 1)) = omega arith in
           let same : 2 - (3 - (level + 1)) ≡ level = omega arith in
           rw (up, same)
+
+-- the lines of a region down from the root
+unfoldable pub linesOf : Handle → St → MemoryRegion → List Line
+linesOf h s r = linesFrom (h .base .0) (tables s) (s .words) (3 - h .level) 0 r
 
 -- ---- chunk by chunk
 

@@ -1,12 +1,12 @@
 -- `put_line`: each way through the code by its law. Assumes nothing.
 use native.Mathlib.Omega.{arith}
 use lib.ListN.{length-set}
-use Rattle.list.specs.Lines.{numbers, put-four}
+use Rattle.lines.specs.Lines.{numbers, put-four}
 use borrow.Author.Needs.{needs}
-use Rattle.list.proofs.put_line.Statement.{statement}
-use Rattle.list.proofs.put_line.Tie as tie
-use Rattle.list.proofs.put_line.Reads as reads
-use Rattle.list.proofs.put_line.Lts as lts
+use Rattle.lines.proofs.put_line.Statement.{statement}
+use Rattle.lines.proofs.put_line.Tie as tie
+use Rattle.lines.proofs.put_line.Reads as reads
+use Rattle.lines.proofs.put_line.Lts as lts
 
 mul-list : tie.Need-mul-list
 mul-list c = omega arith

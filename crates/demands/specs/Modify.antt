@@ -24,7 +24,7 @@ use Rattle.pool.specs.declared.Outcome.{Outcome}
 use Rattle.pool.specs.declared.Outcome.the-variants.{Accepted, Refused}
 use Rattle.sound.specs.Clauses.{SoundPool}
 use Rattle.verify.specs.Verify.{endFits, verify}
-use Rattle.edit.specs.declared.Edit.{Edit}
+use Rattle.own.specs.declared.Edit.{Edit}
 use Rattle.survey.specs.declared.Survey.{Survey}
 use Rattle.modify.specs.declared.Modified.the-variants as modified
 use Rattle.permit.specs.Permit.{asked, verifyBits, verifyEdit, verifySurvey, bits-set-invalid, bits-clear-invalid, bits-set-outside, bits-set-valid, bits-clash, bits-clear-outside}

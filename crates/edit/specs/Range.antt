@@ -1,4 +1,4 @@
--- Modify in a table and those below it (document 01, "Putting down a map", Modify). Leans on `Own`. Assumes nothing.
+-- Modify in a table and those below it (document 01, "Putting down a map", Modify). Leans on `Own` of crates/own. Assumes nothing.
 use mathlib.Core.Path.{_≡_, sym, ap, _∙_}
 use mathlib.Core.Bool.{Bool, true, false, not, cond, _&&_}
 use mathlib.Core.List.{List}
@@ -14,9 +14,9 @@ use Rattle.pool.specs.declared.Found.the-variants.{At, Nothing}
 use Rattle.table.specs.Table.{Taken, taken}
 use Rattle.rules.specs.Rules.{tableWord}
 use Rattle.split.specs.Split.{below}
-use Rattle.edit.specs.declared.Edit.{Edit}
-use Rattle.edit.specs.Each.{eachChunk}
-use Rattle.edit.specs.Own.{Noted, noted, ownRange}
+use Rattle.own.specs.declared.Edit.{Edit}
+use Rattle.own.specs.Each.{eachChunk, chunkEdit}
+use Rattle.own.specs.Own.{Noted, noted, ownRange}
 
 -- the lent pool with the lent list
 pub record Work : Type 0 where
@@ -35,10 +35,6 @@ own level c w = not (tableWord w) && whole level c
 unfoldable pub onward : (ℕ → Work → Work) → Found → Work → Work
 onward rec (At j) w = rec j w
 onward rec Nothing w = w
-
--- the edit of one chunk
-abbrev pub chunkEdit : Edit → MemoryRegion → Edit
-chunkEdit e c = record { region = c; set = e .set; clear = e .clear; live = e .live }
 
 -- a chunk of table k that goes down: to the table that is there, or to a new one ("a partly covered entry is split first, hole or not")
 unfoldable pub downChunk : (ℕ → MemoryRegion → Work → Work) → Handle → ℕ → ℕ → MemoryRegion → Work → Work

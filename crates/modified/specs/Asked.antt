@@ -14,7 +14,7 @@ use Rattle.pool.specs.declared.Refusal.the-variants.{End, InvalidFlags, FlagSet
 use Rattle.pool.specs.declared.Outcome.{Outcome}
 use Rattle.pool.specs.declared.Outcome.the-variants.{Accepted, Refused}
 use Rattle.verify.specs.Verify.{endFits, verify, verified-forwards}
-use Rattle.edit.specs.declared.Edit.{Edit}
+use Rattle.own.specs.declared.Edit.{Edit}
 use Rattle.permit.specs.Permit.{asked, settable, settable-says, verifyBits, thenRegion, verifyEdit, asked-span}
 use Rattle.mapped.specs.Terms.{rootOf}
 use Rattle.mapped.specs.Stand.{Allowed}

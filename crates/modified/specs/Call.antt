@@ -18,8 +18,8 @@ use Rattle.pool.specs.declared.Refusal.{Refusal}
 use Rattle.pool.specs.declared.Refusal.the-variants.{Shape, Unsound, WantOfRoom, HouseRule, Short}
 use Rattle.pool.specs.declared.Outcome.{Outcome}
 use Rattle.pool.specs.declared.Outcome.the-variants.{Accepted, Refused}
-use Rattle.edit.specs.declared.Edit.{Edit}
-use Rattle.edit.specs.Own.{Numbered, numbered}
+use Rattle.own.specs.declared.Edit.{Edit}
+use Rattle.own.specs.Own.{Numbered, numbered}
 use Rattle.edit.specs.Range.{Work, work, modifyRange}
 use Rattle.modify.specs.declared.Modified.{Modified}
 use Rattle.modify.specs.declared.Modified.the-variants as modified

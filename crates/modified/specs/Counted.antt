@@ -22,10 +22,9 @@ use Rattle.pool.specs.declared.Handle.{Handle}
 use Rattle.rules.specs.declared.Map.{Map}
 use Rattle.rules.specs.Rules.{chunkMap}
 use Rattle.need.specs.Needed.{slot-below}
-use Rattle.edit.specs.declared.Edit.{Edit}
-use Rattle.edit.specs.Word.{editWord}
-use Rattle.edit.specs.Each.{eachOf, eachChunk}
-use Rattle.edit.specs.Range.{chunkEdit}
+use Rattle.own.specs.declared.Edit.{Edit}
+use Rattle.own.specs.Word.{editWord}
+use Rattle.own.specs.Each.{eachOf, eachChunk, chunkEdit}
 use Rattle.survey.specs.declared.Survey.{Survey}
 use Rattle.survey.specs.House.{mayChange}
 use Rattle.survey.specs.Find.{splitsIn, breach, ifBlock, surveyPart, surveyWhole, surveyEntry, surveyChunk, surveyRange, entry-whole, entry-part}

@@ -11,7 +11,7 @@ use Rattle.region.specs.Region.{rounded}
 use Rattle.pool.specs.State.{St, tables}
 use Rattle.pool.specs.declared.Handle.{Handle}
 use Rattle.pool.specs.Number.{free}
-use Rattle.edit.specs.Word.{editWord}
+use Rattle.own.specs.Word.{editWord}
 use Rattle.survey.specs.House.{mayChange}
 use Rattle.walk.specs.Arm.{Reached, at, reach}
 use Rattle.modified.specs.Terms.{Call, askedOf, InRegion, madeBy, numbersOf}

@@ -16,11 +16,11 @@ use Rattle.pool.specs.declared.Handle.{Handle}
 use Rattle.rules.specs.declared.Map.{Map}
 use Rattle.rules.specs.Rules.{chunkMap}
 use Rattle.need.specs.Needed.{slot-below}
-use Rattle.edit.specs.declared.Edit.{Edit}
-use Rattle.edit.specs.Word.{editWord}
-use Rattle.edit.specs.Each.{eachChunk}
-use Rattle.edit.specs.Own.{Numbered, numbered, putNumber, Noted, noted, ownChunk, ownRange, own-same, own-changed}
-use Rattle.edit.specs.Range.{Work, work, own, chunkEdit, ownWork, modifyRange, own-table, own-leaf, stepAt, modify-pages, modify-open, step-own}
+use Rattle.own.specs.declared.Edit.{Edit}
+use Rattle.own.specs.Word.{editWord}
+use Rattle.own.specs.Each.{eachChunk, chunkEdit}
+use Rattle.own.specs.Own.{Numbered, numbered, putNumber, Noted, noted, ownChunk, ownRange, own-same, own-changed}
+use Rattle.edit.specs.Range.{Work, work, own, ownWork, modifyRange, own-table, own-leaf, stepAt, modify-pages, modify-open, step-own}
 use Rattle.forest.specs.Tree.{Tree, leaf, node, treeAt-node}
 use Rattle.forest.specs.Sound.{TableWord}
 use Rattle.forest.specs.Keep.{slot-leaf}

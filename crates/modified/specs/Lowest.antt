@@ -13,8 +13,8 @@ use Rattle.region.specs.Region.{rounded}
 use Rattle.pool.specs.State.{St}
 use Rattle.pool.specs.Refuse.{Shaped}
 use Rattle.pool.specs.declared.Handle.{Handle}
-use Rattle.edit.specs.declared.Edit.{Edit}
-use Rattle.edit.specs.Word.{editWord}
+use Rattle.own.specs.declared.Edit.{Edit}
+use Rattle.own.specs.Word.{editWord}
 use Rattle.survey.specs.House.{mayChange}
 use Rattle.permit.specs.Permit.{asked}
 use Rattle.modify.specs.Call.{nothing}

@@ -13,7 +13,7 @@ use Rattle.pool.specs.State.{St}
 use Rattle.pool.specs.Number.{used, free}
 use Rattle.pool.specs.declared.Handle.{Handle}
 use Rattle.pool.specs.declared.Refusal.the-variants.{WantOfRoom, HouseRule, Short}
-use Rattle.edit.specs.Word.{editWord}
+use Rattle.own.specs.Word.{editWord}
 use Rattle.survey.specs.House.{mayChange}
 use Rattle.modify.specs.declared.Modified.the-variants.{Refused}
 use Rattle.permit.specs.Permit.{asked}

@@ -7,7 +7,7 @@ use Prim.Native.Nat.{ℕ, suc, _+_, _≤_}
 use native.Mathlib.Omega.{arith}
 use lib.ListN.{length, set, length-set, drop}
 use lib.Seq.{sets, sets-eq}
-use Rattle.edit.specs.Own.{Numbered, numbered, putNumber, number-off, number-put}
+use Rattle.own.specs.Own.{Numbered, numbered, putNumber, number-off, number-put}
 
 unfoldable pub putAll : Bool → List ℕ → Numbered → Numbered
 putAll live [] n = n

@@ -16,11 +16,11 @@ use Rattle.pool.specs.Number.{free}
 use Rattle.pool.specs.declared.Handle.{Handle}
 use Rattle.rules.specs.declared.Map.{Map}
 use Rattle.need.specs.Needed.{slot-below}
-use Rattle.edit.specs.declared.Edit.{Edit}
-use Rattle.edit.specs.Word.{editWord}
-use Rattle.edit.specs.Each.{eachOf, eachChunk}
-use Rattle.edit.specs.Own.{Numbered, putNumber, Noted, noted, ownChunk, ownRange, own-same, own-changed}
-use Rattle.edit.specs.Range.{Work, work, own, chunkEdit, ownWork, modifyRange, own-table, own-leaf, stepAt, modify-pages, modify-open, step-own, step-into}
+use Rattle.own.specs.declared.Edit.{Edit}
+use Rattle.own.specs.Word.{editWord}
+use Rattle.own.specs.Each.{eachOf, eachChunk, chunkEdit}
+use Rattle.own.specs.Own.{Numbered, putNumber, Noted, noted, ownChunk, ownRange, own-same, own-changed}
+use Rattle.edit.specs.Range.{Work, work, own, ownWork, modifyRange, own-table, own-leaf, stepAt, modify-pages, modify-open, step-own, step-into}
 use Rattle.forest.specs.Tree.{Tree, leaf}
 use Rattle.forest.specs.Sound.{TableWord}
 use Rattle.forest.specs.Keep.{slot-leaf}

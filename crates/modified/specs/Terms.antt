@@ -11,7 +11,7 @@ use Rattle.pool.specs.State.{St}
 use Rattle.pool.specs.Refuse.{Shaped}
 use Rattle.pool.specs.declared.Handle.{Handle}
 use Rattle.pool.specs.declared.Outcome.the-variants.{Accepted}
-use Rattle.edit.specs.declared.Edit.{Edit}
+use Rattle.own.specs.declared.Edit.{Edit}
 use Rattle.survey.specs.declared.Survey.{Survey}
 use Rattle.modify.specs.declared.Modified.{Modified}
 use Rattle.modify.specs.declared.Modified.the-variants.{Tables, Live}

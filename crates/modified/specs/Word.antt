@@ -9,8 +9,8 @@ use Rattle.laws.specs.Bit.{Sub, sub-or, sub-and}
 use Rattle.entry.specs.Word.{kind-table, kind-page, kind-block, kind-clear, valid, plainFlags, valid-yes, valid-no, edited}
 use Rattle.pool.specs.Sound.{flagSet}
 use Rattle.pool.specs.declared.Handle.{Handle}
-use Rattle.edit.specs.declared.Edit.{Edit}
-use Rattle.edit.specs.Word.{editWord, edit-table, edit-block, edit-page, edit-hole}
+use Rattle.own.specs.declared.Edit.{Edit}
+use Rattle.own.specs.Word.{editWord, edit-table, edit-block, edit-page, edit-hole}
 use Rattle.sound.specs.Step.{Stands}
 use Rattle.tree.specs.Fine.{Fine}
 use Rattle.tree.specs.Edit.{edited-plain, fine-edited}

@@ -14,7 +14,7 @@ use Rattle.pool.specs.declared.Refusal.{Refusal}
 use Rattle.pool.specs.declared.Refusal.the-variants.{Shape, Unsound}
 use Rattle.pool.specs.declared.Outcome.{Outcome}
 use Rattle.pool.specs.declared.Outcome.the-variants.{Accepted, Refused}
-use Rattle.edit.specs.declared.Edit.{Edit}
+use Rattle.own.specs.declared.Edit.{Edit}
 use Rattle.edit.specs.Range.{Work, work, modifyRange}
 use Rattle.survey.specs.declared.Survey.{Survey}
 use Rattle.survey.specs.Find.{surveyRange}

@@ -1,7 +1,7 @@
 // The call: refusals 1 to 11 in their order, then the edit.
 use crate::Modified;
 use address::VirtualAddress;
-use edit::Edit;
+use own::Edit;
 use pool::Handle;
 use pool::Outcome;
 use pool::Refusal;

@@ -18,7 +18,7 @@ use Rattle.pool.specs.declared.Refusal.the-variants.{End, InvalidFlags, FlagSet
 use Rattle.pool.specs.declared.Outcome.{Outcome}
 use Rattle.pool.specs.declared.Outcome.the-variants.{Accepted, Refused}
 use Rattle.verify.specs.Verify.{endFits, verify, refused-never, verified-span, span-length}
-use Rattle.edit.specs.declared.Edit.{Edit}
+use Rattle.own.specs.declared.Edit.{Edit}
 use Rattle.survey.specs.declared.Survey.{Survey}
 
 -- the edit that a call asks for: "start is rounded down and end up to 4096"

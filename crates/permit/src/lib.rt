@@ -1,5 +1,5 @@
 // What modify asks of its arguments, refusals 2 to 6, and of what it would do, refusals 9 to 11, each in their order.
-use edit::Edit;
+use own::Edit;
 use pool::Handle;
 use pool::Outcome;
 use pool::Refusal;

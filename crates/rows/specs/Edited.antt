@@ -20,9 +20,9 @@ use Rattle.pool.specs.declared.Refusal.the-variants.{HouseRule}
 use Rattle.verify.specs.Verify.{endFits, span, inRange, verify}
 use Rattle.rules.specs.Rules.{tableWord, fillOf}
 use Rattle.split.specs.Split.{splitEntry, belowOf, below}
-use Rattle.edit.specs.Word.{ofKind, editWord}
-use Rattle.edit.specs.Each.{eachOf, eachChunk}
-use Rattle.edit.specs.Own.{putNumber, ownChunk, ownRange}
+use Rattle.own.specs.Word.{ofKind, editWord}
+use Rattle.own.specs.Each.{eachOf, eachChunk}
+use Rattle.own.specs.Own.{putNumber, ownChunk, ownRange}
 use Rattle.edit.specs.Range.{own, onward, downChunk, ownWork, modifyRange}
 use Rattle.survey.specs.House.{houseRule, mayChange}
 use Rattle.survey.specs.Find.{adding, splitsIn, breach, ifBlock, surveyPart, surveyWhole, surveyEntry, surveySub, surveyChunk, surveyRange}

@@ -14,10 +14,9 @@ use Rattle.region.specs.Region.{region, entryIndex, whole}
 use Rattle.region.specs.declared.MemoryRegion.{MemoryRegion}
 use Rattle.pool.specs.State.{St, tables, wordAt}
 use Rattle.pool.specs.declared.Handle.{Handle}
-use Rattle.edit.specs.declared.Edit.{Edit}
-use Rattle.edit.specs.Word.{editWord}
-use Rattle.edit.specs.Each.{eachChunk, each-most}
-use Rattle.edit.specs.Range.{chunkEdit}
+use Rattle.own.specs.declared.Edit.{Edit}
+use Rattle.own.specs.Word.{editWord}
+use Rattle.own.specs.Each.{eachChunk, each-most, chunkEdit}
 use Rattle.survey.specs.declared.Survey.{Survey}
 use Rattle.survey.specs.House.{mayChange}
 use Rattle.survey.specs.Find.{adding, splitsIn, breach, ifBlock, surveyPart, surveyWhole, surveyEntry, surveySub, surveyChunk, surveyRange}

@@ -1,8 +1,8 @@
 // What an edit would do, found before anything is written: the splits, the first word that breaks the house rule, and how many words change.
 use address::VirtualAddress;
-use edit::Edit;
 use entry::Kind;
 use entry::Sub;
+use own::Edit;
 use pool::Handle;
 use region::MemoryRegion;
 ghost use mathlib.Core.Path.{_≡_};
@@ -102,7 +102,7 @@ fn survey_whole(handle: Handle, level: usize, edit: Edit, word: u64, seen: Surve
     requires { ⌜ (edit .region .start .0 < edit .region .end .0) × Room (edit .region) seen ⌝ }
     ensures { λ r. ⌜ r ≡ surveyWhole handle level edit word seen ⌝ }
 {
-    let new = edit::edit_word(level, edit, word);
+    let new = own::edit_word(level, edit, word);
     if new == word {
         return seen;
     }
@@ -149,7 +149,7 @@ pub fn survey_range(
     while at < end {
         let stop = region::chunk_end(at, end, level);
         let i = region::entry_index(at, level);
-        let part = edit::chunk_edit(edit, VirtualAddress(at), VirtualAddress(stop));
+        let part = own::chunk_edit(edit, VirtualAddress(at), VirtualAddress(stop));
         at = stop;
         let word = words[512 * k + i];
         let kind = entry::subtable(handle.base, ledger.len(), level, word);

@@ -8,8 +8,8 @@ use Rattle.region.specs.Chunks.{chunk-fits}
 use Rattle.pool.specs.State.{st, wordAt}
 use Rattle.pool.specs.Refuse.{Shaped, shaped-keep}
 use Rattle.split.specs.Split.{below-inside}
-use Rattle.edit.specs.declared.Edit.{Edit}
-use Rattle.edit.specs.Each.{eachChunk, each-done, each-step}
+use Rattle.own.specs.declared.Edit.{Edit}
+use Rattle.own.specs.Each.{eachChunk, each-done, each-step}
 use Rattle.edit.specs.Range.{Work, work, own, ownWork, modifyRange, stepAt, own-done, modify-pages, modify-open, step-own, step-none, step-into}
 use Prim.Native.Nat.{ℕ, _<_}
 use borrow.Fn.Kinds.{In}
@@ -17,8 +17,8 @@ use borrow.Fn.PlainCycle.{Measures, is, falls, and}
 use Rattle.edit.proofs.modify_range.Reads as modify-range
 use Rattle.edit.proofs.modify_range.Kinds as modify-range-kinds
 use Rattle.edit.proofs.+modify_range.Lts-modify_range as modify-range-lts
-use Rattle.edit.proofs.chunk_edit.Reads as chunk-edit-reads
-use Rattle.edit.proofs.edit_own.Reads as edit-own-reads
+use Rattle.own.proofs.chunk_edit.Reads as chunk-edit-reads
+use Rattle.own.proofs.edit_own.Reads as edit-own-reads
 use Rattle.edit.proofs.is_own.Reads as is-own-reads
 use Rattle.region.proofs.chunk_end.Reads as chunk-end-reads
 use Rattle.region.proofs.entry_index.Reads as entry-index-reads

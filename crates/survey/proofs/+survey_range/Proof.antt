@@ -7,9 +7,8 @@ use Rattle.region.specs.Chunks.{chunk-fits}
 use Rattle.entry.specs.Sub.{sub-found}
 use Rattle.entry.proofs.Tags.{is-outside}
 use Rattle.pool.specs.State.{st, wordAt}
-use Rattle.edit.specs.Each.{eachChunk, each-done, each-step}
-use Rattle.edit.specs.Range.{chunkEdit}
-use Rattle.edit.specs.declared.Edit.{Edit}
+use Rattle.own.specs.Each.{eachChunk, each-done, each-step, chunkEdit}
+use Rattle.own.specs.declared.Edit.{Edit}
 use Rattle.survey.specs.declared.Survey.{Survey}
 use Rattle.survey.specs.Find.{surveyEntry, surveyRange, stepAt, survey-open, step-table, step-entry, step-outside}
 use Rattle.survey.specs.Room.{Room, Adds, same-adds, entry-adds, range-adds, room-chunk, room-after}
@@ -19,7 +18,7 @@ use borrow.Fn.PlainCycle.{Measures, is, falls, and}
 use Rattle.survey.proofs.survey_range.Reads as survey-range
 use Rattle.survey.proofs.survey_range.Kinds as survey-range-kinds
 use Rattle.survey.proofs.+survey_range.Lts-survey_range as survey-range-lts
-use Rattle.edit.proofs.chunk_edit.Reads as chunk-edit-reads
+use Rattle.own.proofs.chunk_edit.Reads as chunk-edit-reads
 use Rattle.entry.proofs.subtable.Reads as subtable-reads
 use Rattle.region.proofs.chunk_end.Reads as chunk-end-reads
 use Rattle.region.proofs.entry_index.Reads as entry-index-reads

@@ -6,7 +6,7 @@ use Rattle.survey.proofs.survey_whole.Statement.{statement}
 use Rattle.survey.proofs.survey_whole.Tie as tie
 use Rattle.survey.proofs.survey_whole.Reads as reads
 use Rattle.survey.proofs.survey_whole.Lts as lts
-use Rattle.edit.proofs.edit_word.Reads as edit-word-reads
+use Rattle.own.proofs.edit_word.Reads as edit-word-reads
 use Rattle.survey.proofs.add_breach.Reads as add-breach-reads
 use Rattle.survey.proofs.may_change.Reads as may-change-reads
 

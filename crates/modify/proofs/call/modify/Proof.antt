@@ -6,7 +6,7 @@ use native.Mathlib.Omega.{arith}
 use borrow.Author.Tests.{not-true, not-false}
 use Rattle.pool.specs.State.{st}
 use Rattle.pool.specs.Refuse.{shaped, shaped-says}
-use Rattle.edit.specs.declared.Edit.{Edit}
+use Rattle.own.specs.declared.Edit.{Edit}
 use Rattle.permit.specs.Permit.{verifyEdit, asked, asked-is, asked-span}
 use Rattle.modify.specs.Call.{modifySound, call-misshaped, call-refused, call-asked}
 use Rattle.modify.proofs.call.modify.Statement.{statement}

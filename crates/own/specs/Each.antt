@@ -1,4 +1,4 @@
--- Something done with each chunk of a region at a level, ascending, and the loop that does it. Assumes nothing.
+-- The edit of one chunk; something done with each chunk of a region at a level, ascending, and the loop that does it. Assumes nothing.
 use mathlib.Core.Path.{_≡_, sym, ap, _∙_}
 use mathlib.Core.List.{List, [], _∷_}
 use Prim.Native.Nat.{ℕ, _+_, _*_, _-_, _≤_, _<_}
@@ -7,6 +7,11 @@ use native.Mathlib.Omega.{arith}
 use Rattle.region.specs.Region.{region, chunkEnd}
 use Rattle.region.specs.Chunks.{chunks, chunks-step, chunks-none, Tiles, none, more, chunks-tile}
 use Rattle.region.specs.declared.MemoryRegion.{MemoryRegion}
+use Rattle.own.specs.declared.Edit.{Edit}
+
+-- the edit of one chunk
+abbrev pub chunkEdit : Edit → MemoryRegion → Edit
+chunkEdit e c = record { region = c; set = e .set; clear = e .clear; live = e .live }
 
 unfoldable pub eachOf {ℓ} : {S : Type ℓ} → (MemoryRegion → S → S) → List MemoryRegion → S → S
 eachOf f [] s = s

@@ -5,7 +5,7 @@ use lib.Bits.{bitAnd, bitOr}
 use Rattle.entry.specs.Word.{kindOf, edited}
 use Rattle.entry.specs.declared.Kind.{Kind}
 use Rattle.entry.specs.declared.Kind.the-variants.{Table, Block, Page, Hole}
-use Rattle.edit.specs.declared.Edit.{Edit}
+use Rattle.own.specs.declared.Edit.{Edit}
 
 -- "touches valid blocks and pages only, never a table's word"
 unfoldable pub ofKind : Kind → ℕ → ℕ → ℕ

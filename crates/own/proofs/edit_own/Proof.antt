@@ -5,15 +5,15 @@ use native.Mathlib.Omega.{arith}
 use lib.ListN.{length, length-set}
 use Rattle.region.specs.Region.{region, entryIndex}
 use Rattle.region.specs.Chunks.{chunk-fits}
-use Rattle.edit.specs.Each.{eachChunk, each-done, each-step}
-use Rattle.edit.specs.Own.{noted, ownChunk, own-same, own-changed, own-all}
-use Rattle.edit.proofs.edit_own.Statement.{statement}
-use Rattle.edit.proofs.edit_own.Tie as tie
-use Rattle.edit.proofs.edit_own.Reads as reads
-use Rattle.edit.proofs.edit_own.Lts as lts
+use Rattle.own.specs.Each.{eachChunk, each-done, each-step}
+use Rattle.own.specs.Own.{noted, ownChunk, own-same, own-changed, own-all}
+use Rattle.own.proofs.edit_own.Statement.{statement}
+use Rattle.own.proofs.edit_own.Tie as tie
+use Rattle.own.proofs.edit_own.Reads as reads
+use Rattle.own.proofs.edit_own.Lts as lts
 use Rattle.address.proofs.tlbi_address.Reads as tlbi-address-reads
-use Rattle.edit.proofs.edit_word.Reads as edit-word-reads
-use Rattle.edit.proofs.put_number.Reads as put-number-reads
+use Rattle.own.proofs.edit_word.Reads as edit-word-reads
+use Rattle.own.proofs.put_number.Reads as put-number-reads
 use Rattle.region.proofs.chunk_end.Reads as chunk-end-reads
 use Rattle.region.proofs.entry_index.Reads as entry-index-reads
 

@@ -9,9 +9,9 @@ use lib.ListN.{length, getD, set}
 use borrow.Author.Tests.{eq-eqb, ne-eqb, lt-ltb, le-ltb}
 use Rattle.region.specs.Region.{entryIndex}
 use Rattle.region.specs.declared.MemoryRegion.{MemoryRegion}
-use Rattle.edit.specs.declared.Edit.{Edit}
-use Rattle.edit.specs.Word.{editWord}
-use Rattle.edit.specs.Each.{eachChunk}
+use Rattle.own.specs.declared.Edit.{Edit}
+use Rattle.own.specs.Word.{editWord}
+use Rattle.own.specs.Each.{eachChunk}
 
 -- a lent list, and how many numbers stand at its front
 pub record Numbered : Type 0 where

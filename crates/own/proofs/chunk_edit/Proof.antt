@@ -1,9 +1,9 @@
 -- `chunk_edit`: each way through the code by its law. Assumes nothing.
 use mathlib.Core.Path.{refl}
-use Rattle.edit.proofs.chunk_edit.Statement.{statement}
-use Rattle.edit.proofs.chunk_edit.Tie as tie
-use Rattle.edit.proofs.chunk_edit.Reads as reads
-use Rattle.edit.proofs.chunk_edit.Lts as lts
+use Rattle.own.proofs.chunk_edit.Statement.{statement}
+use Rattle.own.proofs.chunk_edit.Tie as tie
+use Rattle.own.proofs.chunk_edit.Reads as reads
+use Rattle.own.proofs.chunk_edit.Lts as lts
 
 returns : tie.Need-returns
 returns c = refl

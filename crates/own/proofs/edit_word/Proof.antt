@@ -1,9 +1,9 @@
 -- `edit_word`: each way through the code by its law. Assumes nothing.
-use Rattle.edit.specs.Word.{edit-table, edit-block, edit-page, edit-hole}
-use Rattle.edit.proofs.edit_word.Statement.{statement}
-use Rattle.edit.proofs.edit_word.Tie as tie
-use Rattle.edit.proofs.edit_word.Reads as reads
-use Rattle.edit.proofs.edit_word.Lts as lts
+use Rattle.own.specs.Word.{edit-table, edit-block, edit-page, edit-hole}
+use Rattle.own.proofs.edit_word.Statement.{statement}
+use Rattle.own.proofs.edit_word.Tie as tie
+use Rattle.own.proofs.edit_word.Reads as reads
+use Rattle.own.proofs.edit_word.Lts as lts
 use Rattle.entry.proofs.kind_of.Reads as kind-of-reads
 
 kind-of-requires : tie.Need-kind-of-requires

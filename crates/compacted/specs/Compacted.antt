@@ -22,8 +22,8 @@ use Rattle.sound.specs.Clauses.{InUse, SoundPool}
 use Rattle.sound.specs.Decide.{sound-decide}
 use Rattle.sound.specs.Hanging.{root-left, used-tree}
 use Rattle.sound.specs.Step.{used-inside}
-use Rattle.walk.specs.Arm.{bits, flagsIn, says}
-use Rattle.walk.specs.Walk.{slot-below}
+use Rattle.arm.specs.Arm.{bits, flagsIn, says}
+use Rattle.arm.specs.Walk.{slot-below}
 use Rattle.walked.specs.AsBefore.{walkOf, hole, shown}
 use Rattle.walked.specs.Any.{slotsOf, met}
 use Rattle.walked.specs.Walked.{walk-of-tree}

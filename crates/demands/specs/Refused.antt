@@ -27,7 +27,7 @@ use Rattle.sound.specs.Clauses.{SoundPool}
 use Rattle.checker.specs.Check.{checkCall, check-misshaped, check-unsound, check-sound}
 use Rattle.emptied.specs.Call.{compactCall, call-misshaped as compact-misshaped, call-unsound as compact-unsound, call-compacted}
 use Rattle.verify.specs.Verify.{endFits, verify}
-use Rattle.walk.specs.Arm.{Walked, hole, block, page as one-page, outside, walk}
+use Rattle.arm.specs.Arm.{Walked, hole, block, page as one-page, outside, walk}
 use Rattle.walk.specs.LookUp.{answer, lookUpCall, look-misshaped, look-beyond, look-walks}
 use Rattle.walk.specs.declared.Looked.the-variants as looked
 use Rattle.lines.specs.Lines.{linesOf}

@@ -21,7 +21,7 @@ use Rattle.pool.specs.declared.VaRange.the-variants.{Lower, Upper}
 use Rattle.pool.specs.declared.Refusal.{Refusal}
 use Rattle.pool.specs.declared.Refusal.the-variants.{Shape, End, InvalidFlags, FlagSet, RegionBackwards, AddressRange, Frame, Unsound, WantOfRoom, HouseRule, Short}
 use Rattle.sound.specs.Clauses.{SoundPool}
-use Rattle.walk.specs.Arm.{walk, outside}
+use Rattle.arm.specs.Arm.{walk, outside}
 use Rattle.lines.specs.Lines.{linesOf}
 use Rattle.need.specs.Needed.{needed}
 use Rattle.ask.specs.Ask.{asked}

@@ -17,9 +17,9 @@ use Rattle.entry.specs.declared.Sub.{Sub}
 use Rattle.entry.specs.declared.Sub.the-variants.{Table, Outside, Leaf}
 use Rattle.pool.specs.State.{St, tables}
 use Rattle.pool.specs.declared.Handle.{Handle}
-use Rattle.walk.specs.Arm.{at, away, fetch, reachFrom}
-use Rattle.walk.specs.Walk.{reach-table, reach-outside, reach-leaf}
-use Rattle.walk.specs.Page.{same-fetch}
+use Rattle.arm.specs.Arm.{at, away, fetch, reachFrom}
+use Rattle.arm.specs.Walk.{reach-table, reach-outside, reach-leaf}
+use Rattle.arm.specs.Page.{same-fetch}
 use Rattle.lines.specs.Lines.{Line, line, each, linesFrom, linesAt, lines-table, lines-other, lines-each, linesOf}
 
 -- lines end to end from s to e, none empty, of each of which P says something

@@ -19,7 +19,7 @@ use Rattle.entry.specs.declared.Sub.{Sub}
 use Rattle.entry.specs.declared.Sub.the-variants.{Table, Outside, Leaf}
 use Rattle.pool.specs.State.{St, tables}
 use Rattle.pool.specs.declared.Handle.{Handle}
-use Rattle.walk.specs.Arm.{fetch}
+use Rattle.arm.specs.Arm.{fetch}
 
 -- "start, end, word, level for each"
 pub record Line : Type 0 where

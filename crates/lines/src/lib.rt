@@ -10,7 +10,7 @@ ghost use Prim.Native.Nat.{_+_, _*_, _-_, _^_, _≤_, _<_};
 ghost use lib.ListN.{length};
 ghost use Rattle.laws.specs.Part.{putPart};
 ghost use Rattle.region.specs.Chunks.{met};
-ghost use Rattle.walk.specs.Arm.{fetch};
+ghost use Rattle.arm.specs.Arm.{fetch};
 ghost use Rattle.lines.specs.Lines.{line, numbers, linesFrom, written, writeLines};
 
 // The word of table k that the address lies in.

@@ -14,7 +14,7 @@ use Rattle.forest.specs.Nodes.{nodes}
 use Rattle.forest.specs.Walk.{walkTree}
 use Rattle.sound.specs.Codec.{shaped-placed, rootTree}
 use Rattle.sound.specs.Hanging.{used-tree}
-use Rattle.walk.specs.Arm.{says}
+use Rattle.arm.specs.Arm.{says}
 use Rattle.walked.specs.AsBefore.{walkOf, shown}
 use Rattle.walked.specs.Any.{slotsOf, met}
 use Rattle.walked.specs.Walked.{walk-of-tree}

@@ -15,8 +15,8 @@ use Rattle.forest.specs.Tree.{Tree, leaf, node}
 use Rattle.forest.specs.Walk.{Ends, walkTree}
 use Rattle.sound.specs.Clauses.{SoundPool}
 use Rattle.sound.specs.Codec.{shaped-placed, rootTree}
-use Rattle.walk.specs.Arm.{frameOf, flagsIn, at, says}
-use Rattle.walk.specs.Walk.{index-is, flags-is, frame-is, says-hole, says-block, says-page}
+use Rattle.arm.specs.Arm.{frameOf, flagsIn, at, says}
+use Rattle.arm.specs.Walk.{index-is, flags-is, frame-is, says-hole, says-block, says-page}
 use Rattle.walked.specs.AsBefore.{walkOf, Shown, mapped, hole, shown}
 use Rattle.walked.specs.Any.{slotsOf, met}
 use Rattle.walked.specs.Walked.{walk-of-tree}

@@ -13,7 +13,7 @@ use Rattle.pool.specs.declared.Handle.{Handle}
 use Rattle.pool.specs.Number.{free}
 use Rattle.own.specs.Word.{editWord}
 use Rattle.survey.specs.House.{mayChange}
-use Rattle.walk.specs.Arm.{Reached, at, reach}
+use Rattle.arm.specs.Arm.{Reached, at, reach}
 use Rattle.modified.specs.Terms.{Call, askedOf, InRegion, madeBy, numbersOf}
 
 -- where the lookups of an address end

@@ -22,7 +22,7 @@ use Rattle.forest.specs.Tree.{Tree}
 use Rattle.forest.specs.Walk.{Ends, walkTree}
 use Rattle.sound.specs.Clauses.{SoundPool}
 use Rattle.sound.specs.Codec.{shaped-placed, rootTree}
-use Rattle.walk.specs.Arm.{at}
+use Rattle.arm.specs.Arm.{at}
 use Rattle.walked.specs.Any.{slotsOf, met}
 use Rattle.walked.specs.Walked.{reach-tree}
 use Rattle.tree.specs.Page.{span, span-size, first, slotOf, slot-lt, in-rest, entry-start}

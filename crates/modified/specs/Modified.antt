@@ -26,7 +26,7 @@ use Rattle.sound.specs.Hanging.{used-tree}
 use Rattle.tree.specs.Walk.{Seen, mapped as seenMapped, hole as seenHole, seen}
 use Rattle.tree.specs.Shown.{FineTable}
 use Rattle.tree.specs.Demands.{modified as tree-modified, holes-stay, modify-others, modify-tables}
-use Rattle.walk.specs.Arm.{at as endsAt}
+use Rattle.arm.specs.Arm.{at as endsAt}
 use Rattle.walked.specs.AsBefore.{walkOf, Shown, mapped, hole, shown}
 use Rattle.mapped.specs.Terms.{InSpan, leftOf, rootIn}
 use Rattle.mapped.specs.Leaf.{root-fine}

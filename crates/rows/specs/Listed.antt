@@ -15,7 +15,7 @@ use Rattle.table.specs.Table.{putTable, zeros}
 use Rattle.pool.specs.Refuse.{maxTables, shaped}
 use Rattle.pool.specs.Sound.{flagSet, fits, leafb, namesb, hangsb, tableb, linkb, refersb, slotb, soundb}
 use Rattle.verify.specs.Verify.{endFits, span, inRange, verify}
-use Rattle.walk.specs.Arm.{bits, lowBit, index, fetch}
+use Rattle.arm.specs.Arm.{bits, lowBit, index, fetch}
 use Rattle.lines.specs.Lines.{numbers, each, subLines, chunkLines, linesAt, linesFrom, linesOf}
 use Rattle.list.specs.Listing.{verifyEnds, listing, put, listLines, listSound, listVerified, listCall}
 use Rattle.list.specs.declared.Listed.the-variants.{Lines}

@@ -1,5 +1,2 @@
--- The Arm walk, and what the contracts of look up cite.
-pub mod Arm
-pub mod Walk
-pub mod Page
+-- Look up: the whole call.
 pub mod LookUp

@@ -15,8 +15,8 @@ use Rattle.pool.specs.declared.Handle.{Handle}
 use Rattle.pool.specs.declared.VaRange.{VaRange}
 use Rattle.pool.specs.declared.VaRange.the-variants.{Lower, Upper}
 use Rattle.pool.specs.declared.Refusal.the-variants.{Shape, AddressRange, Unsound}
-use Rattle.walk.specs.Arm.{lowBit, frameOf, flagsIn, Walked, hole, block, page, outside, at, says, walk}
-use Rattle.walk.specs.Walk.{size-is, says-hole, says-block, says-page}
+use Rattle.arm.specs.Arm.{lowBit, frameOf, flagsIn, Walked, hole, block, page, outside, at, says, walk}
+use Rattle.arm.specs.Walk.{size-is, says-hole, says-block, says-page}
 use Rattle.walk.specs.declared.Looked.{Looked}
 use Rattle.walk.specs.declared.Looked.the-variants.{Hole, Block, Page, Refused}
 

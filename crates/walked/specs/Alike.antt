@@ -12,9 +12,9 @@ use Rattle.entry.specs.declared.Kind.the-variants.{Table as table′, Block as 
 use Rattle.pool.specs.State.{St, tables}
 use Rattle.pool.specs.Refuse.{shaped}
 use Rattle.pool.specs.declared.Handle.{Handle}
-use Rattle.walk.specs.Arm.{at, says, reach, walk}
-use Rattle.walk.specs.Walk.{says-hole, says-block, says-page}
-use Rattle.walk.specs.Page.{reach-same, frame-moves}
+use Rattle.arm.specs.Arm.{at, says, reach, walk}
+use Rattle.arm.specs.Walk.{says-hole, says-block, says-page}
+use Rattle.arm.specs.Page.{reach-same, frame-moves}
 use Rattle.walk.specs.LookUp.{answer, spanned, lookUpCall, look-walks}
 use Rattle.walk.specs.declared.Looked.{Looked}
 use Rattle.walk.specs.declared.Looked.the-variants.{Hole, Block, Page}

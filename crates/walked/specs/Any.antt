@@ -10,8 +10,8 @@ use Rattle.pool.specs.State.{St}
 use Rattle.forest.specs.Tree.{Tree, treeAt}
 use Rattle.forest.specs.Walk.{Ends, walkWord, walkTree, walk-tree}
 use Rattle.sound.specs.Codec.{slotWord, word-in}
-use Rattle.walk.specs.Arm.{index, tableAddress, fetch, Reached, at, away, says, reachFrom, reach, walk}
-use Rattle.walk.specs.Walk.{low-bits, slot-below}
+use Rattle.arm.specs.Arm.{index, tableAddress, fetch, Reached, at, away, says, reachFrom, reach, walk}
+use Rattle.arm.specs.Walk.{low-bits, slot-below}
 
 -- the slots that the walk of an address takes, by the levels left
 unfoldable pub slotsOf : ℕ → ℕ → ℕ

@@ -2,7 +2,7 @@
 use Prim.Native.Nat.{ℕ}
 use Rattle.pool.specs.State.{St, tables}
 use Rattle.pool.specs.declared.Handle.{Handle}
-use Rattle.walk.specs.Arm.{Walked, hole as armHole, block as armBlock, page as armPage, outside, walk}
+use Rattle.arm.specs.Arm.{Walked, hole as armHole, block as armBlock, page as armPage, outside, walk}
 
 -- the Arm walk of an address in the pool s
 abbrev pub walkOf : Handle → St → ℕ → Walked

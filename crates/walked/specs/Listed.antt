@@ -23,8 +23,8 @@ use Rattle.pool.specs.declared.Outcome.{Outcome}
 use Rattle.pool.specs.declared.Outcome.the-variants.{Accepted, Refused}
 use Rattle.verify.specs.Verify.{span, verify, InSpan, verified-forwards, verified-span}
 use Rattle.sound.specs.Decide.{decide-sound}
-use Rattle.walk.specs.Arm.{lowBit, at, away, says, reach}
-use Rattle.walk.specs.Walk.{size-is}
+use Rattle.arm.specs.Arm.{lowBit, at, away, says, reach}
+use Rattle.arm.specs.Walk.{size-is}
 use Rattle.walk.specs.LookUp.{answer, spanned, lookUpCall}
 use Rattle.lines.specs.Lines.{Line, linesOf}
 use Rattle.lines.specs.Cover.{Covers, covers-map, Meets, list-covers, nth, inside, ascending, holds, InLine, covered}

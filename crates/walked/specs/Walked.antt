@@ -16,8 +16,8 @@ use Rattle.forest.specs.Walk.{walkTree}
 use Rattle.sound.specs.Clauses.{InUse, levelAt, SoundPool}
 use Rattle.sound.specs.Codec.{shaped-placed, childOf, slotWord, word-in, rootTree}
 use Rattle.sound.specs.Hanging.{root-left, Leads, table-leads, leads-refers}
-use Rattle.walk.specs.Arm.{index, tableAddress, away, says, reach, walk}
-use Rattle.walk.specs.Walk.{slot-below, table-address}
+use Rattle.arm.specs.Arm.{index, tableAddress, away, says, reach, walk}
+use Rattle.arm.specs.Walk.{slot-below, table-address}
 use Rattle.walked.specs.Any.{slotsOf, met, inPool, tableOf, word, reach-reading}
 
 root-used : {h : Handle} {s : St} → Shaped h s → SoundPool h s → InUse s 0

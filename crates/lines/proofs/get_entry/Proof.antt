@@ -3,8 +3,8 @@ use mathlib.Core.Path.{_≡_, sym, ap, _∙_}
 use Prim.Native.Nat.{ℕ, _+_, _*_}
 use native.Mathlib.Omega.{arith}
 use lib.ListN.{getD}
-use Rattle.walk.specs.Arm.{index, fetch}
-use Rattle.walk.specs.Walk.{slot-below, index-is}
+use Rattle.arm.specs.Arm.{index, fetch}
+use Rattle.arm.specs.Walk.{slot-below, index-is}
 use Rattle.region.specs.Region.{entryIndex}
 use Rattle.lines.proofs.get_entry.Statement.{statement}
 use Rattle.lines.proofs.get_entry.Tie as tie

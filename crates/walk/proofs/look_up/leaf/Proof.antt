@@ -8,8 +8,8 @@ use Rattle.walk.proofs.look_up.leaf.Tie as tie
 use Rattle.walk.proofs.look_up.leaf.Reads as reads
 use Rattle.walk.proofs.look_up.leaf.Lts as lts
 use Rattle.entry.proofs.kind_of.Reads as kind-of-reads
-use Rattle.walk.proofs.look_up.frame.Reads as frame-reads
-use Rattle.walk.proofs.look_up.plain_flags.Reads as plain-flags-reads
+use Rattle.fields.proofs.frame.Reads as frame-reads
+use Rattle.fields.proofs.plain_flags.Reads as plain-flags-reads
 
 plain-flags-requires : tie.Need-plain-flags-requires
 plain-flags-requires c κs = search needs

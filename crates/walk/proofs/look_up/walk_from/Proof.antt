@@ -8,15 +8,15 @@ use Prim.Native.Nat.{ℕ, _+_, _*_, _-_, _≤_, _<_}
 use native.Mathlib.Omega.{arith}
 use lib.ListN.{getD}
 use Rattle.entry.specs.Sub.{sub-found}
-use Rattle.walk.specs.Arm.{reach, reachFrom, says, walk, fetch}
-use Rattle.walk.specs.Walk.{slotsOf, slots-at, slot-below, fetch-is, reach-table, reach-outside, reach-leaf}
+use Rattle.arm.specs.Arm.{reach, reachFrom, says, walk, fetch}
+use Rattle.arm.specs.Walk.{slotsOf, slots-at, slot-below, fetch-is, reach-table, reach-outside, reach-leaf}
 use Rattle.walk.proofs.look_up.walk_from.Statement.{statement}
 use Rattle.walk.proofs.look_up.walk_from.Tie as tie
 use Rattle.walk.proofs.look_up.walk_from.Reads as reads
 use Rattle.walk.proofs.look_up.walk_from.Lts as lts
 use Rattle.entry.proofs.subtable.Reads as subtable-reads
 use Rattle.walk.proofs.look_up.leaf.Reads as leaf-reads
-use Rattle.walk.proofs.look_up.slots_of.Reads as slots-of-reads
+use Rattle.fields.proofs.slots_of.Reads as slots-of-reads
 
 abbrev Inv-loop : tie.InvT-loop
 Inv-loop words tables handle va slots level₀ k₀ level k =

@@ -5,11 +5,11 @@ use native.Mathlib.Omega.{arith}
 use lib.Bits.{bitAnd, and-le-l, and-le-r}
 use Rattle.laws.specs.Size.{size-low, size-high, size-mod, size-offset}
 use Rattle.entry.specs.Word.{mask-address, address-below}
-use Rattle.walk.specs.Walk.{frame-masks}
-use Rattle.walk.proofs.look_up.frame.Statement.{statement}
-use Rattle.walk.proofs.look_up.frame.Tie as tie
-use Rattle.walk.proofs.look_up.frame.Reads as reads
-use Rattle.walk.proofs.look_up.frame.Lts as lts
+use Rattle.arm.specs.Walk.{frame-masks}
+use Rattle.fields.proofs.frame.Statement.{statement}
+use Rattle.fields.proofs.frame.Tie as tie
+use Rattle.fields.proofs.frame.Reads as reads
+use Rattle.fields.proofs.frame.Lts as lts
 use Rattle.address.proofs.granularity_at_level.Reads as granularity-at-level-reads
 
 granularity-at-level-requires : tie.Need-granularity-at-level-requires

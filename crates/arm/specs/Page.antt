@@ -15,8 +15,8 @@ use Rattle.laws.specs.Test.{eqb-cases}
 use Rattle.entry.specs.Word.{kindOf, Says, kind-says}
 use Rattle.entry.specs.declared.Kind.{Kind}
 use Rattle.entry.specs.declared.Kind.the-variants.{Table as table′, Block as block′, Page as page′, Hole as hole′}
-use Rattle.walk.specs.Arm.{bits, lowBit, tableAddress, frameOf, Reached, at, away, fetch, reachFrom, reach, Walked, hole, block, page, outside, says, walk}
-use Rattle.walk.specs.Walk.{index-is, low-bits, frame-is, says-hole, says-block, says-page}
+use Rattle.arm.specs.Arm.{bits, lowBit, tableAddress, frameOf, Reached, at, away, fetch, reachFrom, reach, Walked, hole, block, page, outside, says, walk}
+use Rattle.arm.specs.Walk.{index-is, low-bits, frame-is, says-hole, says-block, says-page}
 
 -- ---- within the levels
 

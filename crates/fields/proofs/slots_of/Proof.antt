@@ -1,12 +1,12 @@
 -- `slots_of`: each way through the code by its law. Assumes nothing.
 use mathlib.Core.Path.{refl}
-use Rattle.walk.specs.Arm.{bits, lowBit, index}
-use Rattle.walk.specs.Walk.{slotsOf}
+use Rattle.arm.specs.Arm.{bits, lowBit, index}
+use Rattle.arm.specs.Walk.{slotsOf}
 use borrow.Author.Needs.{needs}
-use Rattle.walk.proofs.look_up.slots_of.Statement.{statement}
-use Rattle.walk.proofs.look_up.slots_of.Tie as tie
-use Rattle.walk.proofs.look_up.slots_of.Reads as reads
-use Rattle.walk.proofs.look_up.slots_of.Lts as lts
+use Rattle.fields.proofs.slots_of.Statement.{statement}
+use Rattle.fields.proofs.slots_of.Tie as tie
+use Rattle.fields.proofs.slots_of.Reads as reads
+use Rattle.fields.proofs.slots_of.Lts as lts
 
 cast-s0 : tie.Need-cast-s0
 cast-s0 c = search needs

@@ -1,12 +1,12 @@
 -- `plain_flags`: each way through the code by its law. Assumes nothing.
 use mathlib.Core.Path.{ap, _∙_}
 use Prim.Native.Nat.{ℕ, _+_, _*_, _/_, _%_}
-use Rattle.walk.specs.Walk.{flags-is}
+use Rattle.arm.specs.Walk.{flags-is}
 use borrow.Author.Needs.{needs}
-use Rattle.walk.proofs.look_up.plain_flags.Statement.{statement}
-use Rattle.walk.proofs.look_up.plain_flags.Tie as tie
-use Rattle.walk.proofs.look_up.plain_flags.Reads as reads
-use Rattle.walk.proofs.look_up.plain_flags.Lts as lts
+use Rattle.fields.proofs.plain_flags.Statement.{statement}
+use Rattle.fields.proofs.plain_flags.Tie as tie
+use Rattle.fields.proofs.plain_flags.Reads as reads
+use Rattle.fields.proofs.plain_flags.Lts as lts
 use Rattle.entry.proofs.flags.Reads as flags-reads
 
 flags-requires : tie.Need-flags-requires

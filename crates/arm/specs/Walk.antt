@@ -16,7 +16,7 @@ use Rattle.entry.specs.Sub.{subOf, sub-leaf, sub-low, sub-high, sub-in}
 use Rattle.entry.specs.declared.Kind.the-variants.{Block as block′, Hole as hole′}
 use Rattle.entry.specs.declared.Sub.{Sub}
 use Rattle.entry.specs.declared.Sub.the-variants.{Table, Outside, Leaf}
-use Rattle.walk.specs.Arm.{bits, lowBit, index, tableAddress, frameOf, flagsIn, hole, block, page, Reached, at, away, says, fetch, reachFrom}
+use Rattle.arm.specs.Arm.{bits, lowBit, index, tableAddress, frameOf, flagsIn, hole, block, page, Reached, at, away, says, fetch, reachFrom}
 
 -- the slots of an address, by level
 unfoldable pub slotsOf : ℕ → List ℕ

@@ -12,7 +12,7 @@ ghost use Rattle.pool.specs.Refuse.{Shaped};
 ghost use Rattle.edit.specs.Range.{own, work, modifyRange};
 
 // Whether a chunk's entry is one of the table's own: a whole entry that is no table.
-pub fn is_own(level: usize, region: MemoryRegion, word: u64) -> bool
+fn is_own(level: usize, region: MemoryRegion, word: u64) -> bool
     ensures { λ r. ⌜ r ≡ own level region word ⌝ }
 {
     if word % 4 == 3 {

@@ -1,4 +1,3 @@
 -- Document 01, "Bench cases": the starred ones, proved about the definitions.
 pub mod Compacted
-pub mod Long
 pub mod Starred

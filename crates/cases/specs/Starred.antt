@@ -5,7 +5,7 @@ use Rattle.rows.specs.Bench.{fresh, Made, made, Holds, poolA, poolB, poolD, poo
 use Rattle.rows.specs.Edited.{Whole, Part, Still, case-I}
 use Rattle.rows.specs.Listed.{J, case-J}
 use Rattle.cases.specs.Compacted as compact
-use Rattle.cases.specs.Long.{long}
+use Rattle.long.specs.Long.{long}
 
 -- A to H of map, in the document's order
 abbrev pub Maps : Type 0

@@ -1,18 +1,14 @@
 // A page image: the eight bytes of each word that is not zero.
 use crate::say;
 use crate::say_hex;
-
-// A byte of the page; 0 past its end.
-fn page_byte(page: &[u8], at: usize) -> u8 {
-    if at < page.len() { page[at] } else { 0 }
-}
+use place::byte_at;
 
 // Whether a row's eight bytes are zero.
 fn is_zero(page: &[u8], at: usize) -> bool {
     let end = end_of(at);
     let mut place = at;
     while place < end {
-        if page_byte(page, place) != 0 {
+        if byte_at(page, place) != 0 {
             return false;
         }
         place += 1;
@@ -36,7 +32,7 @@ fn say_row(page: &[u8], at: usize) {
     let end = end_of(at);
     let mut place = at;
     while place < end {
-        say_byte(page_byte(page, place));
+        say_byte(byte_at(page, place));
         place += 1;
     }
 }

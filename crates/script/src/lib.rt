@@ -1,5 +1,5 @@
 // A script, line by line: the words of a line, and the numbers that they stand for.
-// Leans on libc's read alone. No function needs anything of its caller, and each ends on any bytes.
+// Leans on place for a byte, on libc's read for a line. No function needs anything of its caller, and each ends on any bytes.
 mod line;
 mod number;
 mod usage;
@@ -8,6 +8,7 @@ pub use line::Line;
 pub use line::read_line;
 use number::Number;
 use number::number_of;
+use place::byte_at;
 pub use usage::Ask;
 pub use usage::asked;
 
@@ -29,11 +30,6 @@ pub const MOST: usize = 6;
 
 // The place of a word that is not among the names.
 pub const NOWHERE: u64 = 64;
-
-// The byte at a place; a blank past the end.
-pub fn byte_at(text: &[u8], at: usize) -> u8 {
-    if at < text.len() { text[at] } else { b' ' }
-}
 
 // Whether a byte ends a run of blanks, or a word: a blank does, or the # of a comment.
 fn ends(byte: u8, blanks: bool) -> bool {

@@ -9,13 +9,6 @@ pub enum Line {
 // The length at which a line is taken as ended, whatever follows.
 const LONGEST: usize = 0x1_0000_0000;
 
-// A byte of the line, where there is room for it.
-fn put(text: &mut [u8; 256], at: usize, byte: u8) {
-    if at < 256 {
-        text[at] = byte;
-    }
-}
-
 // The next line, without its end; a carriage return is passed over.
 pub fn read_line(text: &mut [u8; 256]) -> Line {
     let mut one = [0u8; 1];
@@ -36,7 +29,7 @@ pub fn read_line(text: &mut [u8; 256]) -> Line {
         if byte == b'\r' {
             continue;
         }
-        put(text, length, byte);
+        place::put_byte(text, length, byte);
         length += 1;
     }
     Line::Length(length)

@@ -1,5 +1,5 @@
 // A number in a word: decimal, or hexadecimal after 0x; underscores part digits.
-use crate::byte_at;
+use place::byte_at;
 
 // What a word stands for; `why` is 0, or why it is no value, as in `Ask`.
 pub struct Number {

@@ -9,8 +9,7 @@ fn number_at(lines: &[u64], line: u64, column: u64) -> u64 {
     if 4 <= column {
         return 0;
     }
-    let at = (line * 4 + column) as usize;
-    if at < lines.len() { lines[at] } else { 0 }
+    place::word_at(lines, (line * 4 + column) as usize)
 }
 
 // Whether a line is an empty entry of a level.
@@ -137,12 +136,10 @@ pub fn say_words_not_zero(words: &[u64]) {
 
 // A word written by hand.
 pub fn put(words: &mut [u64], table: u64, slot: u64, value: u64) {
-    let at = place_of(words, table, slot);
-    if words.len() <= at {
-        return say_wrong(0);
+    if place::put_word(words, place_of(words, table, slot), value) {
+        return say_word(table, slot, value);
     }
-    words[at] = value;
-    say_word(table, slot, value);
+    say_wrong(0);
 }
 
 // The slot that refers to a table, by its ledger number: 0 of a free table, below 8 of the root.
@@ -181,16 +178,14 @@ pub fn say_ledger(ledger: &[u32]) {
 
 // A ledger number entered by hand: 32 bits of it.
 pub fn enter(ledger: &mut [u32], table: u64, number: u64) {
-    let at = table as usize;
-    if ledger.len() <= at {
-        return say_wrong(1);
-    }
     if 0xFFFF_FFFF < number {
         return say_wrong(2);
     }
     let entered = number as u32;
-    ledger[at] = entered;
-    say_entered(table, entered);
+    if place::put_number(ledger, table as usize, entered) {
+        return say_entered(table, entered);
+    }
+    say_wrong(1);
 }
 
 // A line of the list that a live modify fills.

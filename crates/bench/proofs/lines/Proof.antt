@@ -7,7 +7,7 @@ use Rattle.bench.proofs.lines.Statement.{statement}
 use Rattle.bench.proofs.lines.Tie as tie
 use Rattle.bench.proofs.lines.Reads as reads
 use Rattle.bench.proofs.lines.Lts as lts
-use Rattle.bench.proofs.echo.Reads as echo-reads
+use Rattle.session.proofs.echo.Reads as echo-reads
 use Rattle.bench.proofs.turn.Reads as turn-reads
 use Rattle.script.proofs.read_line.Reads as read-line-reads
 

@@ -6,7 +6,7 @@ use Rattle.report.proofs.page.is_zero.Tie as tie
 use Rattle.report.proofs.page.is_zero.Reads as reads
 use Rattle.report.proofs.page.is_zero.Lts as lts
 use Rattle.report.proofs.page.end_of.Reads as end-of-reads
-use Rattle.report.proofs.page.page_byte.Reads as page-byte-reads
+use Rattle.place.proofs.byte_at.Reads as byte-at-reads
 
 abbrev Inv-loop : tie.InvT-loop
 Inv-loop page at end place₀ place = Unit {0}
@@ -20,8 +20,8 @@ end-of-requires c κs = tt
 loop-holds : tie.Need-loop-holds Inv-loop μ-loop
 loop-holds c = tt
 
-page-byte-requires : tie.Need-page-byte-requires Inv-loop μ-loop
-page-byte-requires c κs = tt
+byte-at-requires : tie.Need-byte-at-requires Inv-loop μ-loop
+byte-at-requires c κs = tt
 
 returns : tie.Need-returns Inv-loop μ-loop
 returns c = tt
@@ -46,7 +46,7 @@ is-zero-spec =
     μ-loop
     end-of-requires
     loop-holds
-    page-byte-requires
+    byte-at-requires
     returns
     add-place
     loop-less

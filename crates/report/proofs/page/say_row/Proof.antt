@@ -6,7 +6,7 @@ use Rattle.report.proofs.page.say_row.Tie as tie
 use Rattle.report.proofs.page.say_row.Reads as reads
 use Rattle.report.proofs.page.say_row.Lts as lts
 use Rattle.report.proofs.page.end_of.Reads as end-of-reads
-use Rattle.report.proofs.page.page_byte.Reads as page-byte-reads
+use Rattle.place.proofs.byte_at.Reads as byte-at-reads
 use Rattle.report.proofs.page.say_byte.Reads as say-byte-reads
 
 abbrev Inv-loop : tie.InvT-loop
@@ -21,8 +21,8 @@ end-of-requires c κs = tt
 loop-holds : tie.Need-loop-holds Inv-loop μ-loop
 loop-holds c = tt
 
-page-byte-requires : tie.Need-page-byte-requires Inv-loop μ-loop
-page-byte-requires c κs = tt
+byte-at-requires : tie.Need-byte-at-requires Inv-loop μ-loop
+byte-at-requires c κs = tt
 
 say-byte-requires : tie.Need-say-byte-requires Inv-loop μ-loop
 say-byte-requires c κs = tt
@@ -47,7 +47,7 @@ say-row-spec =
     μ-loop
     end-of-requires
     loop-holds
-    page-byte-requires
+    byte-at-requires
     say-byte-requires
     add-place
     loop-less

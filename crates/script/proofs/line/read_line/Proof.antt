@@ -8,7 +8,7 @@ use Rattle.script.proofs.line.read_line.Tie as tie
 use Rattle.script.proofs.line.read_line.Reads as reads
 use Rattle.script.proofs.line.read_line.Lts as lts
 use Rattle.libc.proofs.read.Reads as read-reads
-use Rattle.script.proofs.line.put.Reads as put-reads
+use Rattle.place.proofs.put_byte.Reads as put-byte-reads
 
 abbrev Inv-loop : tie.InvT-loop
 Inv-loop text₀ one₀ l₀ passed₀ text one l passed = (length one ≡ 1) × (l ≤ passed)
@@ -46,8 +46,8 @@ loop-less c = omega arith
 loop-again : tie.Need-loop-again Inv-loop μ-loop
 loop-again c = omega arith
 
-put-requires : tie.Need-put-requires Inv-loop μ-loop
-put-requires c κs = tt
+put-byte-requires : tie.Need-put-byte-requires Inv-loop μ-loop
+put-byte-requires c κs = tt
 
 add-length : tie.Need-add-length Inv-loop μ-loop
 add-length c = omega arith
@@ -77,7 +77,7 @@ read-line-spec =
     returns-3
     loop-less
     loop-again
-    put-requires
+    put-byte-requires
     add-length
     loop-less-2
     loop-again-2

@@ -5,7 +5,7 @@ use Rattle.script.proofs.number.digits.Statement.{statement}
 use Rattle.script.proofs.number.digits.Tie as tie
 use Rattle.script.proofs.number.digits.Reads as reads
 use Rattle.script.proofs.number.digits.Lts as lts
-use Rattle.script.proofs.byte_at.Reads as byte-at-reads
+use Rattle.place.proofs.byte_at.Reads as byte-at-reads
 use Rattle.script.proofs.number.append.Reads as append-reads
 
 abbrev Inv-loop : tie.InvT-loop

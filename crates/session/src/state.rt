@@ -29,6 +29,17 @@ pub struct Answer {
     pub fourth: u64,
 }
 
+// What a call answered, to be kept.
+pub fn answered(refusal: u64, values: &[u64; 4]) -> Answer {
+    Answer {
+        refusal,
+        first: values[0],
+        second: values[1],
+        third: values[2],
+        fourth: values[3],
+    }
+}
+
 pub struct Bench {
     // The tables of the pool, 0 before the first make; then its handle.
     pub tables: u64,

@@ -1,6 +1,6 @@
 // What the call before must have answered.
-use crate::call::ALL_VALUES;
-use crate::call::say_answer;
+use crate::say::ALL_VALUES;
+use crate::say::say_answer;
 use crate::state::Answer;
 use crate::state::Bench;
 use crate::state::NO_CALL;

@@ -1,40 +1,13 @@
-// The calls. Each says its answer in words, and gives it back.
-use crate::state::Answer;
-use crate::state::Args;
-use crate::state::Handle;
-
-// How an accepted call's answer is said.
-const DONE: u64 = 0;
-
-const IN_USE: u64 = 1;
-
-const ENTRIES: u64 = 2;
-
-pub const ALL_VALUES: u64 = 3;
-
-// An answer. Values that an accepted call does not have are 0.
-pub fn say_answer(form: u64, refusal: u64, answer: &[u64; 4]) {
-    if refusal != 0 {
-        return report::say_refusal(refusal, answer);
-    }
-    let forms = b"  accepted
-  accepted: tables in use $
-  accepted: entries $
-  accepted, with # # # #
-";
-    report::say_row(forms, form, answer);
-}
-
-// What a call answered, to be kept.
-fn answered(refusal: u64, values: &[u64; 4]) -> Answer {
-    Answer {
-        refusal,
-        first: values[0],
-        second: values[1],
-        third: values[2],
-        fourth: values[3],
-    }
-}
+// The library's calls by their outside names, on the bench's pool: each answer is said in words and kept.
+// No function needs anything of its caller.
+use session::Answer;
+use session::Args;
+use session::DONE;
+use session::ENTRIES;
+use session::Handle;
+use session::IN_USE;
+use session::answered;
+use session::say_answer;
 
 // `make TABLES BASE LEVEL RANGE`, on as many tables.
 fn make(words: &mut [u64], ledger: &mut [u32], handle: Handle) -> Answer {

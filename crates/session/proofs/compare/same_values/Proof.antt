@@ -1,11 +1,11 @@
 -- `same_values` ends: it stops past the last value. Assumes nothing.
 use Prim.Native.Nat.{_-_, _≤_}
 use native.Mathlib.Omega.{arith}
-use Rattle.calls.proofs.compare.same_values.Statement.{statement}
-use Rattle.calls.proofs.compare.same_values.Tie as tie
-use Rattle.calls.proofs.compare.same_values.Reads as reads
-use Rattle.calls.proofs.compare.same_values.Lts as lts
-use Rattle.calls.proofs.compare.value_at.Reads as value-at-reads
+use Rattle.session.proofs.compare.same_values.Statement.{statement}
+use Rattle.session.proofs.compare.same_values.Tie as tie
+use Rattle.session.proofs.compare.same_values.Reads as reads
+use Rattle.session.proofs.compare.same_values.Lts as lts
+use Rattle.session.proofs.compare.value_at.Reads as value-at-reads
 
 abbrev Inv-loop : tie.InvT-loop
 Inv-loop bench values from count place₀ number₀ place number = (number ≤ place)

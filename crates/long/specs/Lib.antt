@@ -1,0 +1,2 @@
+-- Document 01, "Bench cases": the starred ones that go over whole tables.
+pub mod Long

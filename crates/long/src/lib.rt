@@ -1,0 +1,1 @@
+// Theorems alone: the starred bench cases that go over whole tables stand in specs/.

@@ -1,20 +1,15 @@
-// Putting a map down in one table and the tables below it: map_range of PageTableWithLevel.
-use address::PhysicalAddress;
-use address::VirtualAddress;
+// What a rule does to one slot: the parts of map_range of PageTableWithLevel that stay in one table.
 use entry::Sub;
-use pool::Found;
 use pool::Handle;
-use rules::Map;
 use rules::Rule;
 ghost use mathlib.Core.Bool.{false};
 ghost use mathlib.Core.Path.{_≡_};
-ghost use Prim.Native.Nat.{_*_, _-_, _%_, _≤_, _<_};
+ghost use Prim.Native.Nat.{_*_, _%_, _<_};
 ghost use lib.ListN.{length};
 ghost use Rattle.pool.specs.State.{st};
 ghost use Rattle.pool.specs.Refuse.{Shaped};
-ghost use Rattle.put.specs.Put.{dropEntry, byRule, mapRange};
+ghost use Rattle.put.specs.Put.{dropEntry, byRule};
 ghost use Rattle.put.specs.Laws.{Stays};
-ghost use Rattle.rules.specs.Fit.{Fit};
 
 // The subtree that a word referred to is freed.
 fn drop_entry(words: &mut [u64], ledger: &mut [u32], handle: Handle, level: usize, word: u64)
@@ -29,7 +24,7 @@ fn drop_entry(words: &mut [u64], ledger: &mut [u32], handle: Handle, level: usiz
 }
 
 // A rule that goes no lower, carried out on slot i of table k. Whether a table was taken or freed, now or before.
-fn put_entry(
+pub fn put_entry(
     words: &mut [u64],
     ledger: &mut [u32],
     handle: Handle,
@@ -60,7 +55,7 @@ fn put_entry(
 }
 
 // Whether a table was taken or freed: before, for a word that was none, or in the tables below.
-fn ledger_changed(before: bool, word: u64, below: bool) -> bool
+pub fn ledger_changed(before: bool, word: u64, below: bool) -> bool
     ensures { λ r. ⌜ (r ≡ false → (before ≡ false) × (word % 4 ≡ 3) × (below ≡ false)) ⌝ }
 {
     if before {
@@ -70,44 +65,4 @@ fn ledger_changed(before: bool, word: u64, below: bool) -> bool
         return true;
     }
     below
-}
-
-// Every chunk of the map in table k, ascending. Whether a table was taken or freed.
-pub fn map_range(
-    words: &mut [u64],
-    ledger: &mut [u32],
-    handle: Handle,
-    k: usize,
-    level: usize,
-    map: Map,
-) -> bool
-    requires { ⌜ Shaped handle (st (now words) (now ledger)) × (k < length (now ledger)) × (level ≤ 3) × Fit map ⌝ }
-    ensures { λ r. ⌜ (st (now (words .exit)) (now (ledger .exit)) ≡ mapRange (3 - level) handle k map (st (now (words .entry)) (now (ledger .entry))))
-        × (r ≡ false → now (ledger .exit) ≡ now (ledger .entry)) ⌝ }
-{
-    let end = map.region.end.0;
-    let mut at = map.region.start.0;
-    let mut frame = map.frame.0;
-    let mut changed = false;
-    while at < end {
-        let stop = region::chunk_end(at, end, level);
-        let i = region::entry_index(at, level);
-        let start = VirtualAddress(at);
-        let chunk = rules::chunk_of(map, start, VirtualAddress(stop), PhysicalAddress(frame));
-        frame += stop - at;
-        at = stop;
-        let word = words[512 * k + i];
-        let rule = rules::rule_of(level, chunk, word);
-        let Rule::Down = rule else {
-            changed = put_entry(words, ledger, handle, level, k, i, rule, changed);
-            continue;
-        };
-        let under = split::descend(words, ledger, handle, level, k, i);
-        let Found::At(j) = under else {
-            continue;
-        };
-        let below = map_range(words, ledger, handle, j, level + 1, chunk);
-        changed = ledger_changed(changed, word, below);
-    }
-    changed
 }

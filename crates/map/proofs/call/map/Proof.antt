@@ -15,7 +15,7 @@ use Rattle.map.proofs.call.map.Tie as tie
 use Rattle.map.proofs.call.map.Reads as reads
 use Rattle.map.proofs.call.map.Lts as lts
 use Rattle.ask.proofs.verify_map.Reads as verify-map-reads
-use Rattle.map.proofs.call.map_sound.Reads as map-sound-reads
+use Rattle.room.proofs.map_sound.Reads as map-sound-reads
 use Rattle.pool.proofs.shape.is_shaped.Reads as is-shaped-reads
 use Rattle.region.proofs.MemoryRegion.new.Reads as new-reads
 

@@ -17,13 +17,13 @@ use Rattle.need.specs.Closed.{closed}
 use Rattle.count.specs.Laws.{over-past, over-within}
 use Rattle.need.specs.SoundCount.{closed-needed}
 use Rattle.mapping.specs.Call.{sound-not, sound-full, sound-mapped}
-use Rattle.map.proofs.call.map_sound.Statement.{statement}
-use Rattle.map.proofs.call.map_sound.Tie as tie
-use Rattle.map.proofs.call.map_sound.Reads as reads
-use Rattle.map.proofs.call.map_sound.Lts as lts
+use Rattle.room.proofs.map_sound.Statement.{statement}
+use Rattle.room.proofs.map_sound.Tie as tie
+use Rattle.room.proofs.map_sound.Reads as reads
+use Rattle.room.proofs.map_sound.Lts as lts
 use Rattle.checker.proofs.count_sound.Reads as count-sound-reads
 use Rattle.count.proofs.count_over.Reads as count-over-reads
-use Rattle.map.proofs.call.put_down.Reads as put-down-reads
+use Rattle.room.proofs.put_down.Reads as put-down-reads
 
 -- refusal 9's count, as it is computed, is document 01's in a sound pool
 counts : (h : Handle) (s : St) (m : Map) → Shaped h s → soundb h s ≡ true → closed (3 - h .level) h s 0 m ≡ needed (3 - h .level) h s 0 m

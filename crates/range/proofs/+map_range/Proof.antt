@@ -12,26 +12,26 @@ use Rattle.rules.specs.declared.Map.{Map}
 use Rattle.rules.specs.Rules.{chunkMap}
 use Rattle.rules.specs.Fit.{Fit, chunk-paged, chunk-fit, rest-paged}
 use Rattle.rules.specs.Laws.{drop-high, down-high}
 use Rattle.put.specs.Put.{eachChunk}
 use Rattle.put.specs.Laws.{below-kept, below-nothing}
 use Rattle.put.specs.Range.{stepAt, map-open, each-done, each-step, chunk-here, chunk-none, chunk-into}
 use Rattle.split.specs.Split.{below-inside}
-use Rattle.put.proofs.Tags.{no-down}
+use Rattle.range.proofs.Tags.{no-down}
 use Prim.Native.Nat.{ℕ, _<_}
 use borrow.Fn.Kinds.{In}
 use borrow.Fn.PlainCycle.{Measures, is, falls, and}
-use Rattle.put.proofs.map_range.Reads as map-range
-use Rattle.put.proofs.map_range.Kinds as map-range-kinds
-use Rattle.put.proofs.+map_range.Lts-map_range as map-range-lts
+use Rattle.range.proofs.map_range.Reads as map-range
+use Rattle.range.proofs.map_range.Kinds as map-range-kinds
+use Rattle.range.proofs.+map_range.Lts-map_range as map-range-lts
 use Rattle.split.proofs.descend.Reads as descend-reads
 use Rattle.put.proofs.ledger_changed.Reads as ledger-changed-reads
 use Rattle.put.proofs.put_entry.Reads as put-entry-reads
 use Rattle.rules.proofs.chunk_of.Reads as chunk-of-reads
 use Rattle.rules.proofs.rule_of.Reads as rule-of-reads
 use Rattle.region.proofs.chunk_end.Reads as chunk-end-reads
 use Rattle.region.proofs.entry_index.Reads as entry-index-reads
-use Rattle.put.proofs.+map_range.{statement}
-use Rattle.put.proofs.+map_range.Tie.{close}
+use Rattle.range.proofs.+map_range.{statement}
+use Rattle.range.proofs.+map_range.Tie.{close}
 
 abbrev μ-map-range : Measures 2 map-range-kinds.ps ℕ
 μ-map-range κs a = 3 - a .1 .1 .1 .1 .0

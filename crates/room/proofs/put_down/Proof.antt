@@ -7,11 +7,11 @@ use Rattle.pool.specs.State.{st}
 use Rattle.pool.specs.Number.{used}
 use Rattle.pool.specs.Refuse.{maxTables}
 use Rattle.mapping.specs.Call.{put-down}
-use Rattle.map.proofs.call.put_down.Statement.{statement}
-use Rattle.map.proofs.call.put_down.Tie as tie
-use Rattle.map.proofs.call.put_down.Reads as reads
-use Rattle.map.proofs.call.put_down.Lts as lts
-use Rattle.put.proofs.map_range.Reads as map-range-reads
+use Rattle.room.proofs.put_down.Statement.{statement}
+use Rattle.room.proofs.put_down.Tie as tie
+use Rattle.room.proofs.put_down.Reads as reads
+use Rattle.room.proofs.put_down.Lts as lts
+use Rattle.range.proofs.map_range.Reads as map-range-reads
 use Rattle.lead.proofs.lowest_table.Reads as lowest-table-reads
 use Rattle.pool.proofs.ledger.count_used.Reads as count-used-reads
 

@@ -1,5 +1,4 @@
--- The pool check: the soundness test as it is run, and that it is the soundness test.
-pub mod Stream
+-- The pool check: the soundness test as it is run is the soundness test.
 pub mod Row
 pub mod Named
 pub mod Counted

@@ -1,44 +1,23 @@
--- Laws that the check's loops cite: one for each way through a table and all tables. Leans on `Stream`. Assumes nothing.
+-- From the pass to soundness. Leans on `Counted`. Assumes nothing.
 use mathlib.Core.Path.{_≡_, sym, ap, _∙_}
-use mathlib.Core.Bool.{true, false, _&&_}
+use mathlib.Core.Bool.{true, false}
 use Prim.Native.Nat.{ℕ, _+_, _*_, _≤_, _<_}
 use native.Mathlib.Omega.{arith}
-use lib.Dec.{T, eqb}
+use lib.Dec.{eqb}
 use lib.ListN.{length}
 use Rattle.laws.specs.Part.{length-part}
 use Rattle.laws.specs.Sum.{sum, sum-most}
-use Rattle.laws.specs.Test.{is-true, is-false, and-r, allBelow, all-fails}
+use Rattle.laws.specs.Test.{allBelow}
 use Rattle.pool.specs.State.{St, tables, numberAt}
 use Rattle.pool.specs.Number.{used}
 use Rattle.pool.specs.Refuse.{Shaped}
-use Rattle.pool.specs.Sound.{tableb, soundb}
+use Rattle.pool.specs.Sound.{soundb}
 use Rattle.scan.specs.Answer.{count-below, passed-says, failed-says}
-use Rattle.checker.specs.Stream.{runWords, runPasses, runLinks, tablePasses, tableLinks, tablesRun, streamb}
+use Rattle.pass.specs.Stream.{runWords, runLinks, tablePasses, tableLinks, tablesRun, streamb}
 use Rattle.checker.specs.Counted.{stream-sound}
 use Rattle.pool.specs.declared.Handle.{Handle}
 use Rattle.scan.specs.declared.Run.{Run}
 use Rattle.scan.specs.declared.Run.the-variants.{Passed, Failed}
-
-pub tables-passed : (h : Handle) (s : St) (links : ℕ) → T (allBelow (tables s) (tablePasses h s)) → links ≡ sum (tables s) (tableLinks s) → Passed links ≡ tablesRun h s
-unfolding tablesRun
-tables-passed h s links t e = rw (is-true (allBelow (tables s) (tablePasses h s)) t) (ap Passed e)
-
--- a table whose number is wrong, or one of whose runs fails
-pub tables-failed : (h : Handle) (s : St) (k : ℕ) → k < tables s → tablePasses h s k ≡ false → Failed ≡ tablesRun h s
-unfolding tablesRun
-tables-failed h s k l e = rw (all-fails (tables s) (tablePasses h s) k l e)
-
-pub number-fails : (h : Handle) (s : St) (k : ℕ) → tableb h s k ≡ false → tablePasses h s k ≡ false
-unfolding tablePasses
-number-fails h s k e = rw e
-
-pub run-fails : (h : Handle) (s : St) (k r : ℕ) → r < 4 → runPasses h s k r ≡ false → tablePasses h s k ≡ false
-unfolding tablePasses
-run-fails h s k r l e = is-false (tableb h s k && allBelow 4 (runPasses h s k)) (λ t. rw (all-fails 4 (runPasses h s k) r l e) at (and-r (tableb h s k) (allBelow 4 (runPasses h s k)) t))
-
-pub table-passes : (h : Handle) (s : St) (k : ℕ) → tableb h s k ≡ true → T (allBelow 4 (runPasses h s k)) → T (tablePasses h s k)
-unfolding tablePasses
-table-passes h s k e t = rw e t
 
 -- at most 512 links a table
 links-few : (s : St) (k : ℕ) → length (s .words) ≡ 512 * tables s → k < tables s → tableLinks s k ≤ 512
@@ -47,8 +26,6 @@ links-few s k sized l = sum-most 4 128 (runLinks s k) (λ r h.
     let few = count-below (numberAt s k) (runWords s k r) in
     let long = length-part (512 * k + 128 * r) 128 (s .words) (omega arith) in
     omega arith)
-
--- ---- from the scan of all tables to soundness
 
 module _ (h : Handle) (s : St) (shape : Shaped h s) {r : Run} (is : r ≡ tablesRun h s) where
   scan-says : (links : ℕ) → r ≡ Passed links → (allBelow (tables s) (tablePasses h s) ≡ true) × (links ≡ sum (tables s) (tableLinks s))

@@ -1,7 +1,6 @@
 // A script, line by line: the words of a line, and the numbers that they stand for.
 // Leans on place for a byte, on libc's read for a line. No function needs anything of its caller, and each ends on any bytes.
 mod line;
-mod number;
 mod usage;
 
 pub use line::Line;

@@ -12,7 +12,7 @@ use Rattle.checker.proofs.count_sound.Statement.{statement}
 use Rattle.checker.proofs.count_sound.Tie as tie
 use Rattle.checker.proofs.count_sound.Reads as reads
 use Rattle.checker.proofs.count_sound.Lts as lts
-use Rattle.checker.proofs.scan_tables.Reads as scan-tables-reads
+use Rattle.pass.proofs.scan_tables.Reads as scan-tables-reads
 use Rattle.pool.proofs.ledger.count_used.Reads as count-used-reads
 
 scan-tables-requires : tie.Need-scan-tables-requires

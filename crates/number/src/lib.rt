@@ -1,13 +1,14 @@
 // A number in a word: decimal, or hexadecimal after 0x; underscores part digits.
+// Leans on place for a byte. No function needs anything of its caller.
 use place::byte_at;
 
-// What a word stands for; `why` is 0, or why it is no value, as in `Ask`.
+// What a word stands for; `why` is 0, or why it is no value, as in `Ask` of script.
 pub struct Number {
     pub why: u64,
     pub value: u64,
 }
 
-// Why a word is no value, as in `Ask`: above 2^64 - 1; no number.
+// Why a word is no value, as in `Ask` of script: above 2^64 - 1; no number.
 const TOO_LARGE: u64 = 4;
 
 const NO_NUMBER: u64 = 5;

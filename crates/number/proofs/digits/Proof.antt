@@ -1,12 +1,12 @@
 -- `digits` ends: it stops at the end of the word. Assumes nothing.
 use Prim.Native.Nat.{_-_}
 use native.Mathlib.Omega.{arith}
-use Rattle.script.proofs.number.digits.Statement.{statement}
-use Rattle.script.proofs.number.digits.Tie as tie
-use Rattle.script.proofs.number.digits.Reads as reads
-use Rattle.script.proofs.number.digits.Lts as lts
+use Rattle.number.proofs.digits.Statement.{statement}
+use Rattle.number.proofs.digits.Tie as tie
+use Rattle.number.proofs.digits.Reads as reads
+use Rattle.number.proofs.digits.Lts as lts
 use Rattle.place.proofs.byte_at.Reads as byte-at-reads
-use Rattle.script.proofs.number.append.Reads as append-reads
+use Rattle.number.proofs.append.Reads as append-reads
 
 abbrev Inv-loop : tie.InvT-loop
 Inv-loop text start end hex number₀ place₀ number place = Unit {0}

@@ -11,15 +11,15 @@ use Rattle.laws.specs.Test.{allBelow, all-none, all-more}
 use Rattle.pool.specs.State.{st, tables, numberAt}
 use Rattle.pool.specs.Refuse.{maxTables}
 use Rattle.pool.specs.Sound.{flagSet}
-use Rattle.checker.specs.Stream.{runWords, runPasses, runLinks, tablePasses, tableLinks}
+use Rattle.pass.specs.Stream.{runWords, runPasses, runLinks, tablePasses, tableLinks}
 use Rattle.scan.specs.Words.{runOf}
 use Rattle.scan.specs.Mask.{PlainSet, el1-plain}
 use Rattle.scan.specs.Answer.{count-below, run-passed, run-failed}
-use Rattle.checker.specs.Scan.{tables-passed, tables-failed, number-fails, run-fails, table-passes}
-use Rattle.checker.proofs.scan_tables.Statement.{statement}
-use Rattle.checker.proofs.scan_tables.Tie as tie
-use Rattle.checker.proofs.scan_tables.Reads as reads
-use Rattle.checker.proofs.scan_tables.Lts as lts
+use Rattle.pass.specs.Tables.{tables-passed, tables-failed, number-fails, run-fails, table-passes}
+use Rattle.pass.proofs.scan_tables.Statement.{statement}
+use Rattle.pass.proofs.scan_tables.Tie as tie
+use Rattle.pass.proofs.scan_tables.Reads as reads
+use Rattle.pass.proofs.scan_tables.Lts as lts
 use Rattle.pool.proofs.shape.flag_set.Reads as flag-set-reads
 use Rattle.scan.proofs.scan.Reads as scan-reads
 use Rattle.hang.proofs.table_holds.Reads as table-holds-reads

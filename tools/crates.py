@@ -18,7 +18,7 @@ def read_times(path):
 def read_table():
     text = open('docs/ARCHITECTURE.md').read()
     rows = text[text.index('| Crate | leans on |'):].split('\n\n')[0].split('\n')[2:]
-    leans = {'laws': [], 'place': []}
+    leans = {'laws': [], 'reach': []}
     for row in rows:
         names, below = (cell.split(', ') for cell in row.strip('| ').split(' | '))
         leans.update({name: below for name in names})

@@ -6,6 +6,7 @@ use session::DONE;
 use session::ENTRIES;
 use session::Handle;
 use session::IN_USE;
+use session::MAKE;
 use session::answered;
 use session::say_answer;
 
@@ -180,7 +181,7 @@ pub fn write(
     handle: Handle,
     args: Args,
 ) -> Answer {
-    if command == 9 {
+    if command == MAKE {
         return make(words, ledger, handle);
     }
     if command < 12 {

@@ -17,11 +17,15 @@ use Rattle.pool.specs.Number.{rootNumber, parentOf, used}
 use Rattle.pool.specs.Refuse.{Shaped}
 use Rattle.pool.specs.Sound.{namesb, hangsb, tableb, linkb, slotb, soundb, names-says}
 use Rattle.scan.specs.Answer.{count-most}
-use Rattle.pass.specs.Stream.{runPasses, tablePasses, tableLinks, streamb}
+use Rattle.pass.specs.Stream.{runPasses, tablePasses, tableLinks}
 use Rattle.checker.specs.Row.{wordIn, linkIn, passIn, used-sum, all-links, runs-to, runs-of}
 use Rattle.hang.specs.Hang.{Named, Hangs, hangs-to}
 use Rattle.checker.specs.Named.{slot-passes, slot-links, slot-of, count-one, place, named-in, links-to, links-of, namedAt, named-yes, named-says, named-no}
 use Rattle.pool.specs.declared.Handle.{Handle}
+
+-- every table passes, and there are as many links as used tables but the root
+unfoldable pub streamb : Handle → St → Bool
+streamb h s = allBelow (tables s) (tablePasses h s) && eqb (sum (tables s) (tableLinks s) + 1) (used (s .ledger))
 
 -- ---- the table words counted
 

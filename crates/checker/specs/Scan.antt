@@ -13,8 +13,8 @@ use Rattle.pool.specs.Number.{used}
 use Rattle.pool.specs.Refuse.{Shaped}
 use Rattle.pool.specs.Sound.{soundb}
 use Rattle.scan.specs.Answer.{count-below, passed-says, failed-says}
-use Rattle.pass.specs.Stream.{runWords, runLinks, tablePasses, tableLinks, tablesRun, streamb}
-use Rattle.checker.specs.Counted.{stream-sound}
+use Rattle.pass.specs.Stream.{runWords, runLinks, tablePasses, tableLinks, tablesRun}
+use Rattle.checker.specs.Counted.{streamb, stream-sound}
 use Rattle.pool.specs.declared.Handle.{Handle}
 use Rattle.scan.specs.declared.Run.{Run}
 use Rattle.scan.specs.declared.Run.the-variants.{Passed, Failed}

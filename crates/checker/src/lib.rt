@@ -1,4 +1,4 @@
-// The pool check: it accepts exactly the sound pools, whoever wrote the words, and reads each word once.
+// The pool check: it accepts exactly the sound pools, whoever wrote the words, in one pass over them.
 use pool::Found;
 use pool::Handle;
 use pool::Outcome;

@@ -1,6 +1,6 @@
 // A number in a word: decimal, or hexadecimal after 0x; underscores part digits.
-// Leans on place for a byte. No function needs anything of its caller.
-use place::byte_at;
+// Leans on reach for a byte. No function needs anything of its caller.
+use reach::byte_at;
 
 // What a word stands for; `why` is 0, or why it is no value, as in `Ask` of script.
 pub struct Number {

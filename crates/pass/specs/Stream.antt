@@ -1,15 +1,11 @@
--- The soundness test as the check runs it, each word read once, a table in four runs.
--- Where every used table hangs, as many table words as tables but the root are links, so the links need no look at the ledger.
--- Assumes nothing.
+-- The pass of the pool check: every table's number, then its words in four runs. Assumes nothing.
 use mathlib.Core.Bool.{Bool, cond, _&&_}
 use mathlib.Core.List.{List}
 use Prim.Native.Nat.{ℕ, _+_, _*_}
-use lib.Dec.{eqb}
 use Rattle.laws.specs.Part.{partOf}
 use Rattle.laws.specs.Sum.{sum}
 use Rattle.laws.specs.Test.{allBelow}
 use Rattle.pool.specs.State.{St, tables, numberAt}
-use Rattle.pool.specs.Number.{used}
 use Rattle.pool.specs.Sound.{flagSet, tableb}
 use Rattle.scan.specs.Words.{passAll, countAll}
 use Rattle.pool.specs.declared.Handle.{Handle}
@@ -31,10 +27,6 @@ tablePasses h s k = tableb h s k && allBelow 4 (runPasses h s k)
 
 unfoldable pub tableLinks : St → ℕ → ℕ
 tableLinks s k = sum 4 (runLinks s k)
-
--- every table passes, and there are as many links as used tables but the root
-unfoldable pub streamb : Handle → St → Bool
-streamb h s = allBelow (tables s) (tablePasses h s) && eqb (sum (tables s) (tableLinks s) + 1) (used (s .ledger))
 
 -- the links of all tables, if all pass
 unfoldable pub tablesRun : Handle → St → Run

@@ -1,4 +1,4 @@
-// The pass of the pool check: every table's number and every word, each read once.
+// The pass of the pool check: every table's number, then its words in four runs.
 use pool::Handle;
 use pool::shape;
 use scan::Run;

@@ -1,4 +1,4 @@
-// What a rule does to one slot: the parts of map_range of PageTableWithLevel that stay in one table.
+// What a rule that goes no lower does: a word is written, a subtree freed. Parts of map_range of PageTableWithLevel.
 use entry::Sub;
 use pool::Handle;
 use rules::Rule;

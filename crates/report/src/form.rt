@@ -36,7 +36,7 @@ pub fn say_form(forms: &[u8], number: u64, values: &[u64; 4]) {
     let mut place = line.start;
     let mut next = 0;
     while place < end {
-        next = say_byte(place::byte_at(forms, place), values, next);
+        next = say_byte(reach::byte_at(forms, place), values, next);
         place += 1;
     }
 }

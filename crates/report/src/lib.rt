@@ -1,5 +1,5 @@
 // Answers in words that a person reads, written to standard output.
-// Leans on script for the lines of a text. No function needs anything of its caller.
+// Leans on script for the lines of a text, on reach for a byte. No function needs anything of its caller.
 mod entry;
 mod form;
 mod page;

@@ -1,7 +1,7 @@
 // A page image: the eight bytes of each word that is not zero.
 use crate::say;
 use crate::say_hex;
-use place::byte_at;
+use reach::byte_at;
 
 // Whether a row's eight bytes are zero.
 fn is_zero(page: &[u8], at: usize) -> bool {

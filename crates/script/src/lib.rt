@@ -1,5 +1,5 @@
 // A script, line by line: the words of a line, and the numbers that they stand for.
-// Leans on place for a byte, on libc's read for a line. No function needs anything of its caller, and each ends on any bytes.
+// Leans on number for a number, on reach for a byte, on libc's read for a line. No function needs anything of its caller, and each ends on any bytes.
 mod line;
 mod usage;
 
@@ -7,7 +7,7 @@ pub use line::Line;
 pub use line::read_line;
 use number::Number;
 use number::number_of;
-use place::byte_at;
+use reach::byte_at;
 pub use usage::Ask;
 pub use usage::asked;
 

@@ -29,7 +29,7 @@ pub fn read_line(text: &mut [u8; 256]) -> Line {
         if byte == b'\r' {
             continue;
         }
-        place::put_byte(text, length, byte);
+        reach::put_byte(text, length, byte);
         length += 1;
     }
     Line::Length(length)

@@ -4,7 +4,7 @@ use crate::state::Args;
 use crate::state::Bench;
 use crate::state::Handle;
 
-// The first command that writes.
+// The first call that writes.
 pub const MAKE: u64 = 9;
 
 // What shows the pool as it stands, or is written by hand: 1 words, 2 ledger, 3 put, 4 enter.

@@ -8,7 +8,7 @@ fn done(written: bool) -> u64 {
 
 // A word of the pool, or a number of the list.
 pub fn put_word(words: &mut [u64], place: u64, word: u64) -> u64 {
-    done(place::put_word(words, place as usize, word))
+    done(reach::put_word(words, place as usize, word))
 }
 
 // A number of the ledger; it has 32 bits.
@@ -16,5 +16,5 @@ pub fn put_number(ledger: &mut [u32], place: u64, number: u64) -> u64 {
     if 0xFFFF_FFFF < number {
         return NO_CALL;
     }
-    done(place::put_number(ledger, place as usize, number as u32))
+    done(reach::put_number(ledger, place as usize, number as u32))
 }

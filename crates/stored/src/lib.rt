@@ -1,5 +1,5 @@
 // A stored list of calls with their answers: its lines by kind, the sum of what a call leaves, and the tallies of what agrees.
-// Leans on script for a line and report for a name. No function needs anything of its caller.
+// Leans on script for a line, on report for a name, on reach for what another hand writes. No function needs anything of its caller.
 mod call;
 mod hand;
 pub mod kind;

@@ -71,7 +71,7 @@ pub fn numbers_of(text: &[u8; 256], length: usize, asked: usize, numbers: &mut [
     let mut count = 0;
     let mut place = 1;
     while place < length {
-        count = step(numbers, count, asked, place::byte_at(text, place));
+        count = step(numbers, count, asked, reach::byte_at(text, place));
         place += 1;
     }
     count

@@ -62,7 +62,7 @@ pub fn page(page: &[u8; 4097], length: usize) -> u64 {
     let mut sum = START;
     let mut place = 0;
     while place < length {
-        sum = mix(sum, widest(place::byte_at(page, place)));
+        sum = mix(sum, widest(reach::byte_at(page, place)));
         place += 1;
     }
     sum

@@ -1,5 +1,5 @@
 // What stands in the words and the ledger of a pool and in a list, in words that a person reads; and what is put there by hand.
-// Leans on report. No function needs anything of its caller.
+// Leans on report for the words, on reach for a word at any place. No function needs anything of its caller.
 
 // A number of a list's line; 0 past its end.
 fn number_at(lines: &[u64], line: u64, column: u64) -> u64 {
@@ -9,7 +9,7 @@ fn number_at(lines: &[u64], line: u64, column: u64) -> u64 {
     if 4 <= column {
         return 0;
     }
-    place::word_at(lines, (line * 4 + column) as usize)
+    reach::word_at(lines, (line * 4 + column) as usize)
 }
 
 // Whether a line is an empty entry of a level.
@@ -136,7 +136,7 @@ pub fn say_words_not_zero(words: &[u64]) {
 
 // A word written by hand.
 pub fn put(words: &mut [u64], table: u64, slot: u64, value: u64) {
-    if place::put_word(words, place_of(words, table, slot), value) {
+    if reach::put_word(words, place_of(words, table, slot), value) {
         return say_word(table, slot, value);
     }
     say_wrong(0);
@@ -178,14 +178,16 @@ pub fn say_ledger(ledger: &[u32]) {
 
 // A ledger number entered by hand: 32 bits of it.
 pub fn enter(ledger: &mut [u32], table: u64, number: u64) {
+    let at = table as usize;
+    if ledger.len() <= at {
+        return say_wrong(1);
+    }
     if 0xFFFF_FFFF < number {
         return say_wrong(2);
     }
     let entered = number as u32;
-    if place::put_number(ledger, table as usize, entered) {
-        return say_entered(table, entered);
-    }
-    say_wrong(1);
+    ledger[at] = entered;
+    say_entered(table, entered);
 }
 
 // A line of the list that a live modify fills.

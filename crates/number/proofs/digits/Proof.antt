@@ -5,7 +5,7 @@ use Rattle.number.proofs.digits.Statement.{statement}
 use Rattle.number.proofs.digits.Tie as tie
 use Rattle.number.proofs.digits.Reads as reads
 use Rattle.number.proofs.digits.Lts as lts
-use Rattle.place.proofs.byte_at.Reads as byte-at-reads
+use Rattle.reach.proofs.byte_at.Reads as byte-at-reads
 use Rattle.number.proofs.append.Reads as append-reads
 
 abbrev Inv-loop : tie.InvT-loop

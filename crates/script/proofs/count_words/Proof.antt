@@ -5,7 +5,7 @@ use Rattle.script.proofs.count_words.Statement.{statement}
 use Rattle.script.proofs.count_words.Tie as tie
 use Rattle.script.proofs.count_words.Reads as reads
 use Rattle.script.proofs.count_words.Lts as lts
-use Rattle.place.proofs.byte_at.Reads as byte-at-reads
+use Rattle.reach.proofs.byte_at.Reads as byte-at-reads
 use Rattle.script.proofs.next_word.Reads as next-word-reads
 
 abbrev Inv-loop : tie.InvT-loop

@@ -5,7 +5,7 @@ use Rattle.script.proofs.same.Statement.{statement}
 use Rattle.script.proofs.same.Tie as tie
 use Rattle.script.proofs.same.Reads as reads
 use Rattle.script.proofs.same.Lts as lts
-use Rattle.place.proofs.byte_at.Reads as byte-at-reads
+use Rattle.reach.proofs.byte_at.Reads as byte-at-reads
 
 abbrev Inv-loop : tie.InvT-loop
 Inv-loop text other end last i₀ j₀ i j = Unit {0}

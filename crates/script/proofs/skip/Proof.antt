@@ -5,7 +5,7 @@ use Rattle.script.proofs.skip.Statement.{statement}
 use Rattle.script.proofs.skip.Tie as tie
 use Rattle.script.proofs.skip.Reads as reads
 use Rattle.script.proofs.skip.Lts as lts
-use Rattle.place.proofs.byte_at.Reads as byte-at-reads
+use Rattle.reach.proofs.byte_at.Reads as byte-at-reads
 use Rattle.script.proofs.ends.Reads as ends-reads
 
 abbrev Inv-loop : tie.InvT-loop

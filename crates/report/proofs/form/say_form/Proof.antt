@@ -6,7 +6,7 @@ use Rattle.report.proofs.form.say_form.Tie as tie
 use Rattle.report.proofs.form.say_form.Reads as reads
 use Rattle.report.proofs.form.say_form.Lts as lts
 use Rattle.report.proofs.form.say_byte.Reads as say-byte-reads
-use Rattle.place.proofs.byte_at.Reads as byte-at-reads
+use Rattle.reach.proofs.byte_at.Reads as byte-at-reads
 use Rattle.script.proofs.line_of.Reads as line-of-reads
 
 abbrev Inv-loop : tie.InvT-loop

@@ -6,7 +6,7 @@ use Rattle.report.proofs.page.is_zero.Tie as tie
 use Rattle.report.proofs.page.is_zero.Reads as reads
 use Rattle.report.proofs.page.is_zero.Lts as lts
 use Rattle.report.proofs.page.end_of.Reads as end-of-reads
-use Rattle.place.proofs.byte_at.Reads as byte-at-reads
+use Rattle.reach.proofs.byte_at.Reads as byte-at-reads
 
 abbrev Inv-loop : tie.InvT-loop
 Inv-loop page at end place₀ place = Unit {0}

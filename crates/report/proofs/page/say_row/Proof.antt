@@ -6,7 +6,7 @@ use Rattle.report.proofs.page.say_row.Tie as tie
 use Rattle.report.proofs.page.say_row.Reads as reads
 use Rattle.report.proofs.page.say_row.Lts as lts
 use Rattle.report.proofs.page.end_of.Reads as end-of-reads
-use Rattle.place.proofs.byte_at.Reads as byte-at-reads
+use Rattle.reach.proofs.byte_at.Reads as byte-at-reads
 use Rattle.report.proofs.page.say_byte.Reads as say-byte-reads
 
 abbrev Inv-loop : tie.InvT-loop

@@ -8,7 +8,7 @@ use Rattle.script.proofs.line.read_line.Tie as tie
 use Rattle.script.proofs.line.read_line.Reads as reads
 use Rattle.script.proofs.line.read_line.Lts as lts
 use Rattle.libc.proofs.read.Reads as read-reads
-use Rattle.place.proofs.put_byte.Reads as put-byte-reads
+use Rattle.reach.proofs.put_byte.Reads as put-byte-reads
 
 abbrev Inv-loop : tie.InvT-loop
 Inv-loop text₀ one₀ l₀ passed₀ text one l passed = (length one ≡ 1) × (l ≤ passed)

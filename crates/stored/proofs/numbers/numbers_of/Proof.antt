@@ -6,7 +6,7 @@ use Rattle.stored.proofs.numbers.numbers_of.Tie as tie
 use Rattle.stored.proofs.numbers.numbers_of.Reads as reads
 use Rattle.stored.proofs.numbers.numbers_of.Lts as lts
 use Rattle.stored.proofs.numbers.step.Reads as step-reads
-use Rattle.place.proofs.byte_at.Reads as byte-at-reads
+use Rattle.reach.proofs.byte_at.Reads as byte-at-reads
 
 abbrev Inv-loop : tie.InvT-loop
 Inv-loop text length asked numbers₀ count₀ place₀ numbers count place = Unit {0}

@@ -7,7 +7,7 @@ use Rattle.stored.proofs.sum.page.Reads as reads
 use Rattle.stored.proofs.sum.page.Lts as lts
 use Rattle.stored.proofs.sum.mix.Reads as mix-reads
 use Rattle.stored.proofs.sum.widest.Reads as widest-reads
-use Rattle.place.proofs.byte_at.Reads as byte-at-reads
+use Rattle.reach.proofs.byte_at.Reads as byte-at-reads
 
 abbrev Inv-loop : tie.InvT-loop
 Inv-loop page length sum₀ place₀ sum place = Unit {0}

@@ -3,7 +3,6 @@ use address::PhysicalAddress;
 use pool::Handle;
 use pool::Outcome;
 use pool::Refusal;
-use pool::shape;
 use rules::Map;
 ghost use mathlib.Core.Path.{_≡_};
 ghost use Rattle.ask.specs.Ask.{framesFit, frameAsked, verifyMap};

@@ -3,8 +3,6 @@ use pool::Found;
 use pool::Handle;
 use pool::Outcome;
 use pool::Refusal;
-use pool::ledger;
-use pool::shape;
 use scan::Run;
 ghost use mathlib.Core.Path.{_≡_};
 ghost use Rattle.pool.specs.State.{st};

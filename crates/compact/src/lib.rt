@@ -3,8 +3,6 @@ use entry::Sub;
 use pool::Counted;
 use pool::Handle;
 use pool::Refusal;
-use pool::ledger;
-use pool::shape;
 ghost use mathlib.Core.Path.{_≡_};
 ghost use Prim.Native.Nat.{_*_, _-_, _≤_, _<_};
 ghost use lib.ListN.{length};

@@ -11,7 +11,7 @@ use Rattle.laws.specs.Test.{le-or}
 use Rattle.entry.specs.Sub.{subOf}
 use Rattle.entry.specs.declared.Sub.{Sub}
 use Rattle.entry.specs.declared.Sub.the-variants.{Table, Outside, Leaf}
-use Rattle.region.specs.Region.{entryIndex}
+use Rattle.slot.specs.Slot.{entryIndex}
 use Rattle.pool.specs.State.{St, tables, wordAt}
 use Rattle.pool.specs.declared.Handle.{Handle}
 use Rattle.rules.specs.declared.Map.{Map}

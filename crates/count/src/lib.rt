@@ -23,8 +23,8 @@ fn count_last(words: &[u64], ledger: &[u32], handle: Handle, k: usize, map: Map)
     let mut frame = map.frame.0;
     let mut count = 0;
     while at < end {
-        let stop = region::chunk_end(at, end, 2);
-        let i = region::entry_index(at, 2);
+        let stop = slot::chunk_end(at, end, 2);
+        let i = slot::entry_index(at, 2);
         let start = VirtualAddress(at);
         let chunk = rules::chunk_of(map, start, VirtualAddress(stop), PhysicalAddress(frame));
         frame += stop - at;
@@ -59,8 +59,8 @@ fn count_new(words: &[u64], ledger: &[u32], handle: Handle, k: usize, level: usi
     let mut frame = map.frame.0;
     let mut count = 0;
     while at < end {
-        let stop = region::chunk_end(at, end, level);
-        let i = region::entry_index(at, level);
+        let stop = slot::chunk_end(at, end, level);
+        let i = slot::entry_index(at, level);
         let start = VirtualAddress(at);
         let first = PhysicalAddress(frame);
         frame += stop - at;

@@ -5,7 +5,8 @@ use mathlib.Core.List.{List}
 use Prim.Native.Nat.{ℕ, zero, suc, _+_, _-_, _%_, _≤_, _<_}
 use native.Mathlib.Omega.{arith}
 use borrow.Author.Tests.{eq-eqb, ne-eqb}
-use Rattle.region.specs.Region.{entryIndex, whole}
+use Rattle.slot.specs.Slot.{entryIndex}
+use Rattle.region.specs.Region.{whole}
 use Rattle.region.specs.declared.MemoryRegion.{MemoryRegion}
 use Rattle.pool.specs.State.{St, st, wordAt}
 use Rattle.pool.specs.declared.Handle.{Handle}

@@ -43,8 +43,8 @@ pub fn modify_range(
     let mut at = edit.region.start.0;
     let mut count = before;
     while at < end {
-        let stop = region::chunk_end(at, end, level);
-        let i = region::entry_index(at, level);
+        let stop = slot::chunk_end(at, end, level);
+        let i = slot::entry_index(at, level);
         let part = own::chunk_edit(edit, VirtualAddress(at), VirtualAddress(stop));
         at = stop;
         if is_own(level, part.region, words[512 * k + i]) {

@@ -97,7 +97,7 @@ fn part_of(level: usize, word: u64, va: u64) -> u64
         return flags;
     }
     let address = (word & entry::ADDRESS_BITS) & !(address::granularity_at_level(level) - 1);
-    let i = region::entry_index(va, level + 1);
+    let i = slot::entry_index(va, level + 1);
     address + (i as u64) * address::granularity_at_level(level + 1) + flags
 }
 
@@ -116,7 +116,7 @@ fn count_leaf(level: usize, map: Map, word: u64) -> u64
     let start = map.region.start.0;
     let end = map.region.end.0;
     let frame = map.frame.0;
-    let stop = region::chunk_end(start, end, level + 1);
+    let stop = slot::chunk_end(start, end, level + 1);
     let first = rules::chunk_of(
         map,
         VirtualAddress(start),

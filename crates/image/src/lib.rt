@@ -2,7 +2,6 @@
 use pool::Handle;
 use pool::Outcome;
 use pool::Refusal;
-use pool::shape;
 ghost use mathlib.Core.Path.{_≡_};
 ghost use Prim.Native.Nat.{_*_};
 ghost use lib.ListN.{length};

@@ -5,7 +5,8 @@ use native.Mathlib.Omega.{arith}
 use Rattle.entry.specs.Sub.{subOf}
 use Rattle.entry.specs.declared.Sub.{Sub}
 use Rattle.entry.specs.declared.Sub.the-variants.{Table}
-use Rattle.region.specs.Region.{region, entryIndex, chunkEnd}
+use Rattle.slot.specs.Slot.{entryIndex, chunkEnd}
+use Rattle.region.specs.Region.{region}
 use Rattle.pool.specs.State.{St, tables, wordAt}
 use Rattle.pool.specs.declared.Handle.{Handle}
 use Rattle.pool.specs.declared.Found.{Found}

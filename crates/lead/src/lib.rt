@@ -34,11 +34,11 @@ fn next_table(
     if end <= start {
         return Found::Nothing;
     }
-    let stop = region::chunk_end(start, end, level);
+    let stop = slot::chunk_end(start, end, level);
     if stop != end {
         return Found::Nothing;
     }
-    let i = region::entry_index(start, level);
+    let i = slot::entry_index(start, level);
     let word = words[512 * k + i];
     let kind = entry::subtable(handle.base, ledger.len(), level, word);
     let Sub::Table(j) = kind else {

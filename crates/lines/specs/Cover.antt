@@ -9,7 +9,8 @@ use native.Mathlib.Omega.{arith}
 use lib.ListN.{length, getD}
 use Rattle.laws.specs.Size.{sizeAt, size-pos, down, next-multiple}
 use Rattle.laws.specs.Test.{le-or}
-use Rattle.region.specs.Region.{region, entryLast}
+use Rattle.slot.specs.Slot.{entryLast}
+use Rattle.region.specs.Region.{region}
 use Rattle.region.specs.Chunks.{chunks-tile, Tiles, none, more}
 use Rattle.region.specs.declared.MemoryRegion.{MemoryRegion}
 use Rattle.entry.specs.Sub.{subOf, sub-found}

@@ -8,7 +8,8 @@ use lib.ListN.{length, set, take, drop, length-append, take-append-drop}
 use lib.Seq.{take-at, drop-append-add, drop-drop, length-take-le}
 use Rattle.laws.specs.Part.{putPart}
 use Rattle.laws.specs.Test.{eq-or, le-or}
-use Rattle.region.specs.Region.{region, nextChunk, chunkEnd}
+use Rattle.slot.specs.Slot.{chunkEnd}
+use Rattle.region.specs.Region.{region, nextChunk}
 use Rattle.region.specs.Chunks.{chunks, chunksOf, next-gives, met, met-none, met-step, chunks-none, chunks-step, Tiles, none, more, chunks-tile}
 use Rattle.region.specs.declared.MemoryRegion.{MemoryRegion}
 use Rattle.region.specs.declared.ChunkedIterator.{ChunkedIterator}

@@ -18,7 +18,7 @@ fn get_entry(words: &[u64], tables: usize, k: usize, level: usize, va: VirtualAd
     requires { ⌜ (length (now words) ≡ 512 * tables) × (k < tables) ⌝ }
     ensures { λ r. ⌜ r ≡ fetch (now (words .entry)) (va .0) level k ⌝ }
 {
-    let slot = region::entry_index(va.0, level);
+    let slot = slot::entry_index(va.0, level);
     words[512 * k + slot]
 }
 

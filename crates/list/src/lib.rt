@@ -57,7 +57,7 @@ pub fn list(
 ) -> Listed
     ensures { λ r. ⌜ listing r (now (list .exit)) ≡ listCall handle (st (now (words .entry)) (now (ledger .entry))) (start .0) (end .0) (now (list .entry)) ⌝ }
 {
-    if !pool::shape::is_shaped(words, ledger, handle) {
+    if !shape::is_shaped(words, ledger, handle) {
         return Listed::Refused(Refusal::Shape);
     }
     let verified = verify_ends(handle, start.0, end.0);

@@ -7,7 +7,8 @@ use Rattle.laws.specs.Test.{allBelow, allFrom}
 use Rattle.address.specs.Address.{alignUp}
 use Rattle.entry.specs.Word.{addressOf, flagsOf, kindOf, linkOf, only, el1Flags, plainFlags, valid, leafWord}
 use Rattle.entry.specs.Sub.{inPool, leads, subOf}
-use Rattle.region.specs.Region.{rounded, entryLast, entryIndex, chunkEnd, whole}
+use Rattle.slot.specs.Slot.{entryLast, entryIndex, chunkEnd}
+use Rattle.region.specs.Region.{rounded, whole}
 use Rattle.region.specs.Chunks.{met, chunksIn, chunks}
 use Rattle.pool.specs.Number.{rootNumber, numberOf, firstFrom, lowestFree, used, free}
 use Rattle.table.specs.Table.{putTable, zeros, clear, rising, takeAt, takeFound, takeTable, freeSub, freeSlot, freeTree}

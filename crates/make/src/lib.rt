@@ -2,7 +2,6 @@
 use pool::Handle;
 use pool::Outcome;
 use pool::Refusal;
-use pool::shape;
 ghost use mathlib.Core.Path.{_≡_};
 ghost use Rattle.pool.specs.State.{st};
 ghost use Rattle.pool.specs.Refuse.{out};

@@ -6,7 +6,6 @@ use pool::Counted;
 use pool::Handle;
 use pool::Outcome;
 use pool::Refusal;
-use pool::shape;
 use region::MemoryRegion;
 use rules::Map;
 ghost use mathlib.Core.Path.{_≡_};

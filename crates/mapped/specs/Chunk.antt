@@ -5,7 +5,7 @@ use Prim.Native.Nat.{ℕ, suc, _+_, _-_, _≤_, _<_}
 use native.Mathlib.Omega.{arith}
 use Rattle.entry.specs.Sub.{subOf}
 use Rattle.entry.specs.declared.Sub.the-variants.{Table}
-use Rattle.region.specs.Region.{entryIndex}
+use Rattle.slot.specs.Slot.{entryIndex}
 use Rattle.pool.specs.State.{St, tables, wordAt, storeAt}
 use Rattle.pool.specs.Number.{free}
 use Rattle.pool.specs.declared.Handle.{Handle}

@@ -8,7 +8,7 @@ use Prim.Native.Nat.{ℕ, suc, _+_, _-_, _≤_}
 use native.Mathlib.Omega.{arith}
 use lib.Dec.{eqb}
 use Rattle.laws.specs.Test.{eqb-cases}
-use Rattle.region.specs.Region.{entryIndex}
+use Rattle.slot.specs.Slot.{entryIndex}
 use Rattle.region.specs.declared.MemoryRegion.{MemoryRegion}
 use Rattle.pool.specs.State.{St}
 use Rattle.pool.specs.Number.{free}

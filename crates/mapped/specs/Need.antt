@@ -8,7 +8,7 @@ use lib.ListN.{getD}
 use Rattle.laws.specs.Test.{eq-or}
 use Rattle.entry.specs.Sub.{subOf, sub-leaf, sub-link}
 use Rattle.entry.specs.declared.Sub.the-variants.{Table, Leaf}
-use Rattle.region.specs.Region.{entryIndex}
+use Rattle.slot.specs.Slot.{entryIndex}
 use Rattle.region.specs.Chunks.{chunks}
 use Rattle.region.specs.declared.MemoryRegion.{MemoryRegion}
 use Rattle.pool.specs.State.{St, tables, wordAt, used-in}

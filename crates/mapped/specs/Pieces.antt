@@ -6,7 +6,8 @@ use mathlib.Core.Logic.{_⊎_, inl, inr}
 use Prim.Native.Nat.{ℕ, zero, suc, _+_, _-_, _/_, _^_, _≤_, _<_}
 use native.Mathlib.Omega.{arith}
 use Rattle.laws.specs.Test.{eq-or, le-or}
-use Rattle.region.specs.Region.{region, entryIndex, chunkEnd}
+use Rattle.slot.specs.Slot.{entryIndex, chunkEnd}
+use Rattle.region.specs.Region.{region}
 use Rattle.region.specs.Chunks.{met, met-step, chunks, chunks-none, chunks-step}
 use Rattle.region.specs.declared.MemoryRegion.{MemoryRegion}
 use Rattle.rules.specs.declared.Map.{Map}

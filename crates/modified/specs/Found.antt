@@ -12,7 +12,8 @@ use Rattle.laws.specs.Size.{sizeAt}
 use Rattle.laws.specs.Test.{byBool, eq-or, le-or, both}
 use Rattle.entry.specs.Word.{kindOf, only, kind-clear, valid, valid-no, edited}
 use Rattle.entry.specs.Sub.{sub-leaf}
-use Rattle.region.specs.Region.{region, entryIndex, whole}
+use Rattle.slot.specs.Slot.{entryIndex}
+use Rattle.region.specs.Region.{region, whole}
 use Rattle.region.specs.Chunks.{chunks, Tiles, none, more, chunks-tile}
 use Rattle.region.specs.declared.MemoryRegion.{MemoryRegion}
 use Rattle.pool.specs.State.{St, tables, wordAt}

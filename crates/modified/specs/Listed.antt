@@ -12,7 +12,8 @@ use borrow.Author.Tests.{eq-eqb, ne-eqb}
 use Rattle.laws.specs.Size.{sizeAt}
 use Rattle.laws.specs.Test.{byBool, eq-or, le-or, and-l}
 use Rattle.entry.specs.Word.{valid, plainFlags, Plain, edited}
-use Rattle.region.specs.Region.{region, entryIndex, whole}
+use Rattle.slot.specs.Slot.{entryIndex}
+use Rattle.region.specs.Region.{region, whole}
 use Rattle.region.specs.Chunks.{chunks, Tiles, none, more, chunks-tile}
 use Rattle.region.specs.declared.MemoryRegion.{MemoryRegion}
 use Rattle.rules.specs.declared.Map.{Map}

@@ -5,7 +5,8 @@ use mathlib.Core.List.{List, [], _∷_, _++_}
 use Prim.Native.Nat.{ℕ, zero, suc, _+_, _-_, _/_, _%_, _^_}
 use lib.Dec.{eqb}
 use Rattle.entry.specs.Word.{valid, edited}
-use Rattle.region.specs.Region.{entryIndex, whole}
+use Rattle.slot.specs.Slot.{entryIndex}
+use Rattle.region.specs.Region.{whole}
 use Rattle.region.specs.Chunks.{chunks}
 use Rattle.region.specs.declared.MemoryRegion.{MemoryRegion}
 use Rattle.forest.specs.Tree.{Tree, leaf, node}

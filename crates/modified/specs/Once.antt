@@ -8,7 +8,8 @@ use native.Mathlib.Omega.{arith}
 use lib.Dec.{eqb, eqb→eq}
 use Rattle.laws.specs.Test.{byBool}
 use Rattle.entry.specs.Word.{valid, edited}
-use Rattle.region.specs.Region.{region, entryIndex, whole}
+use Rattle.slot.specs.Slot.{entryIndex}
+use Rattle.region.specs.Region.{region, whole}
 use Rattle.region.specs.Chunks.{chunks, Tiles, none, more, chunks-tile}
 use Rattle.region.specs.declared.MemoryRegion.{MemoryRegion}
 use Rattle.rules.specs.declared.Map.{Map}

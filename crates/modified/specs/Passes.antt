@@ -10,7 +10,8 @@ use lib.Dec.{eqb}
 use borrow.Author.Tests.{eq-eqb, ne-eqb}
 use Rattle.laws.specs.Test.{byBool, eq-or}
 use Rattle.entry.specs.Word.{valid, edited}
-use Rattle.region.specs.Region.{entryIndex, whole}
+use Rattle.slot.specs.Slot.{entryIndex}
+use Rattle.region.specs.Region.{whole}
 use Rattle.region.specs.Chunks.{chunks}
 use Rattle.region.specs.declared.MemoryRegion.{MemoryRegion}
 use Rattle.rules.specs.declared.Map.{Map}

@@ -5,8 +5,6 @@ use own::Edit;
 use pool::Handle;
 use pool::Outcome;
 use pool::Refusal;
-use pool::ledger;
-use pool::shape;
 use region::MemoryRegion;
 use survey::Survey;
 ghost use mathlib.Core.Path.{_≡_};

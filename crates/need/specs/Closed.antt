@@ -13,7 +13,8 @@ use Rattle.laws.specs.Test.{le-or, eq-or}
 use Rattle.entry.specs.Sub.{subOf}
 use Rattle.entry.specs.declared.Sub.{Sub}
 use Rattle.entry.specs.declared.Sub.the-variants.{Table, Outside, Leaf}
-use Rattle.region.specs.Region.{region, entryLast, entryIndex, chunkEnd}
+use Rattle.slot.specs.Slot.{entryLast, entryIndex, chunkEnd}
+use Rattle.region.specs.Region.{region}
 use Rattle.region.specs.Chunks.{met, met-none, met-one, met-most, met-split, met-step, chunk-fits, chunk-stops}
 use Rattle.pool.specs.State.{St, tables, wordAt}
 use Rattle.pool.specs.declared.Handle.{Handle}

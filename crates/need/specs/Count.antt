@@ -8,7 +8,7 @@ use native.Mathlib.Omega.{arith}
 use Rattle.laws.specs.Size.{sizeAt}
 use Rattle.laws.specs.Test.{byBool, eq-or}
 use Rattle.entry.specs.Word.{addressOf, flagsOf}
-use Rattle.region.specs.Region.{entryLast, entryIndex, chunkEnd}
+use Rattle.slot.specs.Slot.{entryLast, entryIndex, chunkEnd}
 use Rattle.region.specs.Chunks.{chunk-fits, chunk-stops}
 use Rattle.entry.specs.Sub.{subOf}
 use Rattle.entry.specs.declared.Sub.{Sub}

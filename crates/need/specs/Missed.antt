@@ -11,7 +11,8 @@ use borrow.Author.Tests.{eq-eqb, ne-eqb, le-leb, lt-leb, lt-ltb, eqb-false, not-
 use Rattle.laws.specs.Size.{sizeAt, size-pos, size-step, size-pages, size-next, size-parts, size-room, down, multiple-of, multiple-is, add-multiple, mod-on, next-multiple}
 use Rattle.laws.specs.Test.{byBool, eq-or, and-l, and-r, is-true, is-false}
 use Rattle.entry.specs.Word.{addressOf, flagsOf, address-below, address-back, flags-back, valid, flags-low}
-use Rattle.region.specs.Region.{entryLast, entryIndex, whole}
+use Rattle.slot.specs.Slot.{entryLast, entryIndex}
+use Rattle.region.specs.Region.{whole}
 use Rattle.region.specs.Chunks.{in-entry}
 use Rattle.rules.specs.declared.Map.{Map}
 use Rattle.rules.specs.declared.Rule.{Rule}

@@ -12,7 +12,8 @@ use Rattle.entry.specs.Word.{addressOf, flagsOf, leafWord, flags-low}
 use Rattle.entry.specs.Sub.{subOf}
 use Rattle.entry.specs.declared.Sub.{Sub}
 use Rattle.entry.specs.declared.Sub.the-variants.{Table, Outside, Leaf}
-use Rattle.region.specs.Region.{region, entryIndex, chunkEnd}
+use Rattle.slot.specs.Slot.{entryIndex, chunkEnd}
+use Rattle.region.specs.Region.{region}
 use Rattle.region.specs.Chunks.{met, met-step, chunks, chunks-none, chunks-step}
 use Rattle.region.specs.declared.MemoryRegion.{MemoryRegion}
 use Rattle.pool.specs.State.{St, tables, wordAt}

@@ -4,7 +4,8 @@ use mathlib.Core.List.{List, [], _∷_}
 use Prim.Native.Nat.{ℕ, _+_, _*_, _-_, _≤_, _<_}
 use native.Mathlib.Nat.{add-mul}
 use native.Mathlib.Omega.{arith}
-use Rattle.region.specs.Region.{region, chunkEnd}
+use Rattle.slot.specs.Slot.{chunkEnd}
+use Rattle.region.specs.Region.{region}
 use Rattle.region.specs.Chunks.{chunks, chunks-step, chunks-none, Tiles, none, more, chunks-tile}
 use Rattle.region.specs.declared.MemoryRegion.{MemoryRegion}
 use Rattle.own.specs.declared.Edit.{Edit}

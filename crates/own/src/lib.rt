@@ -62,8 +62,8 @@ pub fn edit_own(
     let mut at = edit.region.start.0;
     let mut count = before;
     while at < end {
-        let stop = region::chunk_end(at, end, level);
-        let i = region::entry_index(at, level);
+        let stop = slot::chunk_end(at, end, level);
+        let i = slot::entry_index(at, level);
         let number = address::tlbi_address(VirtualAddress(at));
         at = stop;
         let word = words[512 * k + i];

@@ -1,6 +1,5 @@
 // The pass of the pool check: every table's number, then its words in four runs.
 use pool::Handle;
-use pool::shape;
 use scan::Run;
 ghost use mathlib.Core.Path.{_≡_};
 ghost use Rattle.pool.specs.State.{st};

@@ -3,7 +3,6 @@ use own::Edit;
 use pool::Handle;
 use pool::Outcome;
 use pool::Refusal;
-use pool::shape;
 use survey::Survey;
 ghost use mathlib.Core.Path.{_≡_};
 ghost use Rattle.permit.specs.Permit.{settable, verifyBits, verifyEdit, verifySurvey};

@@ -1,7 +1,4 @@
 // The pool: 512 words for each table, and a ledger number for each table (document 01, "Pool and ledger").
-pub mod ledger;
-pub mod shape;
-
 use address::PhysicalAddress;
 use address::VirtualAddress;
 use region::MemoryRegion;

@@ -7,7 +7,8 @@ use native.Mathlib.Omega.{arith}
 use lib.Dec.{ltb}
 use borrow.Author.Tests.{lt-ltb}
 use Rattle.laws.specs.Test.{le-or}
-use Rattle.region.specs.Region.{region, entryIndex, chunkEnd}
+use Rattle.slot.specs.Slot.{entryIndex, chunkEnd}
+use Rattle.region.specs.Region.{region}
 use Rattle.region.specs.Chunks.{chunks-step, chunks-none}
 use Rattle.pool.specs.State.{St, wordAt, storeAt}
 use Rattle.table.specs.Table.{Taken, taken}

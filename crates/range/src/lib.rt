@@ -32,8 +32,8 @@ pub fn map_range(
     let mut frame = map.frame.0;
     let mut changed = false;
     while at < end {
-        let stop = region::chunk_end(at, end, level);
-        let i = region::entry_index(at, level);
+        let stop = slot::chunk_end(at, end, level);
+        let i = slot::entry_index(at, level);
         let start = VirtualAddress(at);
         let chunk = rules::chunk_of(map, start, VirtualAddress(stop), PhysicalAddress(frame));
         frame += stop - at;

@@ -1,11 +1,12 @@
 -- Regions and the next chunk, and a law for each way through the code. Assumes nothing.
 use mathlib.Core.Path.{_≡_, ap}
 use mathlib.Core.Bool.{Bool, cond, _&&_}
-use Prim.Native.Nat.{ℕ, _+_, _-_, _/_, _%_, _≤_, _<_, min}
+use Prim.Native.Nat.{ℕ, _%_, _≤_, _<_}
 use lib.Dec.{eqb, ltb}
 use borrow.Author.Tests.{lt-ltb, le-ltb}
 use Rattle.laws.specs.Size.{sizeAt, down}
 use Rattle.address.specs.Address.{alignUp}
+use Rattle.slot.specs.Slot.{chunkEnd}
 use Rattle.region.specs.declared.MemoryRegion.{MemoryRegion}
 use Rattle.region.specs.declared.ChunkedIterator.{ChunkedIterator}
 use Rattle.region.specs.declared.NextChunk.{NextChunk}
@@ -22,18 +23,6 @@ rounded start end = region (down start 4096) (alignUp end 4096)
 -- the chunk is the whole entry
 unfoldable pub whole : ℕ → MemoryRegion → Bool
 whole level r = eqb (r .start .0 % sizeAt level) 0 && eqb (r .end .0 % sizeAt level) 0
-
--- the last address of the entry that holds a
-unfoldable pub entryLast : ℕ → ℕ → ℕ
-entryLast level a = down a (sizeAt level) + (sizeAt level - 1)
-
--- the slot of that entry in its table
-unfoldable pub entryIndex : ℕ → ℕ → ℕ
-entryIndex level a = a / sizeAt level % 512
-
--- where the chunk that begins at s ends: with its entry, or with the region
-unfoldable pub chunkEnd : ℕ → ℕ → ℕ → ℕ
-chunkEnd level s e = min e (entryLast level s + 1)
 
 -- the chunk from s to m, and what remains up to e
 abbrev pub cutAt : ℕ → ℕ → ℕ → ℕ → NextChunk

@@ -3,7 +3,6 @@ use pool::Counted;
 use pool::Found;
 use pool::Handle;
 use pool::Refusal;
-use pool::ledger;
 use rules::Map;
 ghost use mathlib.Core.Path.{_≡_};
 ghost use Rattle.pool.specs.State.{st};

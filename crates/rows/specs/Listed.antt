@@ -8,7 +8,8 @@ use Rattle.laws.specs.Test.{allBelow, allFrom}
 use Rattle.address.specs.Address.{alignUp}
 use Rattle.entry.specs.Word.{addressOf, kindOf, linkOf, only, el1Flags, plainFlags}
 use Rattle.entry.specs.Sub.{inPool, leads, subOf}
-use Rattle.region.specs.Region.{rounded, entryLast, chunkEnd}
+use Rattle.slot.specs.Slot.{entryLast, chunkEnd}
+use Rattle.region.specs.Region.{rounded}
 use Rattle.region.specs.Chunks.{met, chunksIn, chunks}
 use Rattle.pool.specs.Number.{rootNumber}
 use Rattle.table.specs.Table.{putTable, zeros}

@@ -9,7 +9,8 @@ use lib.Dec.{leb}
 use borrow.Author.Tests.{eq-eqb, ne-eqb, le-leb, lt-leb}
 use Rattle.laws.specs.Size.{sizeAt, size-pages, size-pos, down-paged}
 use Rattle.entry.specs.Word.{flagsOf, valid, leafWord, Plain}
-use Rattle.region.specs.Region.{region, entryLast, chunkEnd}
+use Rattle.slot.specs.Slot.{entryLast, chunkEnd}
+use Rattle.region.specs.Region.{region}
 use Rattle.region.specs.Chunks.{chunk-fits}
 use Rattle.rules.specs.declared.Map.{Map}
 use Rattle.rules.specs.Rules.{chunkMap}

@@ -53,7 +53,7 @@ fn count_splits(level: usize, region: MemoryRegion) -> u64
     let mut at = region.start.0;
     let mut count = 1;
     while at < end {
-        let stop = region::chunk_end(at, end, level + 1);
+        let stop = slot::chunk_end(at, end, level + 1);
         let chunk = MemoryRegion {
             start: VirtualAddress(at),
             end: VirtualAddress(stop),
@@ -147,8 +147,8 @@ pub fn survey_range(
     let mut at = edit.region.start.0;
     let mut seen = before;
     while at < end {
-        let stop = region::chunk_end(at, end, level);
-        let i = region::entry_index(at, level);
+        let stop = slot::chunk_end(at, end, level);
+        let i = slot::entry_index(at, level);
         let part = own::chunk_edit(edit, VirtualAddress(at), VirtualAddress(stop));
         at = stop;
         let word = words[512 * k + i];

@@ -1,7 +1,6 @@
 // One table's words, lent as a part of the pool from its middle; a table taken, and a table freed.
 use pool::Found;
 use pool::Handle;
-use pool::ledger;
 ghost use mathlib.Core.Path.{_≡_};
 ghost use Prim.Native.Nat.{_+_, _*_, _≤_, _<_, _^_};
 ghost use lib.ListN.{length};

@@ -8,7 +8,7 @@ use Prim.Native.Nat.{ℕ, zero, suc, _+_, _*_, _-_, _/_, _%_, _≤_, _<_, min}
 use native.Mathlib.Omega.{arith}
 use lib.Dec.{eqb}
 use Rattle.laws.specs.Size.{sizeAt, down, size-pos}
-use Rattle.region.specs.Region.{entryLast, entryIndex, chunkEnd}
+use Rattle.slot.specs.Slot.{entryLast, entryIndex, chunkEnd}
 use Rattle.region.specs.Chunks.{chunks, chunk-fits}
 use Rattle.region.specs.declared.MemoryRegion.{MemoryRegion}
 use Rattle.forest.specs.Tree.{Tree, leaf, node}

@@ -9,7 +9,8 @@ use lib.Dec.{eqb}
 use borrow.Author.Tests.{eq-eqb, ne-eqb}
 use Rattle.laws.specs.Sum.{sum, sum-ext, sum-none, sum-add, sum-only}
 use Rattle.laws.specs.Test.{le-or}
-use Rattle.region.specs.Region.{region, entryIndex, chunkEnd}
+use Rattle.slot.specs.Slot.{entryIndex, chunkEnd}
+use Rattle.region.specs.Region.{region}
 use Rattle.region.specs.Chunks.{chunks, met, met-step, chunks-none, chunks-step}
 use Rattle.region.specs.declared.MemoryRegion.{MemoryRegion}
 use Rattle.forest.specs.Tree.{Tree, leaf, node}

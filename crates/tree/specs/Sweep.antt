@@ -8,7 +8,8 @@ use native.Mathlib.Omega.{arith}
 use lib.Dec.{eqb}
 use borrow.Author.Tests.{eq-eqb, ne-eqb}
 use Rattle.laws.specs.Test.{eq-or, le-or}
-use Rattle.region.specs.Region.{region, chunkEnd}
+use Rattle.slot.specs.Slot.{chunkEnd}
+use Rattle.region.specs.Region.{region}
 use Rattle.region.specs.Chunks.{chunks, met, met-step, chunks-none, chunks-step}
 use Rattle.region.specs.declared.MemoryRegion.{MemoryRegion}
 use Rattle.forest.specs.Tree.{Tree, leaf, node, node-ext, eachSlot}

@@ -64,7 +64,7 @@ fn walk_from(words: &[u64], tables: usize, handle: Handle, va: VirtualAddress) -
 pub fn look_up(words: &[u64], ledger: &[u32], handle: Handle, va: VirtualAddress) -> Looked
     ensures { λ r. ⌜ r ≡ lookUpCall handle (st (now (words .entry)) (now (ledger .entry))) (va .0) ⌝ }
 {
-    if !pool::shape::is_shaped(words, ledger, handle) {
+    if !shape::is_shaped(words, ledger, handle) {
         return Looked::Refused(Refusal::Shape);
     }
     let range = handle.range;

@@ -14,7 +14,7 @@ use Rattle.ask.proofs.verify_map.Reads as reads
 use Rattle.ask.proofs.verify_map.Lts as lts
 use Rattle.entry.proofs.are_from.Reads as are-from-reads
 use Rattle.ask.proofs.verify_frame.Reads as verify-frame-reads
-use Rattle.pool.proofs.shape.flag_set.Reads as flag-set-reads
+use Rattle.shape.proofs.flag_set.Reads as flag-set-reads
 use Rattle.region.proofs.MemoryRegion.len.Reads as len-reads
 use Rattle.verify.proofs.end_fits.Reads as end-fits-reads
 use Rattle.verify.proofs.verify_region.Reads as verify-region-reads

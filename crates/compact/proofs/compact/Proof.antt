@@ -13,8 +13,8 @@ use Rattle.compact.proofs.compact.Reads as reads
 use Rattle.compact.proofs.compact.Lts as lts
 use Rattle.checker.proofs.is_sound.Reads as is-sound-reads
 use Rattle.compact.proofs.compact_subtables.Reads as compact-subtables-reads
-use Rattle.pool.proofs.ledger.count_used.Reads as count-used-reads
-use Rattle.pool.proofs.shape.is_shaped.Reads as is-shaped-reads
+use Rattle.ledger.proofs.count_used.Reads as count-used-reads
+use Rattle.shape.proofs.is_shaped.Reads as is-shaped-reads
 
 -- past the first test the shape is known
 good : (c : tie.Else1) → let a = c .before .before .before .before .before .before .args in shaped (a .handle) (st (a .words .now) (a .ledger .now)) ≡ true

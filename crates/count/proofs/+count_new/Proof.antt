@@ -4,7 +4,8 @@ use Prim.Native.Nat.{_+_, _*_, _-_, _%_, _^_, _≤_}
 use native.Mathlib.Omega.{arith}
 use Rattle.entry.proofs.Tags.{is-outside}
 use Rattle.entry.specs.Sub.{sub-below}
-use Rattle.region.specs.Region.{region, entryLast, entryIndex}
+use Rattle.slot.specs.Slot.{entryLast, entryIndex}
+use Rattle.region.specs.Region.{region}
 use Rattle.region.specs.Chunks.{chunk-fits}
 use Rattle.pool.specs.State.{st}
 use Rattle.rules.specs.declared.Map.{Map}
@@ -26,8 +27,8 @@ use Rattle.count.proofs.count_last.Reads as count-last-reads
 use Rattle.ends.proofs.count_entry.Reads as count-entry-reads
 use Rattle.rules.proofs.chunk_of.Reads as chunk-of-reads
 use Rattle.rules.proofs.rule_of.Reads as rule-of-reads
-use Rattle.region.proofs.chunk_end.Reads as chunk-end-reads
-use Rattle.region.proofs.entry_index.Reads as entry-index-reads
+use Rattle.slot.proofs.chunk_end.Reads as chunk-end-reads
+use Rattle.slot.proofs.entry_index.Reads as entry-index-reads
 use Rattle.count.proofs.+count_new.{statement}
 use Rattle.count.proofs.+count_new.Tie.{close}
 

@@ -2,7 +2,8 @@
 use mathlib.Core.Path.{_≡_, sym, ap, subst⁻¹, _∙_}
 use Prim.Native.Nat.{ℕ, _+_, _*_, _-_, _%_, _^_, _≤_, _<_}
 use native.Mathlib.Omega.{arith}
-use Rattle.region.specs.Region.{region, entryIndex}
+use Rattle.slot.specs.Slot.{entryIndex}
+use Rattle.region.specs.Region.{region}
 use Rattle.region.specs.Chunks.{chunk-fits}
 use Rattle.pool.specs.State.{st}
 use Rattle.rules.specs.declared.Map.{Map}
@@ -16,8 +17,8 @@ use Rattle.count.proofs.count_last.Tie as tie
 use Rattle.count.proofs.count_last.Reads as reads
 use Rattle.count.proofs.count_last.Lts as lts
 use Rattle.entry.proofs.subtable.Reads as subtable-reads
-use Rattle.region.proofs.chunk_end.Reads as chunk-end-reads
-use Rattle.region.proofs.entry_index.Reads as entry-index-reads
+use Rattle.slot.proofs.chunk_end.Reads as chunk-end-reads
+use Rattle.slot.proofs.entry_index.Reads as entry-index-reads
 use Rattle.rules.proofs.chunk_of.Reads as chunk-of-reads
 use Rattle.rules.proofs.rule_of.Reads as rule-of-reads
 

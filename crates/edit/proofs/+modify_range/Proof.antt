@@ -3,7 +3,8 @@ use mathlib.Core.Path.{_≡_, refl, sym, ap, _∙_}
 use Prim.Native.Nat.{_+_, _-_, _≤_}
 use native.Mathlib.Omega.{arith}
 use lib.ListN.{length}
-use Rattle.region.specs.Region.{region, entryIndex}
+use Rattle.slot.specs.Slot.{entryIndex}
+use Rattle.region.specs.Region.{region}
 use Rattle.region.specs.Chunks.{chunk-fits}
 use Rattle.pool.specs.State.{st, wordAt}
 use Rattle.pool.specs.Refuse.{Shaped, shaped-keep}
@@ -20,8 +21,8 @@ use Rattle.edit.proofs.+modify_range.Lts-modify_range as modify-range-l
 use Rattle.own.proofs.chunk_edit.Reads as chunk-edit-reads
 use Rattle.own.proofs.edit_own.Reads as edit-own-reads
 use Rattle.edit.proofs.is_own.Reads as is-own-reads
-use Rattle.region.proofs.chunk_end.Reads as chunk-end-reads
-use Rattle.region.proofs.entry_index.Reads as entry-index-reads
+use Rattle.slot.proofs.chunk_end.Reads as chunk-end-reads
+use Rattle.slot.proofs.entry_index.Reads as entry-index-reads
 use Rattle.split.proofs.descend.Reads as descend-reads
 use Rattle.edit.proofs.+modify_range.{statement}
 use Rattle.edit.proofs.+modify_range.Tie.{close}

@@ -22,7 +22,7 @@ use Rattle.ends.proofs.count_rest.Reads as count-rest-reads
 use Rattle.ends.proofs.part_of.Reads as part-of-reads
 use Rattle.rules.proofs.chunk_of.Reads as chunk-of-reads
 use Rattle.rules.proofs.rule_of.Reads as rule-of-reads
-use Rattle.region.proofs.chunk_end.Reads as chunk-end-reads
+use Rattle.slot.proofs.chunk_end.Reads as chunk-end-reads
 use Rattle.ends.proofs.+count_leaf.{statement}
 use Rattle.ends.proofs.+count_leaf.Tie.{close}
 

@@ -5,7 +5,7 @@ use native.Mathlib.Omega.{arith}
 use lib.Bits.{bitAnd}
 use Rattle.laws.specs.Size.{sizeAt, size-pos, size-down, down}
 use Rattle.entry.specs.Word.{addressOf, address-below, mask-address}
-use Rattle.region.specs.Region.{entryIndex}
+use Rattle.slot.specs.Slot.{entryIndex}
 use Rattle.need.specs.Needed.{slot-below, child-hole, child-block}
 use Rattle.ends.specs.Laws.{PartFits, part-fits}
 use Rattle.ends.proofs.part_of.Statement.{statement}
@@ -14,7 +14,7 @@ use Rattle.ends.proofs.part_of.Reads as reads
 use Rattle.ends.proofs.part_of.Lts as lts
 use Rattle.address.proofs.granularity_at_level.Reads as granularity-at-level-reads
 use Rattle.entry.proofs.flags.Reads as flags-reads
-use Rattle.region.proofs.entry_index.Reads as entry-index-reads
+use Rattle.slot.proofs.entry_index.Reads as entry-index-reads
 
 -- the entry's address, cleared below its size by masks
 cleared : (c : tie.After-granularity-at-level)

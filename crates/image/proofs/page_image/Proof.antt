@@ -15,7 +15,7 @@ use Rattle.image.proofs.page_image.Tie as tie
 use Rattle.image.proofs.page_image.Reads as reads
 use Rattle.image.proofs.page_image.Lts as lts
 use Rattle.image.proofs.write_to.Reads as write-to-reads
-use Rattle.pool.proofs.shape.is_shaped.Reads as is-shaped-reads
+use Rattle.shape.proofs.is_shaped.Reads as is-shaped-reads
 
 -- past the first test the shape is known
 good : (c : tie.Else1) → let a = c .before .before .before .before .before .args in shaped (a .handle) (st (a .words .now) (a .ledger .now)) ≡ true

@@ -2,7 +2,7 @@
 use mathlib.Core.Path.{sym, _∙_}
 use native.Mathlib.Omega.{arith}
 use Rattle.entry.specs.Sub.{sub-below}
-use Rattle.region.specs.Region.{entryIndex}
+use Rattle.slot.specs.Slot.{entryIndex}
 use Rattle.pool.specs.State.{st}
 use Rattle.pool.specs.Refuse.{maxTables}
 use Rattle.lead.specs.Lead.{map-below, none-leads, some-leads}
@@ -11,8 +11,8 @@ use Rattle.lead.proofs.next_table.Tie as tie
 use Rattle.lead.proofs.next_table.Reads as reads
 use Rattle.lead.proofs.next_table.Lts as lts
 use Rattle.entry.proofs.subtable.Reads as subtable-reads
-use Rattle.region.proofs.chunk_end.Reads as chunk-end-reads
-use Rattle.region.proofs.entry_index.Reads as entry-index-reads
+use Rattle.slot.proofs.chunk_end.Reads as chunk-end-reads
+use Rattle.slot.proofs.entry_index.Reads as entry-index-reads
 use Rattle.rules.proofs.rule_of.Reads as rule-of-reads
 
 returns : tie.Need-returns

@@ -5,12 +5,12 @@ use native.Mathlib.Omega.{arith}
 use lib.ListN.{getD}
 use Rattle.arm.specs.Arm.{index, fetch}
 use Rattle.arm.specs.Walk.{slot-below, index-is}
-use Rattle.region.specs.Region.{entryIndex}
+use Rattle.slot.specs.Slot.{entryIndex}
 use Rattle.lines.proofs.get_entry.Statement.{statement}
 use Rattle.lines.proofs.get_entry.Tie as tie
 use Rattle.lines.proofs.get_entry.Reads as reads
 use Rattle.lines.proofs.get_entry.Lts as lts
-use Rattle.region.proofs.entry_index.Reads as entry-index-reads
+use Rattle.slot.proofs.entry_index.Reads as entry-index-reads
 
 -- the Arm walk's index is the slot
 slot : (c : tie.After-entry-index) → let a = c .before .before .args in c .entry-index .result ≡ index (a .level) (a .va .0)

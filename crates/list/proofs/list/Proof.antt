@@ -11,7 +11,7 @@ use Rattle.list.proofs.list.Tie as tie
 use Rattle.list.proofs.list.Reads as reads
 use Rattle.list.proofs.list.Lts as lts
 use Rattle.checker.proofs.is_sound.Reads as is-sound-reads
-use Rattle.pool.proofs.shape.is_shaped.Reads as is-shaped-reads
+use Rattle.shape.proofs.is_shaped.Reads as is-shaped-reads
 use Rattle.region.proofs.MemoryRegion.new.Reads as new-reads
 use Rattle.list.proofs.list_lines.Reads as list-lines-reads
 use Rattle.list.proofs.verify_ends.Reads as verify-ends-reads

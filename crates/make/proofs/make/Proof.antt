@@ -15,7 +15,7 @@ use Rattle.make.proofs.make.Statement.{statement}
 use Rattle.make.proofs.make.Tie as tie
 use Rattle.make.proofs.make.Reads as reads
 use Rattle.make.proofs.make.Lts as lts
-use Rattle.pool.proofs.shape.is_shaped.Reads as is-shaped-reads
+use Rattle.shape.proofs.is_shaped.Reads as is-shaped-reads
 use Rattle.zero.proofs.zero_numbers.Reads as zero-numbers-reads
 use Rattle.zero.proofs.zero_words.Reads as zero-words-reads
 

@@ -3,7 +3,8 @@ use mathlib.Core.Path.{_≡_, refl, sym, ap, _∙_}
 use Prim.Native.Nat.{ℕ, _+_, _*_, _-_, _≤_, _<_}
 use native.Mathlib.Omega.{arith}
 use lib.ListN.{length, length-set}
-use Rattle.region.specs.Region.{region, entryIndex}
+use Rattle.slot.specs.Slot.{entryIndex}
+use Rattle.region.specs.Region.{region}
 use Rattle.region.specs.Chunks.{chunk-fits}
 use Rattle.own.specs.Each.{eachChunk, each-done, each-step}
 use Rattle.own.specs.Own.{noted, ownChunk, own-same, own-changed, own-all}
@@ -14,8 +15,8 @@ use Rattle.own.proofs.edit_own.Lts as lts
 use Rattle.address.proofs.tlbi_address.Reads as tlbi-address-reads
 use Rattle.own.proofs.edit_word.Reads as edit-word-reads
 use Rattle.own.proofs.put_number.Reads as put-number-reads
-use Rattle.region.proofs.chunk_end.Reads as chunk-end-reads
-use Rattle.region.proofs.entry_index.Reads as entry-index-reads
+use Rattle.slot.proofs.chunk_end.Reads as chunk-end-reads
+use Rattle.slot.proofs.entry_index.Reads as entry-index-reads
 
 abbrev Inv-loop : tie.InvT-loop
 Inv-loop words₀ k level edit list₀ before end at₀ count₀ words list at count =

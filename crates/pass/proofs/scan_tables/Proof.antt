@@ -20,7 +20,7 @@ use Rattle.pass.proofs.scan_tables.Statement.{statement}
 use Rattle.pass.proofs.scan_tables.Tie as tie
 use Rattle.pass.proofs.scan_tables.Reads as reads
 use Rattle.pass.proofs.scan_tables.Lts as lts
-use Rattle.pool.proofs.shape.flag_set.Reads as flag-set-reads
+use Rattle.shape.proofs.flag_set.Reads as flag-set-reads
 use Rattle.scan.proofs.scan.Reads as scan-reads
 use Rattle.hang.proofs.table_holds.Reads as table-holds-reads
 

@@ -14,7 +14,7 @@ use Rattle.permit.proofs.verify_bits.Reads as reads
 use Rattle.permit.proofs.verify_bits.Lts as lts
 use Rattle.permit.proofs.are_settable.Reads as are-settable-reads
 use Rattle.entry.proofs.are_from.Reads as are-from-reads
-use Rattle.pool.proofs.shape.flag_set.Reads as flag-set-reads
+use Rattle.shape.proofs.flag_set.Reads as flag-set-reads
 
 returns : tie.Need-returns
 returns c = let a = c .before .args in bits-set-invalid (a .handle) (a .set) (a .clear) (c .if1 .taken)

@@ -4,7 +4,8 @@ use mathlib.Core.Bool.{false}
 use Prim.Native.Nat.{_+_, _-_, _%_, _^_, _≤_}
 use native.Mathlib.Omega.{arith}
 use lib.ListN.{length}
-use Rattle.region.specs.Region.{region, entryIndex}
+use Rattle.slot.specs.Slot.{entryIndex}
+use Rattle.region.specs.Region.{region}
 use Rattle.region.specs.Chunks.{chunk-fits}
 use Rattle.pool.specs.State.{St, st}
 use Rattle.pool.specs.Refuse.{Shaped, shaped-keep}
@@ -28,8 +29,8 @@ use Rattle.put.proofs.ledger_changed.Reads as ledger-changed-reads
 use Rattle.put.proofs.put_entry.Reads as put-entry-reads
 use Rattle.rules.proofs.chunk_of.Reads as chunk-of-reads
 use Rattle.rules.proofs.rule_of.Reads as rule-of-reads
-use Rattle.region.proofs.chunk_end.Reads as chunk-end-reads
-use Rattle.region.proofs.entry_index.Reads as entry-index-reads
+use Rattle.slot.proofs.chunk_end.Reads as chunk-end-reads
+use Rattle.slot.proofs.entry_index.Reads as entry-index-reads
 use Rattle.range.proofs.+map_range.{statement}
 use Rattle.range.proofs.+map_range.Tie.{close}
 

@@ -13,7 +13,7 @@ use Rattle.room.proofs.put_down.Reads as reads
 use Rattle.room.proofs.put_down.Lts as lts
 use Rattle.range.proofs.map_range.Reads as map-range-reads
 use Rattle.lead.proofs.lowest_table.Reads as lowest-table-reads
-use Rattle.pool.proofs.ledger.count_used.Reads as count-used-reads
+use Rattle.ledger.proofs.count_used.Reads as count-used-reads
 
 lowest-table-requires : tie.Need-lowest-table-requires
 lowest-table-requires c κs = let p = c .before .before .before .before .pre in (p .0, p .1)

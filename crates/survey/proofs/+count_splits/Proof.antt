@@ -14,7 +14,7 @@ use Rattle.survey.proofs.count_splits.Reads as count-splits
 use Rattle.survey.proofs.count_splits.Kinds as count-splits-kinds
 use Rattle.survey.proofs.+count_splits.Lts-count_splits as count-splits-lts
 use Rattle.region.proofs.MemoryRegion.is_block.Reads as is-block-reads
-use Rattle.region.proofs.chunk_end.Reads as chunk-end-reads
+use Rattle.slot.proofs.chunk_end.Reads as chunk-end-reads
 use Rattle.survey.proofs.+count_splits.{statement}
 use Rattle.survey.proofs.+count_splits.Tie.{close}
 

@@ -2,7 +2,8 @@
 use mathlib.Core.Path.{_≡_, refl, sym, ap, _∙_, subst⁻¹}
 use Prim.Native.Nat.{_+_, _-_, _≤_}
 use native.Mathlib.Omega.{arith}
-use Rattle.region.specs.Region.{region, entryIndex}
+use Rattle.slot.specs.Slot.{entryIndex}
+use Rattle.region.specs.Region.{region}
 use Rattle.region.specs.Chunks.{chunk-fits}
 use Rattle.entry.specs.Sub.{sub-found}
 use Rattle.entry.proofs.Tags.{is-outside}
@@ -20,8 +21,8 @@ use Rattle.survey.proofs.survey_range.Kinds as survey-range-kinds
 use Rattle.survey.proofs.+survey_range.Lts-survey_range as survey-range-lts
 use Rattle.own.proofs.chunk_edit.Reads as chunk-edit-reads
 use Rattle.entry.proofs.subtable.Reads as subtable-reads
-use Rattle.region.proofs.chunk_end.Reads as chunk-end-reads
-use Rattle.region.proofs.entry_index.Reads as entry-index-reads
+use Rattle.slot.proofs.chunk_end.Reads as chunk-end-reads
+use Rattle.slot.proofs.entry_index.Reads as entry-index-reads
 use Rattle.survey.proofs.survey_entry.Reads as survey-entry-reads
 use Rattle.survey.proofs.+survey_range.{statement}
 use Rattle.survey.proofs.+survey_range.Tie.{close}

@@ -18,7 +18,7 @@ use Rattle.table.proofs.take_table.Tie as tie
 use Rattle.table.proofs.take_table.Reads as reads
 use Rattle.table.proofs.take_table.Lts as lts
 use Rattle.entry.proofs.link.Reads as link-reads
-use Rattle.pool.proofs.ledger.lowest_free.Reads as lowest-free-reads
+use Rattle.ledger.proofs.lowest_free.Reads as lowest-free-reads
 use Rattle.table.proofs.fill.Reads as fill-reads
 
 -- the table that was found

@@ -8,7 +8,7 @@ use Rattle.modify.proofs.call.edit_tables.Tie as tie
 use Rattle.modify.proofs.call.edit_tables.Reads as reads
 use Rattle.modify.proofs.call.edit_tables.Lts as lts
 use Rattle.edit.proofs.modify_range.Reads as modify-range-reads
-use Rattle.pool.proofs.ledger.count_used.Reads as count-used-reads
+use Rattle.ledger.proofs.count_used.Reads as count-used-reads
 
 modify-range-requires : tie.Need-modify-range-requires
 modify-range-requires c κs = let p = c .before .before .before .before .before .before .pre in (p, p .some, p .level)

@@ -15,7 +15,7 @@ use Rattle.modify.proofs.call.modify.Reads as reads
 use Rattle.modify.proofs.call.modify.Lts as lts
 use Rattle.permit.proofs.verify_edit.Reads as verify-edit-reads
 use Rattle.modify.proofs.call.modify_sound.Reads as modify-sound-reads
-use Rattle.pool.proofs.shape.is_shaped.Reads as is-shaped-reads
+use Rattle.shape.proofs.is_shaped.Reads as is-shaped-reads
 use Rattle.region.proofs.MemoryRegion.new.Reads as new-reads
 
 -- past the first test the shape is known

@@ -17,7 +17,7 @@ use Rattle.modify.proofs.call.modify_sound.Lts as lts
 use Rattle.checker.proofs.is_sound.Reads as is-sound-reads
 use Rattle.permit.proofs.verify_survey.Reads as verify-survey-reads
 use Rattle.modify.proofs.call.edit_tables.Reads as edit-tables-reads
-use Rattle.pool.proofs.ledger.count_used.Reads as count-used-reads
+use Rattle.ledger.proofs.count_used.Reads as count-used-reads
 use Rattle.survey.proofs.survey_range.Reads as survey-range-reads
 
 -- past the first test the pool is sound

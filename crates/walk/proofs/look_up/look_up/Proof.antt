@@ -10,7 +10,7 @@ use Rattle.walk.proofs.look_up.look_up.Statement.{statement}
 use Rattle.walk.proofs.look_up.look_up.Tie as tie
 use Rattle.walk.proofs.look_up.look_up.Reads as reads
 use Rattle.walk.proofs.look_up.look_up.Lts as lts
-use Rattle.pool.proofs.shape.is_shaped.Reads as is-shaped-reads
+use Rattle.shape.proofs.is_shaped.Reads as is-shaped-reads
 use Rattle.walk.proofs.look_up.is_spanned.Reads as is-spanned-reads
 use Rattle.walk.proofs.look_up.walk_from.Reads as walk-from-reads
 

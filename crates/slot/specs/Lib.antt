@@ -1,0 +1,2 @@
+-- The entry of a level that holds an address.
+pub mod Slot

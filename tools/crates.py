@@ -1,8 +1,8 @@
 #!/usr/bin/env python3
 """crates.py [LOG]: writes crates.txt from the table "leans on" of docs/ARCHITECTURE.md.
 
-A crate must name every crate whose types its values reach, so a line names all that stands below. Crates of one depth, which the gate proves two at a time, stand by
-falling time, so that like is paired with like: LOG is what `rt prove` printed (without it they stand by name).
+A crate must name every crate whose types its values reach, so a line names all that stands below. Crates of one depth, which the gate proves in batches, stand by
+falling time, so that a batch holds like with like: LOG is what `rt ci` printed (without it they stand by name).
 """
 import os, re, sys
 

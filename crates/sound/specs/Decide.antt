@@ -12,6 +12,7 @@ use Rattle.pool.specs.State.{St, tables, wordAt, numberAt, used-in}
 use Rattle.pool.specs.Number.{rootNumber, levelOf, parentOf, slotOf}
 use Rattle.pool.specs.Refuse.{Shaped}
 use Rattle.pool.specs.Sound.{flagSet, leafb, namesb, hangsb, tableb, linkb, refersb, slotb, soundb, names-says, says-names, wordb, slot-place, sound-table, sound-slot}
+use Rattle.hang.specs.Hang.{hangs-to, hangs-of}
 use Rattle.pool.specs.declared.Handle.{Handle}
 use Rattle.forest.specs.Sound.{TableWord}
 use Rattle.sound.specs.Clauses.{InUse, levelAt, HangsIn, LinksTo, LeafWord, SoundPool}
@@ -29,36 +30,23 @@ says-refers y w table = and-i (ltb (levelOf y) 3) (eqb (w % 4) 3) (lt→ltb (lev
 
 module _ (h : Handle) (s : St) where
   hangs-says : (k : ℕ) → T (hangsb (h .base .0) s k) → HangsIn h s k (parentOf (numberAt s k)) (slotOf (numberAt s k))
-  unfolding hangsb
   hangs-says k t =
       let x = numberAt s k in
-      let y = numberAt s (parentOf x) in
-      let level = eqb (levelOf x) (suc (levelOf y)) in
-      let used = ltb 0 y in
-      let word = eqb (wordAt s (parentOf x) (slotOf x)) (linkOf (h .base .0) k) in
-      let t₁ = and-r (namesb x) (level && (used && word)) t in
-      let t₂ = and-r level (used && word) t₁ in
-      let below = eqb→eq (levelOf x) (suc (levelOf y)) (and-l level (used && word) t₁) in
-      record {
-        names = names-slot x (names-says x (and-l (namesb x) (level && (used && word)) t));
-        used = ltb→lt 0 y (and-l used word t₂);
-        higher = omega (arith, below);
-        refers = eqb→eq (wordAt s (parentOf x) (slotOf x)) (linkOf (h .base .0) k) (and-r used word t₂);
-      }
+      let g = hangs-to (h .base .0) s k t in
+      record { names = names-slot x (names-says x (g .named)); used = g .parent; higher = omega (arith, g .deeper); refers = g .says }
 
   says-hangs : (k p i : ℕ) → HangsIn h s k p i → T (hangsb (h .base .0) s k)
-  unfolding hangsb
   says-hangs k p i hangs =
       let x = numberAt s k in
-      let y = numberAt s (parentOf x) in
       let from : parentOf x ≡ p = slot-parent (hangs .names) in
       let at : slotOf x ≡ i = slot-slot (hangs .names) in
-      let below : levelOf x ≡ suc (levelOf y) = subst⁻¹ (λ (q : ℕ). levelOf x ≡ suc (levelAt s q)) from (omega (arith, hangs .higher)) in
-      let refers : wordAt s (parentOf x) (slotOf x) ≡ linkOf (h .base .0) k = rw (from, at) (hangs .refers) in
-      and-i (namesb x) _ (says-names x (slot-names (hangs .names)))
-      (and-i (eqb (levelOf x) (suc (levelOf y))) _ (eq→eqb (levelOf x) (suc (levelOf y)) below)
-      (and-i (ltb 0 y) _ (lt→ltb 0 y (subst⁻¹ (λ (q : ℕ). InUse s q) from (hangs .used)))
-      (eq→eqb (wordAt s (parentOf x) (slotOf x)) (linkOf (h .base .0) k) refers)))
+      hangs-of (h .base .0) s k
+      (record {
+        named = says-names x (slot-names (hangs .names));
+        deeper = subst⁻¹ (λ (q : ℕ). levelOf x ≡ suc (levelAt s q)) from (omega (arith, hangs .higher));
+        parent = subst⁻¹ (λ (q : ℕ). InUse s q) from (hangs .used);
+        says = rw (from, at) (hangs .refers);
+      })
 
   link-says : (k i w : ℕ) → w ≡ wordAt s k i → T (linkb (h .base .0) s k i w) → (c : ℕ) × LinksTo h s k i c
   unfolding linkb

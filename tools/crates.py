@@ -7,7 +7,7 @@ falling time, so that a batch holds like with like: LOG is what `rt ci` printed 
 import os, re, sys
 
 KIT = ['io', 'libc']
-USES_KIT = 'script'
+USES_KIT = {'script', 'forms'}
 
 
 def read_times(path):
@@ -18,7 +18,7 @@ def read_times(path):
 def read_table():
     text = open('docs/ARCHITECTURE.md').read()
     rows = text[text.index('| Crate | leans on |'):].split('\n\n')[0].split('\n')[2:]
-    leans = {'laws': [], 'reach': []}
+    leans = {'laws': [], 'reach': [], 'expected': []}
     for row in rows:
         names, below = (cell.split(', ') for cell in row.strip('| ').split(' | '))
         leans.update({name: below for name in names})
@@ -42,6 +42,6 @@ order = sorted(leans, key=lambda name: (depth(leans, name), -times.get(name, 0),
 lines = ['# Written by tools/crates.py from the table in docs/ARCHITECTURE.md. A line for each crate: NAME: all that stands below it.']
 for name in order:
     lower = below(leans, name)
-    needs = [other for other in order if other in lower] + (KIT if USES_KIT in lower | {name} else [])
+    needs = [other for other in order if other in lower] + (KIT if USES_KIT & (lower | {name}) else [])
     lines.append(' '.join([name + ':'] + needs))
 open('crates.txt', 'w').write('\n'.join(lines) + '\n')

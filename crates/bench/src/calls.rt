@@ -1,13 +1,13 @@
 // The library's calls by their outside names, on the bench's pool: each answer is said in words and kept.
 // No function needs anything of its caller.
-use session::Answer;
+use expected::Answer;
+use expected::answered;
 use session::Args;
 use session::DONE;
 use session::ENTRIES;
 use session::Handle;
 use session::IN_USE;
 use session::MAKE;
-use session::answered;
 use session::say_answer;
 
 // `make TABLES BASE LEVEL RANGE`, on as many tables.
@@ -95,7 +95,7 @@ fn modify(words: &mut [u64], ledger: &mut [u32], handle: Handle, args: Args, liv
     );
     say_answer(IN_USE, refusal, &answer);
     if refusal == 0 {
-        view::say_numbers(&list, answer[1]);
+        listing::say_numbers(&list, answer[1]);
     }
     answered(refusal, &answer)
 }
@@ -137,7 +137,7 @@ fn list(words: &[u64], ledger: &[u32], handle: Handle, args: Args) -> Answer {
     );
     say_answer(ENTRIES, refusal, &answer);
     if refusal == 0 {
-        view::say_lines(&lines, answer[0]);
+        listing::say_lines(&lines, answer[0]);
     }
     answered(refusal, &answer)
 }

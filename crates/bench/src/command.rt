@@ -1,6 +1,6 @@
 // A command by its number, with its values: the part of the pool that it works on, and the call.
 use crate::calls;
-use session::Answer;
+use expected::Answer;
 use session::Args;
 use session::Bench;
 use session::Handle;

@@ -1,5 +1,5 @@
 // A bench to type at: it reads a script from standard input, a call a line, and prints each answer in words.
-// Leans on ptb for the calls, on script for the lines, on session for what it keeps, on report and view for the words.
+// Leans on ptb for the calls, on script for the lines, on session and expected for what it keeps, on report and listing for the words.
 mod calls;
 mod command;
 

@@ -19,7 +19,7 @@ fn image(words: &[u64], ledger: &[u32], list: &mut [u64], c: Call, answer: &mut 
         &mut page[..length],
         answer,
     );
-    stored::put_word(list, 0, stored::page(&page, length));
+    stored::put_word(list, 0, sum::page(&page, length));
     refusal
 }
 

@@ -51,7 +51,7 @@ fn turn(
     let mut answer = [UNWRITTEN; 4];
     let room = kind::room_of(kind, call.first);
     let refusal = lend(kind, words, ledger, &mut list, room, call, &mut answer);
-    let sum = stored::left(&list, room, words, call.words, ledger, call.numbers);
+    let sum = sum::left(&list, room, words, call.words, ledger, call.numbers);
     stored::compare(tallies, kind, number, line, refusal, &answer, sum);
 }
 

@@ -1,7 +1,7 @@
 // An entry: what a walk answers, and the line of a list. The names of flags are those of El1Attributes (descriptor.rs, aarch64-paging 0.12.3).
-use crate::say;
-use crate::say_form;
-use crate::say_line;
+use forms::say;
+use forms::say_form;
+use forms::say_line;
 
 // Which name stands for a bit, where `rest` is the flags from that bit on: its own, or that of the field that begins there.
 // No name stands in line 2, for a bit that is not set.

@@ -1,6 +1,6 @@
 // A page image: the eight bytes of each word that is not zero.
-use crate::say;
-use crate::say_hex;
+use forms::say;
+use forms::say_hex;
 use reach::byte_at;
 
 // Whether a row's eight bytes are zero.

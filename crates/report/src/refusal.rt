@@ -1,5 +1,5 @@
 // The refusal slip of document 01: what each number means, and what it carries.
-use crate::say_row;
+use forms::say_row;
 
 // A refusal by its number, from 1 on, with its meaning and the values that it carries; 1 and 8 carry nothing.
 pub fn say_refusal(refusal: u64, values: &[u64; 4]) {

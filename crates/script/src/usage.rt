@@ -1,13 +1,13 @@
 // What a line asks: a command of a usage table, with its values.
 // The table has a line for each command: its name, then a word for each value; what may be left out stands in brackets.
-use crate::MOST;
-use crate::NOWHERE;
-use crate::Word;
-use crate::count_words;
-use crate::line_of;
-use crate::next_word;
-use crate::place_of;
-use crate::values_of;
+use crate::values::values_of;
+use text::MOST;
+use text::NOWHERE;
+use text::Word;
+use text::count_words;
+use text::line_of;
+use text::next_word;
+use text::place_of;
 
 // What a line asks: a command by its line in the table, with so many values; or why it asks nothing, and the word.
 pub struct Ask {

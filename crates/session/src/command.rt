@@ -1,8 +1,8 @@
 // What a command works on, and what shows the pool or is written by hand.
-use crate::state::Answer;
 use crate::state::Args;
 use crate::state::Bench;
 use crate::state::Handle;
+use expected::Answer;
 
 // The first call that writes.
 pub const MAKE: u64 = 9;

@@ -1,5 +1,5 @@
 // What the bench keeps from line to line, what it says beside the calls, and what a script expects of an answer.
-// Leans on script for a line, on report and view for the words. No function needs anything of its caller.
+// Leans on script for a line, on expected for an answer, on forms, report and view for the words. No function needs anything of its caller.
 mod command;
 mod compare;
 mod say;
@@ -20,8 +20,6 @@ pub use say::complain;
 pub use say::echo;
 pub use say::say_answer;
 pub use say::say_no_pool;
-pub use state::Answer;
 pub use state::Args;
 pub use state::Bench;
 pub use state::Handle;
-pub use state::answered;

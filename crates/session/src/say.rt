@@ -1,7 +1,7 @@
 // What is said beside the calls: a line, why it is not understood or has no pool, an answer, the tallies.
 use crate::state::Bench;
 use script::Ask;
-use script::Word;
+use text::Word;
 
 // How an accepted call's answer is said.
 pub const DONE: u64 = 0;
@@ -22,14 +22,14 @@ pub fn say_answer(form: u64, refusal: u64, answer: &[u64; 4]) {
   accepted: entries $
   accepted, with # # # #
 ";
-    report::say_row(forms, form, answer);
+    forms::say_row(forms, form, answer);
 }
 
 // The line itself, as it was read.
 pub fn echo(text: &[u8; 256], length: usize) {
     let end = if length < 256 { length } else { 256 };
-    report::say_part(text, Word { start: 0, end });
-    report::say(b"\n");
+    forms::say_part(text, Word { start: 0, end });
+    forms::say(b"\n");
 }
 
 // Why a line is not understood, as in `Ask`, with the word; where its values are too few or too many, how the command is used.
@@ -41,14 +41,14 @@ pub fn complain(text: &[u8], usage: &[u8], ask: Ask, number: u64) {
   line $: a number above 2^64 - 1: 
   line $: no number: 
 ";
-    report::say_form(reasons, ask.why, &[number, 0, 0, 0]);
+    forms::say_form(reasons, ask.why, &[number, 0, 0, 0]);
     if ask.why == 3 {
-        report::say_line(usage, ask.command);
+        forms::say_line(usage, ask.command);
     } else {
         let word = ask.word;
-        report::say_part(text, word);
+        forms::say_part(text, word);
     }
-    report::say(b"\n");
+    forms::say(b"\n");
 }
 
 // Why a command has no tables to work on.
@@ -56,13 +56,13 @@ pub fn say_no_pool(number: u64, tables: u64) {
     let forms = b"  line $: there is room for 8 tables at most
   line $: there is no pool yet: make comes first
 ";
-    report::say_row(forms, if tables == 9 { 0 } else { 1 }, &[number, 0, 0, 0]);
+    forms::say_row(forms, if tables == 9 { 0 } else { 1 }, &[number, 0, 0, 0]);
 }
 
 // The tallies.
 pub fn close(bench: Bench) {
     let form = b"answers as expected: $, not as expected: $, lines not understood: $
 ";
-    report::say(b"\n");
-    report::say_row(form, 0, &[bench.held, bench.failed, bench.wrong, 0]);
+    forms::say(b"\n");
+    forms::say_row(form, 0, &[bench.held, bench.failed, bench.wrong, 0]);
 }

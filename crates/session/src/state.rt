@@ -1,8 +1,7 @@
 // What the bench keeps from line to line: its pool, what the last call answered, and its tallies.
+use expected::Answer;
+use expected::NO_CALL;
 use std::num::wrapping_add_u64;
-
-// In place of a refusal's number before the first call: above them all.
-pub const NO_CALL: u64 = 12;
 
 // The handle of a pool.
 pub struct Handle {
@@ -18,26 +17,6 @@ pub struct Args {
     pub third: u64,
     pub fourth: u64,
     pub fifth: u64,
-}
-
-// What a call answered: 0 or its refusal, NO_CALL before the first; and its values.
-pub struct Answer {
-    pub refusal: u64,
-    pub first: u64,
-    pub second: u64,
-    pub third: u64,
-    pub fourth: u64,
-}
-
-// What a call answered, to be kept.
-pub fn answered(refusal: u64, values: &[u64; 4]) -> Answer {
-    Answer {
-        refusal,
-        first: values[0],
-        second: values[1],
-        third: values[2],
-        fourth: values[3],
-    }
 }
 
 pub struct Bench {

@@ -1,10 +1,9 @@
-// A stored list of calls with their answers: its lines by kind, the sum of what a call leaves, and the tallies of what agrees.
-// Leans on script for a line, on report for a name, on reach for what another hand writes. No function needs anything of its caller.
+// A stored list of calls with their answers: its lines by kind, and the tallies of what agrees.
+// Leans on script for a line, on forms for a name, on reach for what another hand writes. No function needs anything of its caller.
 mod call;
 mod hand;
 pub mod kind;
 mod numbers;
-mod sum;
 mod tally;
 
 pub use call::Call;
@@ -14,8 +13,6 @@ pub use hand::put_number;
 pub use hand::put_word;
 pub use numbers::UNWRITTEN;
 use script::Line;
-pub use sum::left;
-pub use sum::page;
 pub use tally::close;
 pub use tally::compare;
 

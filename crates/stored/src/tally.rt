@@ -97,7 +97,7 @@ fn say_kind(kind: u64) {
 , check 
 , lines that differ 
 ";
-    report::say_line(names, kind);
+    forms::say_line(names, kind);
 }
 
 // Says the tallies.

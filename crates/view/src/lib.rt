@@ -1,64 +1,5 @@
-// What stands in the words and the ledger of a pool and in a list, in words that a person reads; and what is put there by hand.
-// Leans on report for the words, on reach for a word at any place. No function needs anything of its caller.
-
-// A number of a list's line; 0 past its end.
-fn number_at(lines: &[u64], line: u64, column: u64) -> u64 {
-    if 768 <= line {
-        return 0;
-    }
-    if 4 <= column {
-        return 0;
-    }
-    reach::word_at(lines, (line * 4 + column) as usize)
-}
-
-// Whether a line is an empty entry of a level.
-fn is_empty(lines: &[u64], line: u64, level: u64) -> bool {
-    if number_at(lines, line, 2) != 0 {
-        return false;
-    }
-    number_at(lines, line, 3) == level
-}
-
-// The line after a single one, or after a run of empty entries of one level.
-fn after_run(lines: &[u64], line: u64, count: u64) -> u64 {
-    let level = number_at(lines, line, 3);
-    let mut next = line;
-    while next < count {
-        if !is_empty(lines, next, level) {
-            return if next == line { next + 1 } else { next };
-        }
-        next += 1;
-    }
-    next
-}
-
-// A line, or a run of them.
-fn say_run(lines: &[u64], line: u64, next: u64) {
-    if next <= line {
-        return;
-    }
-    report::say_entry(
-        number_at(lines, line, 0),
-        number_at(lines, next - 1, 1),
-        number_at(lines, line, 2),
-        number_at(lines, line, 3),
-        next - line,
-    );
-}
-
-// The lines of a list; empty entries of one level that follow each other share a line.
-pub fn say_lines(lines: &[u64], count: u64) {
-    let mut line = 0;
-    while line < count {
-        let next = after_run(lines, line, count);
-        if next <= line {
-            return;
-        }
-        say_run(lines, line, next);
-        line = next;
-    }
-}
+// What stands in the words and the ledger of a pool, in words that a person reads; and what is put there by hand.
+// Leans on forms for the words, on reach for a word at any place. No function needs anything of its caller.
 
 // Where a word stands in the pool; the pool's length if it is in none of its tables.
 fn place_of(words: &[u64], table: u64, slot: u64) -> usize {
@@ -73,7 +14,7 @@ fn place_of(words: &[u64], table: u64, slot: u64) -> usize {
 
 // A word, by its table and slot.
 fn say_word(table: u64, slot: u64, word: u64) {
-    report::say_row(b"  table $ word $: #\n", 0, &[table, slot, word, 0]);
+    forms::say_row(b"  table $ word $: #\n", 0, &[table, slot, word, 0]);
 }
 
 // What can't be shown or written: 0 a word, 1 a ledger number's table, 2 a ledger number.
@@ -82,7 +23,7 @@ fn say_wrong(what: u64) {
   there is no such table
   a ledger number has 32 bits
 ";
-    report::say_row(forms, what, &[0; 4]);
+    forms::say_row(forms, what, &[0; 4]);
 }
 
 // The word at a table's slot, and whether there is one.
@@ -131,7 +72,7 @@ fn count_words(words: &[u64]) -> u64 {
 // How many words of the pool are not zero.
 pub fn say_words_not_zero(words: &[u64]) {
     let count = count_words(words);
-    report::say_row(b"  words not zero: $\n", 0, &[count, 0, 0, 0]);
+    forms::say_row(b"  words not zero: $\n", 0, &[count, 0, 0, 0]);
 }
 
 // A word written by hand.
@@ -150,10 +91,10 @@ fn say_slot(number: u64) {
 ";
     if number < 8 {
         let form = if number == 0 { 0 } else { 1 };
-        return report::say_row(forms, form, &[0; 4]);
+        return forms::say_row(forms, form, &[0; 4]);
     }
     let slot = number / 8 - 1;
-    report::say_row(forms, 2, &[slot / 512, slot % 512, 0, 0]);
+    forms::say_row(forms, 2, &[slot / 512, slot % 512, 0, 0]);
 }
 
 // A ledger number: the table's level, and the slot that refers to it.
@@ -163,7 +104,7 @@ fn say_entered(table: u64, entered: u32) {
   table $: $, level $
 ";
     let form = if number == 0 { 0 } else { 1 };
-    report::say_form(forms, form, &[table, number, (number % 8 + 4) % 8, 0]);
+    forms::say_form(forms, form, &[table, number, (number % 8 + 4) % 8, 0]);
     say_slot(number);
 }
 
@@ -188,21 +129,4 @@ pub fn enter(ledger: &mut [u32], table: u64, number: u64) {
     let entered = number as u32;
     ledger[at] = entered;
     say_entered(table, entered);
-}
-
-// A line of the list that a live modify fills.
-fn say_number(number: u64) {
-    report::say_row(b"  page number #\n", 0, &[number, 0, 0, 0]);
-}
-
-// The first numbers of a list, a line each.
-pub fn say_numbers(list: &[u64], count: u64) {
-    let mut place = 0;
-    while place < list.len() {
-        if count <= place as u64 {
-            return;
-        }
-        say_number(list[place]);
-        place += 1;
-    }
 }

@@ -8,7 +8,7 @@ use Rattle.replay.proofs.call.image.Reads as reads
 use Rattle.replay.proofs.call.image.Lts as lts
 use Rattle.ptb.proofs.ptb_image.Reads as ptb-image-reads
 use Rattle.stored.proofs.put_word.Reads as put-word-reads
-use Rattle.stored.proofs.page.Reads as page-reads
+use Rattle.sum.proofs.page.Reads as page-reads
 
 returns : tie.Need-returns
 returns c = tt

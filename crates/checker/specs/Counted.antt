@@ -16,7 +16,7 @@ use Rattle.pool.specs.State.{St, tables, numberAt, used-in}
 use Rattle.pool.specs.Number.{rootNumber, parentOf, used}
 use Rattle.pool.specs.Refuse.{Shaped}
 use Rattle.pool.specs.Sound.{namesb, hangsb, tableb, linkb, slotb, soundb, names-says}
-use Rattle.scan.specs.Answer.{count-most}
+use Rattle.runs.specs.Answer.{count-most}
 use Rattle.pass.specs.Stream.{runPasses, tablePasses, tableLinks}
 use Rattle.checker.specs.Row.{wordIn, linkIn, passIn, used-sum, all-links, runs-to, runs-of}
 use Rattle.hang.specs.Hang.{Named, Hangs, hangs-to}

@@ -13,7 +13,7 @@ use Rattle.entry.specs.Word.{addressOf, linkOf}
 use Rattle.pool.specs.State.{St, tables, numberAt, used-in}
 use Rattle.pool.specs.Number.{levelOf, parentOf, slotOf}
 use Rattle.pool.specs.Sound.{flagSet, leafb, namesb, linkb, refersb, slotb, names-says}
-use Rattle.scan.specs.Words.{passesb, linkCount}
+use Rattle.runs.specs.Words.{passesb, linkCount}
 use Rattle.pool.specs.declared.Handle.{Handle}
 use Rattle.hang.specs.Hang.{Named}
 

@@ -3,7 +3,7 @@ use pool::Found;
 use pool::Handle;
 use pool::Outcome;
 use pool::Refusal;
-use scan::Run;
+use runs::Run;
 ghost use mathlib.Core.Path.{_≡_};
 ghost use Rattle.pool.specs.State.{st};
 ghost use Rattle.pool.specs.Refuse.{Shaped};

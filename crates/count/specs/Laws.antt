@@ -20,7 +20,7 @@ use Rattle.rules.specs.declared.Rule.the-variants.{Write, Keep, Drop, Down}
 use Rattle.rules.specs.Rules.{ruleOf}
 use Rattle.need.specs.Needed.{ifDown, needBelow, needChunk, needTable, sumChunks}
 use Rattle.need.specs.Closed.{startOf, endOf, closedLeaf, closed, closed-most}
-use Rattle.ends.specs.Laws.{leaf-open, Other, is-down, leaf-none, leaf-low}
+use Rattle.need.specs.Ends.{leaf-open, Other, is-down, leaf-none, leaf-low}
 
 -- ---- count_over
 

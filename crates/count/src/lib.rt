@@ -89,7 +89,7 @@ pub fn count_over(words: &[u64], ledger: &[u32], handle: Handle, map: Map, free:
     requires { ⌜ (length (now words) ≡ 512 * length (now ledger)) × (0 < length (now ledger)) × (handle .level ≤ 3) × Fit map ⌝ }
     ensures { λ r. ⌜ r ≡ over free (closed (3 - handle .level) handle (st (now (words .entry)) (now (ledger .entry))) 0 map) ⌝ }
 {
-    if ends::count_most(map.region.start.0, map.region.end.0, handle.level) <= free {
+    if rest::count_most(map.region.start.0, map.region.end.0, handle.level) <= free {
         return 0;
     }
     let needed = count_new(words, ledger, handle, 0, handle.level, map);

@@ -5,7 +5,7 @@ use native.Mathlib.Omega.{arith}
 use denote.Enum.Declared.{tagOf, declared}
 use Rattle.rules.specs.declared.Rule.{Rule}
 use Rattle.rules.specs.declared.Rule.the-variants.{Write, Keep, Drop, Down}
-use Rattle.ends.specs.Laws.{Other, other-write, other-keep, other-drop}
+use Rattle.need.specs.Ends.{Other, other-write, other-keep, other-drop}
 use Rattle.rules.proofs.Rule.{enum}
 use Rattle.entry.specs.declared.Sub.{Sub}
 use Rattle.entry.specs.declared.Sub.the-variants.{Leaf}

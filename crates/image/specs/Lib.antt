@@ -1,3 +1,2 @@
--- One table as the bytes of a page: the bytes, and the whole call.
-pub mod Image
+-- One table as the bytes of a page: the whole call.
 pub mod Call

@@ -4,3 +4,4 @@ pub mod Closed
 pub mod Missed
 pub mod Count
 pub mod SoundCount
+pub mod Ends

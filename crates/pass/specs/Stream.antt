@@ -7,10 +7,10 @@ use Rattle.laws.specs.Sum.{sum}
 use Rattle.laws.specs.Test.{allBelow}
 use Rattle.pool.specs.State.{St, tables, numberAt}
 use Rattle.pool.specs.Sound.{flagSet, tableb}
-use Rattle.scan.specs.Words.{passAll, countAll}
+use Rattle.runs.specs.Words.{passAll, countAll}
 use Rattle.pool.specs.declared.Handle.{Handle}
-use Rattle.scan.specs.declared.Run.{Run}
-use Rattle.scan.specs.declared.Run.the-variants.{Passed, Failed}
+use Rattle.runs.specs.declared.Run.{Run}
+use Rattle.runs.specs.declared.Run.the-variants.{Passed, Failed}
 
 -- a table is read in four runs of 128 words
 abbrev pub runWords : St → ℕ → ℕ → List ℕ

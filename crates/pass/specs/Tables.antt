@@ -9,7 +9,7 @@ use Rattle.pool.specs.State.{St, tables}
 use Rattle.pool.specs.Sound.{tableb}
 use Rattle.pass.specs.Stream.{runPasses, tablePasses, tableLinks, tablesRun}
 use Rattle.pool.specs.declared.Handle.{Handle}
-use Rattle.scan.specs.declared.Run.the-variants.{Passed, Failed}
+use Rattle.runs.specs.declared.Run.the-variants.{Passed, Failed}
 
 pub tables-passed : (h : Handle) (s : St) (links : ℕ) → T (allBelow (tables s) (tablePasses h s)) → links ≡ sum (tables s) (tableLinks s) → Passed links ≡ tablesRun h s
 unfolding tablesRun

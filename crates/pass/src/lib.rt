@@ -1,6 +1,6 @@
 // The pass of the pool check: every table's number, then its words in four runs.
 use pool::Handle;
-use scan::Run;
+use runs::Run;
 ghost use mathlib.Core.Path.{_≡_};
 ghost use Rattle.pool.specs.State.{st};
 ghost use Rattle.pool.specs.Refuse.{Shaped};
@@ -19,7 +19,7 @@ pub fn scan_tables(words: &[u64], ledger: &[u32], handle: Handle) -> Run
         if n <= k {
             break 'tables Run::Passed(links);
         }
-        if !hang::table_holds(words, ledger, handle, k) {
+        if !holds::table_holds(words, ledger, handle, k) {
             break 'tables Run::Failed;
         }
         let number = ledger[k];

@@ -26,12 +26,12 @@ pub fn split_entry(
     let word = words[512 * k + i];
     let flags = entry::flags(word);
     if word % 2 != 1 {
-        return table::take_table(words, ledger, handle, level + 1, k, i, flags, 0);
+        return take::take_table(words, ledger, handle, level + 1, k, i, flags, 0);
     }
     let address = (word & entry::ADDRESS_BITS) & !(address::granularity_at_level(level) - 1);
     let first = rules::leaf_word(level + 1, PhysicalAddress(address), flags);
     let step = address::granularity_at_level(level + 1);
-    table::take_table(words, ledger, handle, level + 1, k, i, first, step)
+    take::take_table(words, ledger, handle, level + 1, k, i, first, step)
 }
 
 // The table below a slot: the one that is there, or a new one.

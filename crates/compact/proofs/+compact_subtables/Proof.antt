@@ -16,7 +16,7 @@ use borrow.Fn.PlainCycle.{Measures, is, falls, and}
 use Rattle.compact.proofs.compact_subtables.Reads as reads
 use Rattle.compact.proofs.compact_subtables.Kinds as kinds
 use Rattle.compact.proofs.+compact_subtables.Lts-compact_subtables as lts
-use Rattle.compact.proofs.release_empty.Reads as release-empty-reads
+use Rattle.release.proofs.release_empty.Reads as release-empty-reads
 use Rattle.entry.proofs.subtable.Reads as subtable-reads
 use Rattle.compact.proofs.+compact_subtables.{statement}
 use Rattle.compact.proofs.+compact_subtables.Tie.{close}

@@ -9,7 +9,7 @@ use Rattle.count.proofs.count_over.Statement.{statement}
 use Rattle.count.proofs.count_over.Tie as tie
 use Rattle.count.proofs.count_over.Reads as reads
 use Rattle.count.proofs.count_over.Lts as lts
-use Rattle.ends.proofs.count_most.Reads as count-most-reads
+use Rattle.rest.proofs.count_most.Reads as count-most-reads
 use Rattle.count.proofs.count_new.Reads as count-new-reads
 
 count-most-requires : tie.Need-count-most-requires

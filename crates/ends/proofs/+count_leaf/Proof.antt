@@ -10,7 +10,7 @@ use Rattle.rules.specs.Fit.{Fit}
 use Rattle.rules.specs.Laws.{down-high}
 use Rattle.need.specs.Needed.{childWord, firstChunk}
 use Rattle.need.specs.Closed.{rests, closedLeaf}
-use Rattle.ends.specs.Laws.{leaf-none, leaf-low, leaf-down, leaf-fit, rests-fit, first-fit, length-fits}
+use Rattle.need.specs.Ends.{leaf-none, leaf-low, leaf-down, leaf-fit, rests-fit, first-fit, length-fits}
 use Rattle.ends.proofs.Tags.{no-down}
 use Prim.Native.Nat.{ℕ, _<_}
 use borrow.Fn.Kinds.{In}
@@ -18,7 +18,7 @@ use borrow.Fn.PlainCycle.{Measures, is, falls, and}
 use Rattle.ends.proofs.count_leaf.Reads as count-leaf
 use Rattle.ends.proofs.count_leaf.Kinds as count-leaf-kinds
 use Rattle.ends.proofs.+count_leaf.Lts-count_leaf as count-leaf-lts
-use Rattle.ends.proofs.count_rest.Reads as count-rest-reads
+use Rattle.rest.proofs.count_rest.Reads as count-rest-reads
 use Rattle.ends.proofs.part_of.Reads as part-of-reads
 use Rattle.rules.proofs.chunk_of.Reads as chunk-of-reads
 use Rattle.rules.proofs.rule_of.Reads as rule-of-reads

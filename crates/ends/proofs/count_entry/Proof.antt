@@ -9,15 +9,15 @@ use Rattle.rules.specs.Fit.{Fit}
 use Rattle.need.specs.Closed.{rests, closedLeaf}
 use Rattle.need.specs.Missed.{missedb, down-misses, missed-starts, missed-says}
 use Rattle.need.specs.Count.{leaf-missed}
-use Rattle.ends.specs.Laws.{leaf-none, rests-fit, length-fits}
+use Rattle.need.specs.Ends.{leaf-none, rests-fit, length-fits}
 use Rattle.ends.proofs.Tags.{no-down}
 use Rattle.ends.proofs.count_entry.Statement.{statement}
 use Rattle.ends.proofs.count_entry.Tie as tie
 use Rattle.ends.proofs.count_entry.Reads as reads
 use Rattle.ends.proofs.count_entry.Lts as lts
 use Rattle.ends.proofs.count_leaf.Reads as count-leaf-reads
-use Rattle.ends.proofs.count_rest.Reads as count-rest-reads
-use Rattle.ends.proofs.is_missed.Reads as is-missed-reads
+use Rattle.rest.proofs.count_rest.Reads as count-rest-reads
+use Rattle.rest.proofs.is_missed.Reads as is-missed-reads
 use Rattle.rules.proofs.chunk_of.Reads as chunk-of-reads
 use Rattle.rules.proofs.rule_of.Reads as rule-of-reads
 

@@ -7,7 +7,7 @@ use Rattle.laws.specs.Size.{sizeAt, size-pos, size-down, down}
 use Rattle.entry.specs.Word.{addressOf, address-below, mask-address}
 use Rattle.slot.specs.Slot.{entryIndex}
 use Rattle.need.specs.Needed.{slot-below, child-hole, child-block}
-use Rattle.ends.specs.Laws.{PartFits, part-fits}
+use Rattle.need.specs.Ends.{PartFits, part-fits}
 use Rattle.ends.proofs.part_of.Statement.{statement}
 use Rattle.ends.proofs.part_of.Tie as tie
 use Rattle.ends.proofs.part_of.Reads as reads

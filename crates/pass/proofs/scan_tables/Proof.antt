@@ -12,9 +12,9 @@ use Rattle.pool.specs.State.{st, tables, numberAt}
 use Rattle.pool.specs.Refuse.{maxTables}
 use Rattle.pool.specs.Sound.{flagSet}
 use Rattle.pass.specs.Stream.{runWords, runPasses, runLinks, tablePasses, tableLinks}
-use Rattle.scan.specs.Words.{runOf}
-use Rattle.scan.specs.Mask.{PlainSet, el1-plain}
-use Rattle.scan.specs.Answer.{count-below, run-passed, run-failed}
+use Rattle.runs.specs.Words.{runOf}
+use Rattle.runs.specs.Mask.{PlainSet, el1-plain}
+use Rattle.runs.specs.Answer.{count-below, run-passed, run-failed}
 use Rattle.pass.specs.Tables.{tables-passed, tables-failed, number-fails, run-fails, table-passes}
 use Rattle.pass.proofs.scan_tables.Statement.{statement}
 use Rattle.pass.proofs.scan_tables.Tie as tie
@@ -22,7 +22,7 @@ use Rattle.pass.proofs.scan_tables.Reads as reads
 use Rattle.pass.proofs.scan_tables.Lts as lts
 use Rattle.shape.proofs.flag_set.Reads as flag-set-reads
 use Rattle.scan.proofs.scan.Reads as scan-reads
-use Rattle.hang.proofs.table_holds.Reads as table-holds-reads
+use Rattle.holds.proofs.table_holds.Reads as table-holds-reads
 
 abbrev Inv-loop : tie.InvT-loop
 Inv-loop words ledger handle n set links₀ k number r₀ links r =

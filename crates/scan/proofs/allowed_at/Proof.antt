@@ -3,7 +3,7 @@ use native.Mathlib.Omega.{arith}
 use mathlib.Core.Path.{_≡_, refl, sym, ap}
 use Prim.Native.Nat.{ℕ, zero, suc, _+_, _-_, _^_}
 use Rattle.laws.specs.Size.{sizeAt}
-use Rattle.scan.specs.Words.{allowedAt}
+use Rattle.runs.specs.Words.{allowedAt}
 use Rattle.scan.proofs.allowed_at.Statement.{statement}
 use Rattle.scan.proofs.allowed_at.Tie as tie
 use Rattle.scan.proofs.allowed_at.Reads as reads

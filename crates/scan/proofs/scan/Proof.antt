@@ -3,16 +3,16 @@ use mathlib.Core.Path.{_≡_, refl, sym, ap, _∙_}
 use Prim.Native.Nat.{ℕ}
 use native.Mathlib.Omega.{arith}
 use Rattle.pool.specs.Number.{levelOf}
-use Rattle.scan.specs.Words.{runOf, freeRun, pagesRun, linksRun, allowedAt}
-use Rattle.scan.specs.Mask.{free-run, pages-run, links-run}
+use Rattle.runs.specs.Words.{runOf, freeRun, pagesRun, linksRun, allowedAt}
+use Rattle.runs.specs.Mask.{free-run, pages-run, links-run}
 use Rattle.scan.proofs.scan.Statement.{statement}
 use Rattle.scan.proofs.scan.Tie as tie
 use Rattle.scan.proofs.scan.Reads as reads
 use Rattle.scan.proofs.scan.Lts as lts
 use Rattle.scan.proofs.allowed_at.Reads as allowed-at-reads
-use Rattle.scan.proofs.scan_free.Reads as scan-free-reads
-use Rattle.scan.proofs.scan_links.Reads as scan-links-reads
-use Rattle.scan.proofs.scan_pages.Reads as scan-pages-reads
+use Rattle.runs.proofs.scan_free.Reads as scan-free-reads
+use Rattle.runs.proofs.scan_links.Reads as scan-links-reads
+use Rattle.runs.proofs.scan_pages.Reads as scan-pages-reads
 
 scan-free-requires : tie.Need-scan-free-requires
 scan-free-requires c κs = omega arith

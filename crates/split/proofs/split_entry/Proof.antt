@@ -18,7 +18,7 @@ use Rattle.split.proofs.split_entry.Lts as lts
 use Rattle.address.proofs.granularity_at_level.Reads as granularity-at-level-reads
 use Rattle.entry.proofs.flags.Reads as flags-reads
 use Rattle.rules.proofs.leaf_word.Reads as leaf-word-reads
-use Rattle.table.proofs.take_table.Reads as take-table-reads
+use Rattle.take.proofs.take_table.Reads as take-table-reads
 
 up : (level : ℕ) → level < 3 → level + 1 ≤ 3
 up level h = omega arith

@@ -1,0 +1,2 @@
+-- A table's words as bytes.
+pub mod Image

@@ -1,2 +1,0 @@
--- The count for an entry that is no table.
-pub mod Laws

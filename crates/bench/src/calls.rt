@@ -181,10 +181,14 @@ pub fn write(
     handle: Handle,
     args: Args,
 ) -> Answer {
-    match command {
-        MAKE => make(words, ledger, handle),
-        10 | 11 => map(words, ledger, handle, args),
-        12 | 13 => modify(words, ledger, handle, args, command % 2),
-        _ => compact(words, ledger, handle),
+    if command == MAKE {
+        return make(words, ledger, handle);
     }
+    if command < 12 {
+        return map(words, ledger, handle, args);
+    }
+    if command < 14 {
+        return modify(words, ledger, handle, args, command % 2);
+    }
+    compact(words, ledger, handle)
 }

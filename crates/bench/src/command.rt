@@ -4,8 +4,12 @@ use expected::Answer;
 use session::Args;
 use session::Bench;
 use session::Handle;
+use session::MAKE;
 
-// A command on the pool, its words and its ledger: from 5 on a call, from 9 on one that writes. `answer` stays if it is no call.
+// The first command that is a call.
+const CHECK: u64 = 5;
+
+// A command on the pool, its words and its ledger. `answer` stays if it is no call.
 fn on_pool(
     command: u64,
     count: usize,
@@ -15,14 +19,14 @@ fn on_pool(
     args: Args,
     answer: Answer,
 ) -> Answer {
-    match command {
-        0..=4 => {
-            session::by_hand(command, count, words, ledger, args);
-            answer
-        }
-        5..=8 => calls::read(command, words, ledger, handle, args),
-        _ => calls::write(command, words, ledger, handle, args),
+    if command < CHECK {
+        session::by_hand(command, count, words, ledger, args);
+        return answer;
     }
+    if command < MAKE {
+        return calls::read(command, words, ledger, handle, args);
+    }
+    calls::write(command, words, ledger, handle, args)
 }
 
 // A command on the first tables of the words, and as much of the ledger.

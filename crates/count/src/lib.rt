@@ -34,7 +34,7 @@ fn count_last(words: &[u64], ledger: &[u32], handle: Handle, k: usize, map: Map)
         let Sub::Leaf = kind else {
             continue;
         };
-        let rule = rules::rule_of(2, chunk, word);
+        let rule = choose::rule_of(2, chunk, word);
         let Rule::Down = rule else {
             continue;
         };
@@ -75,7 +75,7 @@ fn count_new(words: &[u64], ledger: &[u32], handle: Handle, k: usize, level: usi
             continue;
         };
         let chunk = rules::chunk_of(map, start, VirtualAddress(stop), first);
-        let rule = rules::rule_of(level, chunk, word);
+        let rule = choose::rule_of(level, chunk, word);
         let Rule::Down = rule else {
             continue;
         };

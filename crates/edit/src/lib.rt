@@ -37,7 +37,7 @@ pub fn modify_range(
         ≡ modifyRange (3 - level) handle k edit (work (st (now (words .entry)) (now (ledger .entry))) (now (list .entry)) before) ⌝ }
 {
     if address::LEAF_LEVEL <= level {
-        return own::edit_own(words, k, level, edit, list, before);
+        return note::edit_own(words, k, level, edit, list, before);
     }
     let end = edit.region.end.0;
     let mut at = edit.region.start.0;
@@ -56,5 +56,5 @@ pub fn modify_range(
         };
         count = modify_range(words, ledger, handle, j, level + 1, part, list, count);
     }
-    own::edit_own(words, k, level, edit, list, count)
+    note::edit_own(words, k, level, edit, list, count)
 }

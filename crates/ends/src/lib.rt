@@ -31,7 +31,7 @@ fn count_leaf(level: usize, map: Map, word: u64) -> u64
     requires { ⌜ Fit map × (map .region .start .0 < map .region .end .0) ⌝ }
     ensures { λ r. ⌜ r ≡ closedLeaf (3 - level) map word ⌝ }
 {
-    let rule = rules::rule_of(level, map, word);
+    let rule = choose::rule_of(level, map, word);
     let Rule::Down = rule else {
         return 0;
     };
@@ -72,7 +72,7 @@ pub fn count_entry(
     ensures { λ r. ⌜ r ≡ closedLeaf (3 - level) (chunkMap map (region (start .0) (end .0)) (frame .0)) word ⌝ }
 {
     let chunk = rules::chunk_of(map, start, end, frame);
-    let rule = rules::rule_of(level, chunk, word);
+    let rule = choose::rule_of(level, chunk, word);
     let Rule::Down = rule else {
         return 0;
     };

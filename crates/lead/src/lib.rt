@@ -44,7 +44,7 @@ fn next_table(
     let Sub::Table(j) = kind else {
         return Found::Nothing;
     };
-    let rule = rules::rule_of(level, map, word);
+    let rule = choose::rule_of(level, map, word);
     let Rule::Down = rule else {
         return Found::Nothing;
     };

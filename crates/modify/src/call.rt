@@ -56,7 +56,7 @@ fn modify_sound(
         word: 0,
     };
     let found = survey::survey_range(words, ledger, handle, 0, handle.level, edit, none);
-    let outcome = permit::verify_survey(free, list.len() as u64, edit.live, found);
+    let outcome = afford::verify_survey(free, list.len() as u64, edit.live, found);
     match outcome {
         Outcome::Refused(refusal) => Modified::Refused(refusal),
         Outcome::Accepted => edit_tables(words, ledger, handle, edit, list),

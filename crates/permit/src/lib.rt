@@ -1,11 +1,10 @@
-// What modify asks of its arguments, refusals 2 to 6, and of what it would do, refusals 9 to 11, each in their order.
+// What modify asks of its arguments: refusals 2 to 6, in their order.
 use own::Edit;
 use pool::Handle;
 use pool::Outcome;
 use pool::Refusal;
-use survey::Survey;
 ghost use mathlib.Core.Path.{_≡_};
-ghost use Rattle.permit.specs.Permit.{settable, verifyBits, verifyEdit, verifySurvey};
+ghost use Rattle.permit.specs.Permit.{settable, verifyBits, verifyEdit};
 
 // Whether these bits may be set: all from the flags, bit 0 not among them, none that is cleared too.
 fn are_settable(flags: u64, set: u64, clear: u64) -> bool
@@ -53,23 +52,4 @@ pub fn verify_edit(handle: Handle, end: u64, edit: Edit) -> Outcome
     };
     let region = edit.region;
     verify::verify_region(handle, region)
-}
-
-// Refusal 9, and those of a live edit: 10 and 11.
-pub fn verify_survey(free: u64, room: u64, live: bool, found: Survey) -> Outcome
-    ensures { λ r. ⌜ r ≡ verifySurvey free room live found ⌝ }
-{
-    if free < found.splits {
-        return Outcome::Refused(Refusal::WantOfRoom(found.splits, free));
-    }
-    if !live {
-        return Outcome::Accepted;
-    }
-    if found.broken {
-        return Outcome::Refused(Refusal::HouseRule(found.word));
-    }
-    if room < found.numbers {
-        return Outcome::Refused(Refusal::Short(found.numbers));
-    }
-    Outcome::Accepted
 }

@@ -39,7 +39,7 @@ pub fn map_range(
         frame += stop - at;
         at = stop;
         let word = words[512 * k + i];
-        let rule = rules::rule_of(level, chunk, word);
+        let rule = choose::rule_of(level, chunk, word);
         let Rule::Down = rule else {
             changed = put::put_entry(words, ledger, handle, level, k, i, rule, changed);
             continue;

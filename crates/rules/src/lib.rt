@@ -1,4 +1,4 @@
-// Which of the five rules fits a chunk of a map, and the word that it writes: the tests of map_range of paging.rs (aarch64-paging 0.12.3).
+// A map, the tests of its five rules, and the word that they write: map_range of paging.rs (aarch64-paging 0.12.3).
 use address::PhysicalAddress;
 use address::VirtualAddress;
 use region::MemoryRegion;
@@ -6,8 +6,7 @@ ghost use mathlib.Core.Path.{_≡_};
 ghost use Prim.Native.Nat.{_%_, _^_, _<_};
 ghost use Rattle.region.specs.Region.{region};
 ghost use Rattle.entry.specs.Word.{leafWord, Plain};
-ghost use Rattle.rules.specs.Rules.{chunkMap, rule2, blockable, ruleOf};
-ghost use Rattle.rules.specs.Fit.{Fit};
+ghost use Rattle.rules.specs.Rules.{chunkMap, rule2, blockable};
 
 // What to put down: the region, the frame of its first page, the flags, and whether blocks are allowed.
 pub struct Map {
@@ -57,7 +56,7 @@ pub fn leaf_word(level: usize, frame: PhysicalAddress, flags: u64) -> u64
 }
 
 // Rule 2: the entry maps the chunk already.
-fn is_same(level: usize, map: Map, word: u64) -> bool
+pub fn is_same(level: usize, map: Map, word: u64) -> bool
     ensures { λ r. ⌜ r ≡ rule2 level map word ⌝ }
 {
     if word % 4 == 3 {
@@ -74,7 +73,7 @@ fn is_same(level: usize, map: Map, word: u64) -> bool
 }
 
 // Rule 3's last three tests: frame aligned to the entry, blocks allowed, level above 0.
-fn is_blockable(level: usize, map: Map) -> bool
+pub fn is_blockable(level: usize, map: Map) -> bool
     ensures { λ r. ⌜ r ≡ blockable level map ⌝ }
 {
     if map.frame.0 & (address::granularity_at_level(level) - 1) != 0 {
@@ -84,31 +83,4 @@ fn is_blockable(level: usize, map: Map) -> bool
         return false;
     }
     0 < level
-}
-
-// The first rule that fits.
-pub fn rule_of(level: usize, map: Map, word: u64) -> Rule
-    requires { ⌜ Fit map × (map .region .start .0 < map .region .end .0) ⌝ }
-    ensures { λ r. ⌜ r ≡ ruleOf level map word ⌝ }
-{
-    if address::LEAF_LEVEL <= level {
-        return Rule::Write(leaf_word(level, map.frame, map.flags));
-    }
-    if is_same(level, map, word) {
-        return Rule::Keep;
-    }
-    let region = map.region;
-    if !region.is_block(level) {
-        return Rule::Down;
-    }
-    if word % 4 == 3 {
-        if map.flags % 2 != 1 {
-            return Rule::Drop(map.flags);
-        }
-        return Rule::Down;
-    }
-    if is_blockable(level, map) {
-        return Rule::Write(leaf_word(level, map.frame, map.flags));
-    }
-    Rule::Down
 }

@@ -26,7 +26,7 @@ use Rattle.entry.proofs.subtable.Reads as subtable-reads
 use Rattle.count.proofs.count_last.Reads as count-last-reads
 use Rattle.ends.proofs.count_entry.Reads as count-entry-reads
 use Rattle.rules.proofs.chunk_of.Reads as chunk-of-reads
-use Rattle.rules.proofs.rule_of.Reads as rule-of-reads
+use Rattle.choose.proofs.rule_of.Reads as rule-of-reads
 use Rattle.slot.proofs.chunk_end.Reads as chunk-end-reads
 use Rattle.slot.proofs.entry_index.Reads as entry-index-reads
 use Rattle.count.proofs.+count_new.{statement}

@@ -20,7 +20,7 @@ use Rattle.entry.proofs.subtable.Reads as subtable-reads
 use Rattle.slot.proofs.chunk_end.Reads as chunk-end-reads
 use Rattle.slot.proofs.entry_index.Reads as entry-index-reads
 use Rattle.rules.proofs.chunk_of.Reads as chunk-of-reads
-use Rattle.rules.proofs.rule_of.Reads as rule-of-reads
+use Rattle.choose.proofs.rule_of.Reads as rule-of-reads
 
 abbrev Inv-loop : tie.InvT-loop
 Inv-loop words ledger handle k map end at₀ frame₀ count₀ at frame count =

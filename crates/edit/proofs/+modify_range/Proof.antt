@@ -19,7 +19,7 @@ use Rattle.edit.proofs.modify_range.Reads as modify-range
 use Rattle.edit.proofs.modify_range.Kinds as modify-range-kinds
 use Rattle.edit.proofs.+modify_range.Lts-modify_range as modify-range-lts
 use Rattle.own.proofs.chunk_edit.Reads as chunk-edit-reads
-use Rattle.own.proofs.edit_own.Reads as edit-own-reads
+use Rattle.note.proofs.edit_own.Reads as edit-own-reads
 use Rattle.edit.proofs.is_own.Reads as is-own-reads
 use Rattle.slot.proofs.chunk_end.Reads as chunk-end-reads
 use Rattle.slot.proofs.entry_index.Reads as entry-index-reads

@@ -21,7 +21,7 @@ use Rattle.ends.proofs.+count_leaf.Lts-count_leaf as count-leaf-lts
 use Rattle.rest.proofs.count_rest.Reads as count-rest-reads
 use Rattle.ends.proofs.part_of.Reads as part-of-reads
 use Rattle.rules.proofs.chunk_of.Reads as chunk-of-reads
-use Rattle.rules.proofs.rule_of.Reads as rule-of-reads
+use Rattle.choose.proofs.rule_of.Reads as rule-of-reads
 use Rattle.slot.proofs.chunk_end.Reads as chunk-end-reads
 use Rattle.ends.proofs.+count_leaf.{statement}
 use Rattle.ends.proofs.+count_leaf.Tie.{close}

@@ -19,7 +19,7 @@ use Rattle.ends.proofs.count_leaf.Reads as count-leaf-reads
 use Rattle.rest.proofs.count_rest.Reads as count-rest-reads
 use Rattle.rest.proofs.is_missed.Reads as is-missed-reads
 use Rattle.rules.proofs.chunk_of.Reads as chunk-of-reads
-use Rattle.rules.proofs.rule_of.Reads as rule-of-reads
+use Rattle.choose.proofs.rule_of.Reads as rule-of-reads
 
 -- the chunk
 abbrev chunk : tie.Start → Map

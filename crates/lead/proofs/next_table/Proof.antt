@@ -13,7 +13,7 @@ use Rattle.lead.proofs.next_table.Lts as lts
 use Rattle.entry.proofs.subtable.Reads as subtable-reads
 use Rattle.slot.proofs.chunk_end.Reads as chunk-end-reads
 use Rattle.slot.proofs.entry_index.Reads as entry-index-reads
-use Rattle.rules.proofs.rule_of.Reads as rule-of-reads
+use Rattle.choose.proofs.rule_of.Reads as rule-of-reads
 
 returns : tie.Need-returns
 returns c = let a = c .before .before .before .args in none-leads (a .handle) (a .level) (a .k) (a .map) (st (a .words .now) (a .ledger .now))

@@ -28,7 +28,7 @@ use Rattle.split.proofs.descend.Reads as descend-reads
 use Rattle.put.proofs.ledger_changed.Reads as ledger-changed-reads
 use Rattle.put.proofs.put_entry.Reads as put-entry-reads
 use Rattle.rules.proofs.chunk_of.Reads as chunk-of-reads
-use Rattle.rules.proofs.rule_of.Reads as rule-of-reads
+use Rattle.choose.proofs.rule_of.Reads as rule-of-reads
 use Rattle.slot.proofs.chunk_end.Reads as chunk-end-reads
 use Rattle.slot.proofs.entry_index.Reads as entry-index-reads
 use Rattle.range.proofs.+map_range.{statement}

@@ -15,7 +15,7 @@ use Rattle.modify.proofs.call.modify_sound.Tie as tie
 use Rattle.modify.proofs.call.modify_sound.Reads as reads
 use Rattle.modify.proofs.call.modify_sound.Lts as lts
 use Rattle.checker.proofs.is_sound.Reads as is-sound-reads
-use Rattle.permit.proofs.verify_survey.Reads as verify-survey-reads
+use Rattle.afford.proofs.verify_survey.Reads as verify-survey-reads
 use Rattle.modify.proofs.call.edit_tables.Reads as edit-tables-reads
 use Rattle.ledger.proofs.count_used.Reads as count-used-reads
 use Rattle.survey.proofs.survey_range.Reads as survey-range-reads

@@ -4,16 +4,16 @@ use Prim.Native.Nat.{_%_, _^_, _<_}
 use native.Mathlib.Omega.{arith}
 use borrow.Author.Tests.{not-true, not-false}
 use Rattle.entry.specs.Word.{Plain}
 use Rattle.rules.specs.declared.Rule.the-variants.{Write}
 use Rattle.rules.specs.Laws.{rule-page, rule-keep, rule-part, rule-drop, rule-into, rule-block, rule-split}
 use borrow.Author.Needs.{needs}
-use Rattle.rules.proofs.rule_of.Statement.{statement}
-use Rattle.rules.proofs.rule_of.Tie as tie
-use Rattle.rules.proofs.rule_of.Reads as reads
-use Rattle.rules.proofs.rule_of.Lts as lts
+use Rattle.choose.proofs.rule_of.Statement.{statement}
+use Rattle.choose.proofs.rule_of.Tie as tie
+use Rattle.choose.proofs.rule_of.Reads as reads
+use Rattle.choose.proofs.rule_of.Lts as lts
 use Rattle.rules.proofs.is_blockable.Reads as is-blockable-reads
 use Rattle.rules.proofs.is_same.Reads as is-same-reads
 use Rattle.rules.proofs.leaf_word.Reads as leaf-word-reads
 use Rattle.region.proofs.MemoryRegion.is_block.Reads as is-block-reads
 
 -- the chunk has a page, so its frame lies below 2^48

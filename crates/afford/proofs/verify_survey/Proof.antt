@@ -1,11 +1,11 @@
 -- `verify_survey`: each way through the code by its law. Assumes nothing.
 use native.Mathlib.Omega.{arith}
 use borrow.Author.Tests.{not-true, not-false}
 use Rattle.permit.specs.Permit.{survey-full, survey-off, survey-broken, survey-short, survey-accepted}
-use Rattle.permit.proofs.verify_survey.Statement.{statement}
-use Rattle.permit.proofs.verify_survey.Tie as tie
-use Rattle.permit.proofs.verify_survey.Reads as reads
-use Rattle.permit.proofs.verify_survey.Lts as lts
+use Rattle.afford.proofs.verify_survey.Statement.{statement}
+use Rattle.afford.proofs.verify_survey.Tie as tie
+use Rattle.afford.proofs.verify_survey.Reads as reads
+use Rattle.afford.proofs.verify_survey.Lts as lts
 
 returns : tie.Need-returns
 returns c = let a = c .before .before .args in survey-full (a .free) (a .room) (a .live) (a .found) (c .if1 .taken)

@@ -1,12 +1,12 @@
 -- `put_number`: each way through the code by its law. Assumes nothing.
 use native.Mathlib.Omega.{arith}
 use borrow.Author.Tests.{not-true, not-false}
 use Rattle.own.specs.Own.{number-off, number-full, number-put}
 use lib.ListN.{length-set}
-use Rattle.own.proofs.put_number.Statement.{statement}
-use Rattle.own.proofs.put_number.Tie as tie
-use Rattle.own.proofs.put_number.Reads as reads
-use Rattle.own.proofs.put_number.Lts as lts
+use Rattle.note.proofs.put_number.Statement.{statement}
+use Rattle.note.proofs.put_number.Tie as tie
+use Rattle.note.proofs.put_number.Reads as reads
+use Rattle.note.proofs.put_number.Lts as lts
 
 returns : tie.Need-returns
 returns c = let a = c .before .args in number-off (a .number) (a .count) (a .list .now) (a .live) (not-true _ (c .if1 .taken))

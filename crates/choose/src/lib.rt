@@ -1,4 +1,4 @@
-// Which of the five rules fits a chunk of a map.
+// Which of the five rules fits a chunk of a map: the order of the tests in map_range of paging.rs (aarch64-paging 0.12.3).
 use rules::Map;
 use rules::Rule;
 ghost use mathlib.Core.Path.{_≡_};

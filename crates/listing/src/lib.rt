@@ -1,5 +1,5 @@
 // What stands in a list that a call filled, in words that a person reads: its entries, or the page numbers of those that a live modify changed.
-// Leans on report for an entry, on reach for a word at any place. No function needs anything of its caller.
+// Leans on report for an entry, on forms for a page number, on reach for a word at any place. No function needs anything of its caller.
 
 // A number of a list's line; 0 past its end.
 fn number_at(lines: &[u64], line: u64, column: u64) -> u64 {

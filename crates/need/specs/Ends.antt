@@ -1,4 +1,4 @@
--- One law for each way through the code. Assumes nothing.
+-- The closed form from a chunk's two ends: one law for each way through the code of `rest`, `ends` and `count`. Assumes nothing.
 use mathlib.Core.Path.{_≡_, refl, sym, ap, _∙_}
 use mathlib.Core.Bool.{Bool, true, false, cond, _&&_}
 use mathlib.Core.Logic.{⊎-elim}

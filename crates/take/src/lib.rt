@@ -9,7 +9,7 @@ ghost use Rattle.pool.specs.Refuse.{Shaped};
 ghost use Rattle.table.specs.Table.{rising, taken, takeTable};
 
 // A table's words, from the first on, each one step above the one before.
-pub fn fill(table: &mut [u64], first: u64, step: u64)
+fn fill(table: &mut [u64], first: u64, step: u64)
     requires { ⌜ (length (now table) ≡ 512) × (first + 511 * step < 2 ^ 64) ⌝ }
     ensures { λ _. ⌜ now (table .exit) ≡ rising 512 first step ⌝ }
 {

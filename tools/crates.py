@@ -7,7 +7,7 @@ falling time, so that a batch holds like with like: LOG is what `rt ci` printed 
 import os, re, sys
 
 KIT = ['io', 'libc']
-USES_KIT = {'script', 'forms'}
+USES_KIT = {'text_script', 'text_forms'}
 
 
 def read_times(path):
@@ -18,7 +18,7 @@ def read_times(path):
 def read_table():
     text = open('docs/ARCHITECTURE.md').read()
     rows = text[text.index('| Crate | leans on |'):].split('\n\n')[0].split('\n')[2:]
-    leans = {'laws': [], 'reach': [], 'expected': []}
+    leans = {'laws': [], 'text_access': []}
     for row in rows:
         names, below = (cell.split(', ') for cell in row.strip('| ').split(' | '))
         leans.update({name: below for name in names})

@@ -1,14 +1,14 @@
 // The library's calls by their outside names, on the bench's pool: each answer is said in words and kept.
 // No function needs anything of its caller.
-use expected::Answer;
-use expected::answered;
-use session::Args;
-use session::DONE;
-use session::ENTRIES;
-use session::Handle;
-use session::IN_USE;
-use session::MAKE;
-use session::say_answer;
+use bench_session::Answer;
+use bench_session::Args;
+use bench_session::DONE;
+use bench_session::ENTRIES;
+use bench_session::Handle;
+use bench_session::IN_USE;
+use bench_session::MAKE;
+use bench_session::answered;
+use bench_session::say_answer;
 
 // `make TABLES BASE LEVEL RANGE`, on as many tables.
 fn make(words: &mut [u64], ledger: &mut [u32], handle: Handle) -> Answer {
@@ -95,7 +95,7 @@ fn modify(words: &mut [u64], ledger: &mut [u32], handle: Handle, args: Args, liv
     );
     say_answer(IN_USE, refusal, &answer);
     if refusal == 0 {
-        listing::say_numbers(&list, answer[1]);
+        bench_report::say_numbers(&list, answer[1]);
     }
     answered(refusal, &answer)
 }
@@ -113,9 +113,9 @@ fn look(words: &[u64], ledger: &[u32], handle: Handle, address: u64) -> Answer {
         &mut answer,
     );
     if refusal == 0 {
-        report::say_looked(&answer);
+        bench_report::say_looked(&answer);
     } else {
-        report::say_refusal(refusal, &answer);
+        bench_report::say_refusal(refusal, &answer);
     }
     answered(refusal, &answer)
 }
@@ -137,7 +137,7 @@ fn list(words: &[u64], ledger: &[u32], handle: Handle, args: Args) -> Answer {
     );
     say_answer(ENTRIES, refusal, &answer);
     if refusal == 0 {
-        listing::say_lines(&lines, answer[0]);
+        bench_report::say_lines(&lines, answer[0]);
     }
     answered(refusal, &answer)
 }
@@ -158,7 +158,7 @@ fn image(words: &[u64], ledger: &[u32], handle: Handle, table: u64) -> Answer {
     );
     say_answer(DONE, refusal, &answer);
     if refusal == 0 {
-        report::say_page(&page);
+        bench_report::say_page(&page);
     }
     answered(refusal, &answer)
 }

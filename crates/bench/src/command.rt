@@ -1,10 +1,10 @@
 // A command by its number, with its values: the part of the pool that it works on, and the call.
 use crate::calls;
-use expected::Answer;
-use session::Args;
-use session::Bench;
-use session::Handle;
-use session::MAKE;
+use bench_session::Answer;
+use bench_session::Args;
+use bench_session::Bench;
+use bench_session::Handle;
+use bench_session::MAKE;
 
 // The first command that is a call.
 const CHECK: u64 = 5;
@@ -20,7 +20,7 @@ fn on_pool(
     answer: Answer,
 ) -> Answer {
     if command < CHECK {
-        session::by_hand(command, count, words, ledger, args);
+        bench_session::by_hand(command, count, words, ledger, args);
         return answer;
     }
     if command < MAKE {
@@ -68,17 +68,17 @@ pub fn run(
     number: u64,
 ) -> Bench {
     if command == 0 {
-        return session::expect(bench, values, count, number);
+        return bench_session::expect(bench, values, count, number);
     }
-    let args = session::args_of(values);
-    let tables = session::tables_of(command, bench.tables, args.first);
+    let args = bench_session::args_of(values);
+    let tables = bench_session::tables_of(command, bench.tables, args.first);
     if 8 < tables {
-        session::say_no_pool(number, tables);
+        bench_session::say_no_pool(number, tables);
         return bench.missed();
     }
     let old = bench.handle;
     let last = bench.answer;
-    let handle = session::handle_of(command, old, args);
+    let handle = bench_session::handle_of(command, old, args);
     let answer = lend(
         command,
         count,
@@ -89,5 +89,5 @@ pub fn run(
         args,
         last,
     );
-    session::after(command, bench, tables, handle, answer)
+    bench_session::after(command, bench, tables, handle, answer)
 }

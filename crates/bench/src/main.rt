@@ -1,10 +1,10 @@
 // A bench to type at: it reads a script from standard input, a call a line, and prints each answer in words.
-// Leans on ptb for the calls, on script for the lines, on session and expected for what it keeps, on report and listing for the words.
+// Leans on ptb for the calls, on text_script for the lines, on bench_session for what it keeps, on bench_report for the words.
 mod calls;
 mod command;
 
-use script::Line;
-use session::Bench;
+use bench_session::Bench;
+use text_script::Line;
 
 // One line.
 fn turn(
@@ -17,7 +17,7 @@ fn turn(
     number: u64,
 ) -> Bench {
     let mut values = [0u64; 6];
-    let ask = script::asked(text, length, usage, &mut values);
+    let ask = text_script::asked(text, length, usage, &mut values);
     if ask.why == 0 {
         return command::run(
             ask.command,
@@ -32,7 +32,7 @@ fn turn(
     if ask.why == 6 {
         return bench;
     }
-    session::complain(text, usage, ask, number);
+    bench_session::complain(text, usage, ask, number);
     bench.missed()
 }
 
@@ -43,10 +43,10 @@ fn lines(usage: &[u8], words: &mut [u64], ledger: &mut [u32]) -> Bench {
     let mut number = 0;
     while number < 0xFFFF_FFFF {
         number += 1;
-        let Line::Length(length) = script::read_line(&mut text) else {
+        let Line::Length(length) = text_script::read_line(&mut text) else {
             return bench;
         };
-        session::echo(&text, length);
+        bench_session::echo(&text, length);
         bench = turn(&text, length, usage, words, ledger, bench, number);
     }
     bench
@@ -72,5 +72,5 @@ compact
 ";
     let mut words = [0u64; 4096];
     let mut ledger = [0u32; 8];
-    session::close(lines(usage, &mut words, &mut ledger));
+    bench_session::close(lines(usage, &mut words, &mut ledger));
 }

@@ -3,4 +3,4 @@ pub mod Row
 pub mod Named
 pub mod Counted
 pub mod Scan
-pub mod Check
+pub mod Call

@@ -13,9 +13,9 @@ use Rattle.entry.specs.Word.{addressOf, linkOf}
 use Rattle.pool.specs.State.{St, tables, numberAt, used-in}
 use Rattle.pool.specs.Number.{levelOf, parentOf, slotOf}
 use Rattle.pool.specs.Sound.{flagSet, leafb, namesb, linkb, refersb, slotb, names-says}
-use Rattle.runs.specs.Words.{passesb, linkCount}
+use Rattle.checker_words.specs.Words.{passesb, linkCount}
 use Rattle.pool.specs.declared.Handle.{Handle}
-use Rattle.hang.specs.Hang.{Named}
+use Rattle.checker_ledger.specs.Hang.{Named}
 
 -- ---- a slot's test is the test of a run's word, and that a table word is a link
 

@@ -15,8 +15,8 @@ use Rattle.laws.specs.Test.{and-l, and-r, and-i, allBelow, all-to, all-of}
 use Rattle.pool.specs.State.{St, tables, numberAt}
 use Rattle.pool.specs.Number.{used}
 use Rattle.pool.specs.Sound.{flagSet}
-use Rattle.runs.specs.Words.{passesb, passAll, linkCount, countAll}
-use Rattle.pass.specs.Stream.{runWords, runPasses, runLinks, tableLinks}
+use Rattle.checker_words.specs.Words.{passesb, passAll, linkCount, countAll}
+use Rattle.checker_pass.specs.Stream.{runWords, runPasses, runLinks, tableLinks}
 use Rattle.pool.specs.declared.Handle.{Handle}
 
 -- ---- a run of words, index by index

@@ -12,12 +12,12 @@ use Rattle.pool.specs.State.{St, tables, numberAt}
 use Rattle.pool.specs.Number.{used}
 use Rattle.pool.specs.Refuse.{Shaped}
 use Rattle.pool.specs.Sound.{soundb}
-use Rattle.runs.specs.Answer.{count-below, passed-says, failed-says}
-use Rattle.pass.specs.Stream.{runWords, runLinks, tablePasses, tableLinks, tablesRun}
+use Rattle.checker_words.specs.Answer.{count-below, passed-says, failed-says}
+use Rattle.checker_pass.specs.Stream.{runWords, runLinks, tablePasses, tableLinks, tablesRun}
 use Rattle.checker.specs.Counted.{streamb, stream-sound}
 use Rattle.pool.specs.declared.Handle.{Handle}
-use Rattle.runs.specs.declared.Run.{Run}
-use Rattle.runs.specs.declared.Run.the-variants.{Passed, Failed}
+use Rattle.checker_words.specs.declared.Run.{Run}
+use Rattle.checker_words.specs.declared.Run.the-variants.{Passed, Failed}
 
 -- at most 512 links a table
 links-few : (s : St) (k : ℕ) → length (s .words) ≡ 512 * tables s → k < tables s → tableLinks s k ≤ 512

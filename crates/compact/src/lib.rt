@@ -8,8 +8,8 @@ ghost use Prim.Native.Nat.{_*_, _-_, _≤_, _<_};
 ghost use lib.ListN.{length};
 ghost use Rattle.pool.specs.State.{st};
 ghost use Rattle.pool.specs.Refuse.{out};
-ghost use Rattle.emptied.specs.Compact.{compactTable};
-ghost use Rattle.emptied.specs.Call.{compactCall};
+ghost use Rattle.compact_spec.specs.Compact.{compactTable};
+ghost use Rattle.compact_spec.specs.Call.{compactCall};
 
 // Compacts what hangs from table k, at this level: each entry's subtree first, and then its table is freed if it is empty.
 pub fn compact_subtables(
@@ -34,7 +34,7 @@ pub fn compact_subtables(
             continue;
         };
         compact_subtables(words, ledger, handle, j, level + 1);
-        release::release_empty(words, ledger, k, i, j);
+        compact_release::release_empty(words, ledger, k, i, j);
     }
 }
 
@@ -42,12 +42,12 @@ pub fn compact_subtables(
 pub fn compact(words: &mut [u64], ledger: &mut [u32], handle: Handle) -> Counted
     ensures { λ r. ⌜ out r (st (now (words .exit)) (now (ledger .exit))) ≡ compactCall handle (st (now (words .entry)) (now (ledger .entry))) ⌝ }
 {
-    if !shape::is_shaped(words, ledger, handle) {
+    if !pool_handle::is_shaped(words, ledger, handle) {
         return Counted::Refused(Refusal::Shape);
     }
     if !checker::is_sound(words, ledger, handle) {
         return Counted::Refused(Refusal::Unsound);
     }
     compact_subtables(words, ledger, handle, 0, handle.level);
-    Counted::Tables(ledger::count_used(ledger))
+    Counted::Tables(pool_ledger::count_used(ledger))
 }

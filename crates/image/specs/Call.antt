@@ -9,7 +9,7 @@ use borrow.Author.Tests.{lt-ltb, le-ltb, eq-eqb, ne-eqb}
 use Rattle.laws.specs.Part.{partOf}
 use Rattle.pool.specs.State.{St, tables}
 use Rattle.pool.specs.Refuse.{shaped}
-use Rattle.endian.specs.Image.{imageOf}
+use Rattle.image_bytes.specs.Image.{imageOf}
 use Rattle.pool.specs.declared.Handle.{Handle}
 use Rattle.pool.specs.declared.Refusal.the-variants.{Shape, Short}
 use Rattle.pool.specs.declared.Outcome.{Outcome}

@@ -16,7 +16,7 @@ pub fn page_image(
 ) -> Outcome
     ensures { λ r. ⌜ imaged r (now (page .exit)) ≡ imageCall handle (st (now (words .entry)) (now (ledger .entry))) k (now (page .entry)) ⌝ }
 {
-    if !shape::is_shaped(words, ledger, handle) {
+    if !pool_handle::is_shaped(words, ledger, handle) {
         return Outcome::Refused(Refusal::Shape);
     }
     if ledger.len() <= k {
@@ -27,6 +27,6 @@ pub fn page_image(
     }
     let a = 512 * k;
     let e = a + 512;
-    endian::write_to(&words[a..e], page);
+    image_bytes::write_to(&words[a..e], page);
     Outcome::Accepted
 }

@@ -8,8 +8,8 @@ ghost use mathlib.Core.Path.{_≡_};
 ghost use Prim.Native.Nat.{_*_, _-_, _^_, _≤_};
 ghost use lib.ListN.{length};
 ghost use Rattle.pool.specs.State.{st};
-ghost use Rattle.lines.specs.Lines.{linesFrom};
-ghost use Rattle.list.specs.Listing.{verifyEnds, listing, listLines, listCall};
+ghost use Rattle.list_lines.specs.Lines.{linesFrom};
+ghost use Rattle.list.specs.Call.{verifyEnds, listing, listLines, listCall};
 
 // What list answers: the count of its lines.
 pub enum Listed {
@@ -21,10 +21,10 @@ pub enum Listed {
 fn verify_ends(handle: Handle, start: u64, end: u64) -> Outcome
     ensures { λ r. ⌜ r ≡ verifyEnds handle start end ⌝ }
 {
-    if !verify::end_fits(end) {
+    if !region_verify::end_fits(end) {
         return Outcome::Refused(Refusal::End(end));
     }
-    verify::verify_region(handle, MemoryRegion::new(start, end))
+    region_verify::verify_region(handle, MemoryRegion::new(start, end))
 }
 
 // The lines of the region down from the root, if the list has room for them.
@@ -38,11 +38,11 @@ fn list_lines(
     requires { ⌜ (length (now words) ≡ 512 * tables) × (1 ≤ tables) × (handle .level ≤ 3) × (region .end .0 - region .start .0 ≤ 2 ^ 48) ⌝ }
     ensures { λ r. ⌜ listing r (now (list .exit)) ≡ listLines (linesFrom (handle .base .0) tables (now (words .entry)) (3 - handle .level) 0 region) (now (list .entry)) ⌝ }
 {
-    let count = lines::count_lines(words, tables, handle, 0, handle.level, region);
+    let count = list_lines::count_lines(words, tables, handle, 0, handle.level, region);
     if list.len() / 4 < count {
         return Listed::Refused(Refusal::Short(4 * (count as u64)));
     }
-    lines::visit_range(words, tables, handle, 0, handle.level, region, list, 0);
+    list_lines::visit_range(words, tables, handle, 0, handle.level, region, list, 0);
     Listed::Lines(count)
 }
 
@@ -57,7 +57,7 @@ pub fn list(
 ) -> Listed
     ensures { λ r. ⌜ listing r (now (list .exit)) ≡ listCall handle (st (now (words .entry)) (now (ledger .entry))) (start .0) (end .0) (now (list .entry)) ⌝ }
 {
-    if !shape::is_shaped(words, ledger, handle) {
+    if !pool_handle::is_shaped(words, ledger, handle) {
         return Listed::Refused(Refusal::Shape);
     }
     let verified = verify_ends(handle, start.0, end.0);

@@ -1,2 +1,2 @@
 -- Make: the whole call.
-pub mod Make
+pub mod Call

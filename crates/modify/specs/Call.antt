@@ -14,13 +14,13 @@ use Rattle.pool.specs.declared.Refusal.{Refusal}
 use Rattle.pool.specs.declared.Refusal.the-variants.{Shape, Unsound}
 use Rattle.pool.specs.declared.Outcome.{Outcome}
 use Rattle.pool.specs.declared.Outcome.the-variants.{Accepted, Refused}
-use Rattle.own.specs.declared.Edit.{Edit}
-use Rattle.edit.specs.Range.{Work, work, modifyRange}
-use Rattle.survey.specs.declared.Survey.{Survey}
-use Rattle.survey.specs.Find.{surveyRange}
+use Rattle.modify_entry.specs.declared.Edit.{Edit}
+use Rattle.modify_range.specs.Range.{Work, work, modifyRange}
+use Rattle.modify_survey.specs.declared.Survey.{Survey}
+use Rattle.modify_survey.specs.Find.{surveyRange}
 use Rattle.modify.specs.declared.Modified.{Modified}
 use Rattle.modify.specs.declared.Modified.the-variants as modified
-use Rattle.permit.specs.Permit.{asked, verifyEdit, verifySurvey}
+use Rattle.modify_verify.specs.Permit.{asked, verifyEdit, verifySurvey}
 
 -- the answer, the state and the list
 pub record Modifying : Type 0 where

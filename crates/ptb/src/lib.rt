@@ -2,13 +2,11 @@
 use address::PhysicalAddress;
 use address::VirtualAddress;
 use map::Constraints;
-use map::call;
-use walk::look_up;
 ghost use mathlib.Core.Path.{_≡_};
 ghost use Rattle.pool.specs.State.{st};
 ghost use Rattle.pool.specs.Refuse.{out};
-ghost use Rattle.answer.specs.Answer.{slip};
-ghost use Rattle.face.specs.Face.{makeFace, checkFace, lookUpFace, filled, listFace, mapFace, changed, modifyFace, compactFace, imageFace};
+ghost use Rattle.ptb_answer.specs.Answer.{slip};
+ghost use Rattle.ptb_spec.specs.Face.{makeFace, checkFace, lookUpFace, filled, listFace, mapFace, changed, modifyFace, compactFace, imageFace};
 
 // Zeroes all words and the ledger, then enters the root as table 0.
 #[no_mangle]
@@ -23,9 +21,9 @@ pub extern "C" fn ptb_make(
     ensures { λ r. ⌜ out (slip r (now (answer .exit))) (st (now (words .exit)) (now (ledger .exit)))
         ≡ makeFace base level range (st (now (words .entry)) (now (ledger .entry))) (now (answer .entry)) ⌝ }
 {
-    let handle = handle::handle_of(base, level, range);
+    let handle = pool_handle::handle_of(base, level, range);
     let outcome = make::make(words, ledger, handle);
-    answer::answer_outcome(outcome, answer)
+    ptb_answer::answer_outcome(outcome, answer)
 }
 
 // Whether the pool is sound.
@@ -40,9 +38,9 @@ pub extern "C" fn ptb_check(
 ) -> u64
     ensures { λ r. ⌜ slip r (now (answer .exit)) ≡ checkFace base level range (st (now (words .entry)) (now (ledger .entry))) (now (answer .entry)) ⌝ }
 {
-    let handle = handle::handle_of(base, level, range);
+    let handle = pool_handle::handle_of(base, level, range);
     let outcome = checker::check(words, ledger, handle);
-    answer::answer_outcome(outcome, answer)
+    ptb_answer::answer_outcome(outcome, answer)
 }
 
 // What the walk of an address answers.
@@ -58,9 +56,9 @@ pub extern "C" fn ptb_look_up(
 ) -> u64
     ensures { λ r. ⌜ slip r (now (answer .exit)) ≡ lookUpFace base level range (st (now (words .entry)) (now (ledger .entry))) va (now (answer .entry)) ⌝ }
 {
-    let handle = handle::handle_of(base, level, range);
+    let handle = pool_handle::handle_of(base, level, range);
     let looked = look_up::look_up(words, ledger, handle, VirtualAddress(va));
-    answer::answer_looked(looked, answer)
+    ptb_answer::answer_looked(looked, answer)
 }
 
 // Lists the entries that a region meets, four numbers a line.
@@ -79,7 +77,7 @@ pub extern "C" fn ptb_list(
     ensures { λ r. ⌜ filled (slip r (now (answer .exit))) (now (lines .exit))
         ≡ listFace base level range (st (now (words .entry)) (now (ledger .entry))) start end (now (lines .entry)) (now (answer .entry)) ⌝ }
 {
-    let handle = handle::handle_of(base, level, range);
+    let handle = pool_handle::handle_of(base, level, range);
     let listed = list::list(
         words,
         ledger,
@@ -88,7 +86,7 @@ pub extern "C" fn ptb_list(
         VirtualAddress(end),
         lines,
     );
-    answer::answer_listed(listed, answer)
+    ptb_answer::answer_listed(listed, answer)
 }
 
 // Puts a map down: each page of the region to its frame, ascending, with these flags.
@@ -109,8 +107,8 @@ pub extern "C" fn ptb_map(
     ensures { λ r. ⌜ out (slip r (now (answer .exit))) (st (now (words .exit)) (now (ledger .exit)))
         ≡ mapFace base level range start end frame flags constraints (st (now (words .entry)) (now (ledger .entry))) (now (answer .entry)) ⌝ }
 {
-    let handle = handle::handle_of(base, level, range);
-    let counted = call::map(
+    let handle = pool_handle::handle_of(base, level, range);
+    let counted = map::map(
         words,
         ledger,
         handle,
@@ -120,7 +118,7 @@ pub extern "C" fn ptb_map(
         flags,
         Constraints(constraints),
     );
-    answer::answer_counted(counted, answer)
+    ptb_answer::answer_counted(counted, answer)
 }
 
 // Sets and clears bits in the valid blocks and pages of the region; live, lists the page number of each whose word changed.
@@ -142,8 +140,8 @@ pub extern "C" fn ptb_modify(
     ensures { λ r. ⌜ changed (slip r (now (answer .exit))) (st (now (words .exit)) (now (ledger .exit))) (now (list .exit))
         ≡ modifyFace base level range start end set clear live (st (now (words .entry)) (now (ledger .entry))) (now (list .entry)) (now (answer .entry)) ⌝ }
 {
-    let handle = handle::handle_of(base, level, range);
-    let modified = modify::call::modify(
+    let handle = pool_handle::handle_of(base, level, range);
+    let modified = modify::modify(
         words,
         ledger,
         handle,
@@ -154,7 +152,7 @@ pub extern "C" fn ptb_modify(
         live != 0,
         list,
     );
-    answer::answer_modified(modified, answer)
+    ptb_answer::answer_modified(modified, answer)
 }
 
 // Frees each table but the root that is all zero, from the leaves up.
@@ -170,9 +168,9 @@ pub extern "C" fn ptb_compact(
     ensures { λ r. ⌜ out (slip r (now (answer .exit))) (st (now (words .exit)) (now (ledger .exit)))
         ≡ compactFace base level range (st (now (words .entry)) (now (ledger .entry))) (now (answer .entry)) ⌝ }
 {
-    let handle = handle::handle_of(base, level, range);
+    let handle = pool_handle::handle_of(base, level, range);
     let counted = compact::compact(words, ledger, handle);
-    answer::answer_counted(counted, answer)
+    ptb_answer::answer_counted(counted, answer)
 }
 
 // Writes one table's 512 words into 4096 bytes.
@@ -190,7 +188,7 @@ pub extern "C" fn ptb_image(
     ensures { λ r. ⌜ filled (slip r (now (answer .exit))) (now (page .exit))
         ≡ imageFace base level range (st (now (words .entry)) (now (ledger .entry))) table (now (page .entry)) (now (answer .entry)) ⌝ }
 {
-    let handle = handle::handle_of(base, level, range);
+    let handle = pool_handle::handle_of(base, level, range);
     let outcome = image::page_image(words, ledger, handle, table as usize, page);
-    answer::answer_outcome(outcome, answer)
+    ptb_answer::answer_outcome(outcome, answer)
 }

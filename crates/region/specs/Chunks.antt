@@ -16,7 +16,7 @@ use Rattle.region.specs.declared.MemoryRegion.{MemoryRegion}
 use Rattle.region.specs.declared.ChunkedIterator.{ChunkedIterator}
 use Rattle.region.specs.declared.NextChunk.{NextChunk}
 use Rattle.region.specs.declared.NextChunk.the-variants.{Chunk, Done}
-use Rattle.slot.specs.Slot.{entryLast, chunkEnd}
+use Rattle.address_slot.specs.Slot.{entryLast, chunkEnd}
 use Rattle.region.specs.Region.{region, nextChunk, next-done, next-cut}
 
 -- the entries of this level that the region meets

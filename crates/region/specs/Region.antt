@@ -6,7 +6,7 @@ use lib.Dec.{eqb, ltb}
 use borrow.Author.Tests.{lt-ltb, le-ltb}
 use Rattle.laws.specs.Size.{sizeAt, down}
 use Rattle.address.specs.Address.{alignUp}
-use Rattle.slot.specs.Slot.{chunkEnd}
+use Rattle.address_slot.specs.Slot.{chunkEnd}
 use Rattle.region.specs.declared.MemoryRegion.{MemoryRegion}
 use Rattle.region.specs.declared.ChunkedIterator.{ChunkedIterator}
 use Rattle.region.specs.declared.NextChunk.{NextChunk}

@@ -1,13 +1,13 @@
 // The calls by their outside names, on what the list lends them. Each gives 0 or its refusal.
-use stored::Call;
-use stored::kind;
+use replay_lines::Call;
+use replay_lines::kind;
 
 // A page image, with as much of the page as the line says. The sum of the page goes to the list.
 fn image(words: &[u64], ledger: &[u32], list: &mut [u64], c: Call, answer: &mut [u64; 4]) -> u64 {
     let mut page = [0x55u8; 4097];
     let length = c.first as usize;
     if 4097 < length {
-        return stored::NO_CALL;
+        return replay_lines::NO_CALL;
     }
     let refusal = ptb::ptb_image(
         words,
@@ -19,7 +19,7 @@ fn image(words: &[u64], ledger: &[u32], list: &mut [u64], c: Call, answer: &mut 
         &mut page[..length],
         answer,
     );
-    stored::put_word(list, 0, sum::page(&page, length));
+    replay_lines::put_word(list, 0, replay_sum::page(&page, length));
     refusal
 }
 
@@ -47,7 +47,7 @@ fn read(
         ),
         kind::PAGE => image(words, ledger, list, c, answer),
         kind::CHECK => ptb::ptb_check(words, ledger, c.base, c.level, c.range, answer),
-        _ => stored::NO_CALL,
+        _ => replay_lines::NO_CALL,
     }
 }
 
@@ -87,8 +87,8 @@ pub fn run(
     match kind {
         kind::MAKE => ptb::ptb_make(words, ledger, c.base, c.level, c.range, answer),
         kind::LEND => 0,
-        kind::WORD => stored::put_word(words, c.first, c.second),
-        kind::NUMBER => stored::put_number(ledger, c.first, c.second),
+        kind::WORD => replay_lines::put_word(words, c.first, c.second),
+        kind::NUMBER => replay_lines::put_number(ledger, c.first, c.second),
         kind::MAP => ptb::ptb_map(
             words,
             ledger,

@@ -2,9 +2,9 @@
 // list; its head says what a line is.
 mod call;
 
-use stored::Call;
-use stored::UNWRITTEN;
-use stored::kind;
+use replay_lines::Call;
+use replay_lines::UNWRITTEN;
+use replay_lines::kind;
 
 // The first words, ledger numbers and numbers of the list, as many as the line lends; no call where there are not so many.
 fn lend(
@@ -19,13 +19,13 @@ fn lend(
     let length = call.words;
     let count = call.numbers;
     if words.len() < length {
-        return stored::NO_CALL;
+        return replay_lines::NO_CALL;
     }
     if ledger.len() < count {
-        return stored::NO_CALL;
+        return replay_lines::NO_CALL;
     }
     if list.len() < room {
-        return stored::NO_CALL;
+        return replay_lines::NO_CALL;
     }
     call::run(
         kind,
@@ -51,25 +51,25 @@ fn turn(
     let mut answer = [UNWRITTEN; 4];
     let room = kind::room_of(kind, call.first);
     let refusal = lend(kind, words, ledger, &mut list, room, call, &mut answer);
-    let sum = sum::left(&list, room, words, call.words, ledger, call.numbers);
-    stored::compare(tallies, kind, number, line, refusal, &answer, sum);
+    let sum = replay_sum::left(&list, room, words, call.words, ledger, call.numbers);
+    replay_lines::compare(tallies, kind, number, line, refusal, &answer, sum);
 }
 
 // Line by line to the end of the input.
 fn lines(words: &mut [u64; 6144], ledger: &mut [u32; 12], tallies: &mut [u64; 12]) {
-    let mut call = stored::none();
+    let mut call = replay_lines::none();
     let mut number = 0;
     while number < 0xFFFF_FFFF {
         number += 1;
         let mut line = [0u64; 13];
-        let kind = stored::next(&mut line);
+        let kind = replay_lines::next(&mut line);
         if kind == kind::COMMENT {
             continue;
         }
         if kind == kind::END {
             return;
         }
-        call = stored::call_of(kind, call, &line);
+        call = replay_lines::call_of(kind, call, &line);
         turn(kind, words, ledger, call, &line, tallies, number);
     }
 }
@@ -80,5 +80,5 @@ fn main() {
     let mut tallies = [0u64; 12];
     lines(&mut words, &mut ledger, &mut tallies);
     io::write_all(1, b"replayed: ");
-    stored::close(&tallies);
+    replay_lines::close(&tallies);
 }

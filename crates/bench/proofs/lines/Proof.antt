@@ -7,9 +7,9 @@ use Rattle.bench.proofs.lines.Statement.{statement}
 use Rattle.bench.proofs.lines.Tie as tie
 use Rattle.bench.proofs.lines.Reads as reads
 use Rattle.bench.proofs.lines.Lts as lts
-use Rattle.session.proofs.echo.Reads as echo-reads
+use Rattle.bench_session.proofs.echo.Reads as echo-reads
 use Rattle.bench.proofs.turn.Reads as turn-reads
-use Rattle.script.proofs.read_line.Reads as read-line-reads
+use Rattle.text_script.proofs.read_line.Reads as read-line-reads
 
 abbrev Inv-loop : tie.InvT-loop
 Inv-loop usage words₀ ledger₀ text₀ bench₀ number₀ words ledger text bench number = (length words ≡ length words₀) × (length ledger ≡ length ledger₀)

@@ -5,13 +5,13 @@ use mathlib.Core.Path.{_≡_, sym, _∙_}
 use borrow.Author.Tests.{not-true, not-false}
 use Rattle.pool.specs.State.{st}
 use Rattle.pool.specs.Refuse.{shaped, Shaped, shaped-says}
-use Rattle.checker.specs.Check.{check-misshaped, check-sound, check-unsound}
+use Rattle.checker.specs.Call.{check-misshaped, check-sound, check-unsound}
 use Rattle.checker.proofs.check.Statement.{statement}
 use Rattle.checker.proofs.check.Tie as tie
 use Rattle.checker.proofs.check.Reads as reads
 use Rattle.checker.proofs.check.Lts as lts
 use Rattle.checker.proofs.is_sound.Reads as is-sound-reads
-use Rattle.shape.proofs.is_shaped.Reads as is-shaped-reads
+use Rattle.pool_handle.proofs.is_shaped.Reads as is-shaped-reads
 
 -- past the first test the shape is known
 good : (c : tie.Else1) → let a = c .before .before .before .before .args in shaped (a .handle) (st (a .words .now) (a .ledger .now)) ≡ true

@@ -7,13 +7,13 @@ use borrow.Author.Tests.{eq-eqb, ne-eqb}
 use Rattle.pool.specs.State.{st}
 use Rattle.pool.specs.Refuse.{maxTables}
 use Rattle.checker.specs.Scan.{scan-unsound, scan-few, scan-counted}
-use Rattle.checker.specs.Check.{count-none, count-some}
+use Rattle.checker.specs.Call.{count-none, count-some}
 use Rattle.checker.proofs.count_sound.Statement.{statement}
 use Rattle.checker.proofs.count_sound.Tie as tie
 use Rattle.checker.proofs.count_sound.Reads as reads
 use Rattle.checker.proofs.count_sound.Lts as lts
-use Rattle.pass.proofs.scan_tables.Reads as scan-tables-reads
-use Rattle.ledger.proofs.count_used.Reads as count-used-reads
+use Rattle.checker_pass.proofs.scan_tables.Reads as scan-tables-reads
+use Rattle.pool_ledger.proofs.count_used.Reads as count-used-reads
 
 scan-tables-requires : tie.Need-scan-tables-requires
 scan-tables-requires c κs = c .before .before .pre

@@ -1,7 +1,7 @@
 -- `is_sound`: each way through the code by its law. Assumes nothing.
 use mathlib.Core.Path.{sym}
 use Rattle.pool.specs.State.{st}
-use Rattle.checker.specs.Check.{count-unsound, count-sound}
+use Rattle.checker.specs.Call.{count-unsound, count-sound}
 use Rattle.checker.proofs.is_sound.Statement.{statement}
 use Rattle.checker.proofs.is_sound.Tie as tie
 use Rattle.checker.proofs.is_sound.Reads as reads

@@ -10,13 +10,13 @@ use Rattle.entry.specs.Sub.{sub-found}
 use Rattle.entry.proofs.Tags.{no-table}
 use Rattle.pool.specs.State.{St, st}
 use Rattle.pool.specs.declared.Handle.{Handle}
-use Rattle.emptied.specs.Compact.{releaseEmpty, compactEntry, compactTable, entry-table, entry-outside, entry-leaf, compact-down, compact-last}
+use Rattle.compact_spec.specs.Compact.{releaseEmpty, compactEntry, compactTable, entry-table, entry-outside, entry-leaf, compact-down, compact-last}
 use borrow.Fn.Kinds.{In}
 use borrow.Fn.PlainCycle.{Measures, is, falls, and}
 use Rattle.compact.proofs.compact_subtables.Reads as reads
 use Rattle.compact.proofs.compact_subtables.Kinds as kinds
 use Rattle.compact.proofs.+compact_subtables.Lts-compact_subtables as lts
-use Rattle.release.proofs.release_empty.Reads as release-empty-reads
+use Rattle.compact_release.proofs.release_empty.Reads as release-empty-reads
 use Rattle.entry.proofs.subtable.Reads as subtable-reads
 use Rattle.compact.proofs.+compact_subtables.{statement}
 use Rattle.compact.proofs.+compact_subtables.Tie.{close}

@@ -6,15 +6,15 @@ use borrow.Author.Tests.{not-true, not-false}
 use Rattle.pool.specs.State.{st}
 use Rattle.pool.specs.Refuse.{maxTables, shaped, Shaped, shaped-says}
 use Rattle.pool.specs.Sound.{soundb}
-use Rattle.emptied.specs.Call.{call-misshaped, call-unsound, call-compacted}
+use Rattle.compact_spec.specs.Call.{call-misshaped, call-unsound, call-compacted}
 use Rattle.compact.proofs.compact.Statement.{statement}
 use Rattle.compact.proofs.compact.Tie as tie
 use Rattle.compact.proofs.compact.Reads as reads
 use Rattle.compact.proofs.compact.Lts as lts
 use Rattle.checker.proofs.is_sound.Reads as is-sound-reads
 use Rattle.compact.proofs.compact_subtables.Reads as compact-subtables-reads
-use Rattle.ledger.proofs.count_used.Reads as count-used-reads
-use Rattle.shape.proofs.is_shaped.Reads as is-shaped-reads
+use Rattle.pool_ledger.proofs.count_used.Reads as count-used-reads
+use Rattle.pool_handle.proofs.is_shaped.Reads as is-shaped-reads
 
 -- past the first test the shape is known
 good : (c : tie.Else1) → let a = c .before .before .before .before .before .before .args in shaped (a .handle) (st (a .words .now) (a .ledger .now)) ≡ true

@@ -7,15 +7,15 @@ use borrow.Author.Tests.{not-true, not-false}
 use Rattle.laws.specs.Part.{partOf}
 use Rattle.pool.specs.State.{st}
 use Rattle.pool.specs.Refuse.{shaped, Shaped, shaped-says}
-use Rattle.endian.specs.Image.{imageOf}
+use Rattle.image_bytes.specs.Image.{imageOf}
 use Rattle.image.specs.Call.{imaged, image-misshaped, image-no-table, image-short, image-written}
 use Rattle.pool.specs.declared.Outcome.the-variants.{Accepted}
 use Rattle.image.proofs.page_image.Statement.{statement}
 use Rattle.image.proofs.page_image.Tie as tie
 use Rattle.image.proofs.page_image.Reads as reads
 use Rattle.image.proofs.page_image.Lts as lts
-use Rattle.endian.proofs.write_to.Reads as write-to-reads
-use Rattle.shape.proofs.is_shaped.Reads as is-shaped-reads
+use Rattle.image_bytes.proofs.write_to.Reads as write-to-reads
+use Rattle.pool_handle.proofs.is_shaped.Reads as is-shaped-reads
 
 -- past the first test the shape is known
 good : (c : tie.Else1) → let a = c .before .before .before .before .before .args in shaped (a .handle) (st (a .words .now) (a .ledger .now)) ≡ true

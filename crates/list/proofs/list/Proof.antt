@@ -5,13 +5,13 @@ use native.Mathlib.Omega.{arith}
 use borrow.Author.Tests.{not-true, not-false}
 use Rattle.pool.specs.State.{st}
 use Rattle.pool.specs.Refuse.{shaped, Shaped, shaped-says}
-use Rattle.list.specs.Listing.{list-misshaped, list-region, list-unsound, list-sound, verified-length}
+use Rattle.list.specs.Call.{list-misshaped, list-region, list-unsound, list-sound, verified-length}
 use Rattle.list.proofs.list.Statement.{statement}
 use Rattle.list.proofs.list.Tie as tie
 use Rattle.list.proofs.list.Reads as reads
 use Rattle.list.proofs.list.Lts as lts
 use Rattle.checker.proofs.is_sound.Reads as is-sound-reads
-use Rattle.shape.proofs.is_shaped.Reads as is-shaped-reads
+use Rattle.pool_handle.proofs.is_shaped.Reads as is-shaped-reads
 use Rattle.region.proofs.MemoryRegion.new.Reads as new-reads
 use Rattle.list.proofs.list_lines.Reads as list-lines-reads
 use Rattle.list.proofs.verify_ends.Reads as verify-ends-reads

@@ -5,15 +5,15 @@ use Prim.Native.Nat.{ℕ, _*_, _-_, _^_, _≤_}
 use native.Mathlib.Omega.{arith}
 use lib.ListN.{length}
 use Rattle.pool.specs.declared.Refusal.the-variants.{Short}
-use Rattle.lines.specs.Lines.{linesFrom, lines-bound, Written, writeLines}
+use Rattle.list_lines.specs.Lines.{linesFrom, lines-bound, Written, writeLines}
 use Rattle.list.specs.declared.Listed.the-variants.{Lines, Refused}
-use Rattle.list.specs.Listing.{listing, list-short, list-written}
+use Rattle.list.specs.Call.{listing, list-short, list-written}
 use Rattle.list.proofs.list_lines.Statement.{statement}
 use Rattle.list.proofs.list_lines.Tie as tie
 use Rattle.list.proofs.list_lines.Reads as reads
 use Rattle.list.proofs.list_lines.Lts as lts
-use Rattle.lines.proofs.count_lines.Reads as count-lines-reads
-use Rattle.lines.proofs.visit_range.Reads as visit-range-reads
+use Rattle.list_lines.proofs.count_lines.Reads as count-lines-reads
+use Rattle.list_lines.proofs.visit_range.Reads as visit-range-reads
 
 -- no more than 2^48 lines
 few : (c : tie.Start) → let a = c .args in length (linesFrom (a .handle .base .0) (a .tables) (a .words .now) (3 - a .handle .level) 0 (a .region)) ≤ 2 ^ 48

@@ -1,14 +1,14 @@
 -- `verify_ends`: each way through the code by its law. Assumes nothing.
 use mathlib.Core.Path.{sym, _∙_}
 use borrow.Author.Tests.{not-true, not-false}
-use Rattle.list.specs.Listing.{ends-past, ends-fit}
+use Rattle.list.specs.Call.{ends-past, ends-fit}
 use Rattle.list.proofs.verify_ends.Statement.{statement}
 use Rattle.list.proofs.verify_ends.Tie as tie
 use Rattle.list.proofs.verify_ends.Reads as reads
 use Rattle.list.proofs.verify_ends.Lts as lts
 use Rattle.region.proofs.MemoryRegion.new.Reads as new-reads
-use Rattle.verify.proofs.end_fits.Reads as end-fits-reads
-use Rattle.verify.proofs.verify_region.Reads as verify-region-reads
+use Rattle.region_verify.proofs.end_fits.Reads as end-fits-reads
+use Rattle.region_verify.proofs.verify_region.Reads as verify-region-reads
 
 end-fits-requires : tie.Need-end-fits-requires
 end-fits-requires c κs = tt

@@ -8,16 +8,16 @@ use borrow.Author.Tests.{not-true, not-false}
 use Rattle.pool.specs.State.{st}
 use Rattle.pool.specs.Number.{rootNumber}
 use Rattle.pool.specs.Refuse.{Shaped, shaped-says, out}
-use Rattle.make.specs.Make.{fresh, make-refused, make-accepted}
+use Rattle.make.specs.Call.{fresh, make-refused, make-accepted}
 use Rattle.pool.specs.declared.Outcome.the-variants.{Accepted}
 use borrow.Author.Needs.{needs}
 use Rattle.make.proofs.make.Statement.{statement}
 use Rattle.make.proofs.make.Tie as tie
 use Rattle.make.proofs.make.Reads as reads
 use Rattle.make.proofs.make.Lts as lts
-use Rattle.shape.proofs.is_shaped.Reads as is-shaped-reads
-use Rattle.zero.proofs.zero_numbers.Reads as zero-numbers-reads
-use Rattle.zero.proofs.zero_words.Reads as zero-words-reads
+use Rattle.pool_handle.proofs.is_shaped.Reads as is-shaped-reads
+use Rattle.pool_zero.proofs.zero_numbers.Reads as zero-numbers-reads
+use Rattle.pool_zero.proofs.zero_words.Reads as zero-words-reads
 
 -- past the test the shape is known
 shape : (c : tie.Else1) → let a = c .before .before .before .before .before .before .args in Shaped (a .handle) (st (a .words .now) (a .ledger .now))

@@ -1,13 +1,13 @@
 -- `ptb_check`: the call told outside. Assumes nothing.
 use Rattle.pool.specs.State.{st}
-use Rattle.face.specs.Face.{check-told}
+use Rattle.ptb_spec.specs.Face.{check-told}
 use Rattle.ptb.proofs.ptb_check.Statement.{statement}
 use Rattle.ptb.proofs.ptb_check.Tie as tie
 use Rattle.ptb.proofs.ptb_check.Reads as reads
 use Rattle.ptb.proofs.ptb_check.Lts as lts
 use Rattle.checker.proofs.check.Reads as check-reads
-use Rattle.answer.proofs.answer_outcome.Reads as answer-outcome-reads
-use Rattle.handle.proofs.handle_of.Reads as handle-of-reads
+use Rattle.ptb_answer.proofs.answer_outcome.Reads as answer-outcome-reads
+use Rattle.pool_handle.proofs.handle_of.Reads as handle-of-reads
 
 handle-of-requires : tie.Need-handle-of-requires
 handle-of-requires c κs = tt

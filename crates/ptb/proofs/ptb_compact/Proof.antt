@@ -1,14 +1,14 @@
 -- `ptb_compact`: the call told outside. Assumes nothing.
 use native.Mathlib.Omega.{arith}
 use Rattle.pool.specs.State.{st}
-use Rattle.face.specs.Face.{compact-told}
+use Rattle.ptb_spec.specs.Face.{compact-told}
 use Rattle.ptb.proofs.ptb_compact.Statement.{statement}
 use Rattle.ptb.proofs.ptb_compact.Tie as tie
 use Rattle.ptb.proofs.ptb_compact.Reads as reads
 use Rattle.ptb.proofs.ptb_compact.Lts as lts
 use Rattle.compact.proofs.compact.Reads as compact-reads
-use Rattle.answer.proofs.answer_counted.Reads as answer-counted-reads
-use Rattle.handle.proofs.handle_of.Reads as handle-of-reads
+use Rattle.ptb_answer.proofs.answer_counted.Reads as answer-counted-reads
+use Rattle.pool_handle.proofs.handle_of.Reads as handle-of-reads
 
 handle-of-requires : tie.Need-handle-of-requires
 handle-of-requires c κs = tt

@@ -1,14 +1,14 @@
 -- `ptb_image`: the call told outside. Assumes nothing.
 use native.Mathlib.Omega.{arith}
 use Rattle.pool.specs.State.{st}
-use Rattle.face.specs.Face.{image-told}
+use Rattle.ptb_spec.specs.Face.{image-told}
 use Rattle.ptb.proofs.ptb_image.Statement.{statement}
 use Rattle.ptb.proofs.ptb_image.Tie as tie
 use Rattle.ptb.proofs.ptb_image.Reads as reads
 use Rattle.ptb.proofs.ptb_image.Lts as lts
 use Rattle.image.proofs.page_image.Reads as page-image-reads
-use Rattle.answer.proofs.answer_outcome.Reads as answer-outcome-reads
-use Rattle.handle.proofs.handle_of.Reads as handle-of-reads
+use Rattle.ptb_answer.proofs.answer_outcome.Reads as answer-outcome-reads
+use Rattle.pool_handle.proofs.handle_of.Reads as handle-of-reads
 
 handle-of-requires : tie.Need-handle-of-requires
 handle-of-requires c κs = tt

@@ -1,14 +1,14 @@
 -- `ptb_list`: the call told outside. Assumes nothing.
 use native.Mathlib.Omega.{arith}
 use Rattle.pool.specs.State.{st}
-use Rattle.face.specs.Face.{list-told}
+use Rattle.ptb_spec.specs.Face.{list-told}
 use Rattle.ptb.proofs.ptb_list.Statement.{statement}
 use Rattle.ptb.proofs.ptb_list.Tie as tie
 use Rattle.ptb.proofs.ptb_list.Reads as reads
 use Rattle.ptb.proofs.ptb_list.Lts as lts
 use Rattle.list.proofs.list.Reads as list-reads
-use Rattle.answer.proofs.answer_listed.Reads as answer-listed-reads
-use Rattle.handle.proofs.handle_of.Reads as handle-of-reads
+use Rattle.ptb_answer.proofs.answer_listed.Reads as answer-listed-reads
+use Rattle.pool_handle.proofs.handle_of.Reads as handle-of-reads
 
 handle-of-requires : tie.Need-handle-of-requires
 handle-of-requires c κs = tt

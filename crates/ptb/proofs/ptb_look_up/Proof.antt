@@ -1,13 +1,13 @@
 -- `ptb_look_up`: the call told outside. Assumes nothing.
 use Rattle.pool.specs.State.{st}
-use Rattle.face.specs.Face.{look-up-told}
+use Rattle.ptb_spec.specs.Face.{look-up-told}
 use Rattle.ptb.proofs.ptb_look_up.Statement.{statement}
 use Rattle.ptb.proofs.ptb_look_up.Tie as tie
 use Rattle.ptb.proofs.ptb_look_up.Reads as reads
 use Rattle.ptb.proofs.ptb_look_up.Lts as lts
-use Rattle.answer.proofs.answer_looked.Reads as answer-looked-reads
-use Rattle.handle.proofs.handle_of.Reads as handle-of-reads
-use Rattle.walk.proofs.look_up.look_up.Reads as look-up-reads
+use Rattle.ptb_answer.proofs.answer_looked.Reads as answer-looked-reads
+use Rattle.pool_handle.proofs.handle_of.Reads as handle-of-reads
+use Rattle.look_up.proofs.look_up.Reads as look-up-reads
 
 handle-of-requires : tie.Need-handle-of-requires
 handle-of-requires c κs = tt

@@ -1,14 +1,14 @@
 -- `ptb_make`: the call told outside. Assumes nothing.
 use native.Mathlib.Omega.{arith}
 use Rattle.pool.specs.State.{st}
-use Rattle.face.specs.Face.{make-told}
+use Rattle.ptb_spec.specs.Face.{make-told}
 use Rattle.ptb.proofs.ptb_make.Statement.{statement}
 use Rattle.ptb.proofs.ptb_make.Tie as tie
 use Rattle.ptb.proofs.ptb_make.Reads as reads
 use Rattle.ptb.proofs.ptb_make.Lts as lts
 use Rattle.make.proofs.make.Reads as make-reads
-use Rattle.answer.proofs.answer_outcome.Reads as answer-outcome-reads
-use Rattle.handle.proofs.handle_of.Reads as handle-of-reads
+use Rattle.ptb_answer.proofs.answer_outcome.Reads as answer-outcome-reads
+use Rattle.pool_handle.proofs.handle_of.Reads as handle-of-reads
 
 handle-of-requires : tie.Need-handle-of-requires
 handle-of-requires c κs = tt

@@ -1,14 +1,14 @@
 -- `ptb_map`: the call told outside. Assumes nothing.
 use native.Mathlib.Omega.{arith}
 use Rattle.pool.specs.State.{st}
-use Rattle.face.specs.Face.{map-told}
+use Rattle.ptb_spec.specs.Face.{map-told}
 use Rattle.ptb.proofs.ptb_map.Statement.{statement}
 use Rattle.ptb.proofs.ptb_map.Tie as tie
 use Rattle.ptb.proofs.ptb_map.Reads as reads
 use Rattle.ptb.proofs.ptb_map.Lts as lts
-use Rattle.map.proofs.call.map.Reads as map-reads
-use Rattle.answer.proofs.answer_counted.Reads as answer-counted-reads
-use Rattle.handle.proofs.handle_of.Reads as handle-of-reads
+use Rattle.map.proofs.map.Reads as map-reads
+use Rattle.ptb_answer.proofs.answer_counted.Reads as answer-counted-reads
+use Rattle.pool_handle.proofs.handle_of.Reads as handle-of-reads
 
 handle-of-requires : tie.Need-handle-of-requires
 handle-of-requires c κs = tt

@@ -1,13 +1,13 @@
 -- `ptb_modify`: the call told outside. Assumes nothing.
 use Rattle.pool.specs.State.{st}
-use Rattle.face.specs.Face.{modify-told}
+use Rattle.ptb_spec.specs.Face.{modify-told}
 use Rattle.ptb.proofs.ptb_modify.Statement.{statement}
 use Rattle.ptb.proofs.ptb_modify.Tie as tie
 use Rattle.ptb.proofs.ptb_modify.Reads as reads
 use Rattle.ptb.proofs.ptb_modify.Lts as lts
-use Rattle.modify.proofs.call.modify.Reads as modify-reads
-use Rattle.answer.proofs.answer_modified.Reads as answer-modified-reads
-use Rattle.handle.proofs.handle_of.Reads as handle-of-reads
+use Rattle.modify.proofs.modify.Reads as modify-reads
+use Rattle.ptb_answer.proofs.answer_modified.Reads as answer-modified-reads
+use Rattle.pool_handle.proofs.handle_of.Reads as handle-of-reads
 
 handle-of-requires : tie.Need-handle-of-requires
 handle-of-requires c κs = tt

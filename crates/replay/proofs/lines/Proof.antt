@@ -6,9 +6,9 @@ use Rattle.replay.proofs.lines.Tie as tie
 use Rattle.replay.proofs.lines.Reads as reads
 use Rattle.replay.proofs.lines.Lts as lts
 use Rattle.replay.proofs.turn.Reads as turn-reads
-use Rattle.stored.proofs.call_of.Reads as call-of-reads
-use Rattle.stored.proofs.none.Reads as none-reads
-use Rattle.stored.proofs.next.Reads as next-reads
+use Rattle.replay_lines.proofs.call_of.Reads as call-of-reads
+use Rattle.replay_lines.proofs.none.Reads as none-reads
+use Rattle.replay_lines.proofs.next.Reads as next-reads
 
 abbrev Inv-loop : tie.InvT-loop
 Inv-loop words₀ ledger₀ tallies₀ call₀ number₀ words ledger tallies call number = Unit {0}

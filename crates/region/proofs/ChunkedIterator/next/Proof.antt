@@ -6,7 +6,7 @@ use Rattle.region.proofs.ChunkedIterator.next.Statement.{statement}
 use Rattle.region.proofs.ChunkedIterator.next.Tie as tie
 use Rattle.region.proofs.ChunkedIterator.next.Reads as reads
 use Rattle.region.proofs.ChunkedIterator.next.Lts as lts
-use Rattle.slot.proofs.chunk_end.Reads as chunk-end-reads
+use Rattle.address_slot.proofs.chunk_end.Reads as chunk-end-reads
 
 returns : tie.Need-returns
 returns c = next-done (c .before .args .self) (c .if1 .taken)

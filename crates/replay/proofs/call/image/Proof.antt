@@ -7,8 +7,8 @@ use Rattle.replay.proofs.call.image.Tie as tie
 use Rattle.replay.proofs.call.image.Reads as reads
 use Rattle.replay.proofs.call.image.Lts as lts
 use Rattle.ptb.proofs.ptb_image.Reads as ptb-image-reads
-use Rattle.stored.proofs.put_word.Reads as put-word-reads
-use Rattle.sum.proofs.page.Reads as page-reads
+use Rattle.replay_lines.proofs.put_word.Reads as put-word-reads
+use Rattle.replay_sum.proofs.page.Reads as page-reads
 
 returns : tie.Need-returns
 returns c = tt

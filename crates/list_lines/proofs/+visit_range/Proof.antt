@@ -1,0 +1,198 @@
+-- `visit_range`: each way through the code by its law. Assumes nothing.
+use mathlib.Core.Path.{_≡_, refl, sym, ap, ap₂, _∙_}
+use mathlib.Core.List.{List, [], _∷_}
+use mathlib.Core.Logic.{_⊎_}
+use Prim.Native.Nat.{_+_, _*_, _-_, _≤_}
+use native.Mathlib.Omega.{arith}
+use lib.ListN.{length}
+use Rattle.laws.specs.Part.{putPart}
+use Rattle.entry.specs.Sub.{sub-found}
+use Rattle.entry.proofs.Tags.{no-table}
+use Rattle.entry.specs.declared.Sub.the-variants.{Table, Outside, Leaf}
+use Rattle.region.specs.Chunks.{chunksOf}
+use Rattle.region.specs.declared.ChunkedIterator.{ChunkedIterator}
+use Rattle.list_lines.specs.Lines.{Line, line, each, numbers, linesFrom, linesAt, lines-table, lines-other, lines-each, next-chunk, next-none, each-none, count-step, write-step, write-done, written, writeLines, Written}
+use Prim.Native.Nat.{ℕ, _<_}
+use borrow.Fn.Kinds.{In}
+use borrow.Fn.PlainCycle.{Measures, is, falls, and}
+use Rattle.list_lines.proofs.visit_range.Reads as visit-range
+use Rattle.list_lines.proofs.visit_range.Kinds as visit-range-kinds
+use Rattle.list_lines.proofs.+visit_range.Lts-visit_range as visit-range-lts
+use Rattle.entry.proofs.subtable.Reads as subtable-reads
+use Rattle.region.proofs.ChunkedIterator.next.Reads as next-reads
+use Rattle.region.proofs.MemoryRegion.split.Reads as split-reads
+use Rattle.list_lines.proofs.get_entry.Reads as get-entry-reads
+use Rattle.list_lines.proofs.put_line.Reads as put-line-reads
+use Rattle.list_lines.proofs.+visit_range.{statement}
+use Rattle.list_lines.proofs.+visit_range.Tie.{close}
+
+abbrev μ-visit-range : Measures 2 visit-range-kinds.ps ℕ
+μ-visit-range κs a = 3 - a .1 .1 .1 .1 .0
+
+abbrev visit-range-at : ℕ → In 2 visit-range-kinds.ps
+visit-range-at t =
+    and 2 visit-range-kinds.ps (is 2 visit-range-kinds.ps μ-visit-range t) visit-range.Pre
+
+abbrev visit-range-below : ℕ → In 2 visit-range-kinds.ps
+visit-range-below t =
+    and 2 visit-range-kinds.ps (falls 2 visit-range-kinds.ps _<_ μ-visit-range t) visit-range.Pre
+
+abbrev calls : ℕ → visit-range-lts.Claims
+calls t = (split-reads.Asked, split-reads.Learnt, next-reads.Asked, next-reads.Learnt, get-entry-reads.Asked, get-entry-reads.Learnt, subtable-reads.Asked, subtable-reads.Learnt, put-line-reads.Asked, put-line-reads.Learnt, visit-range-below t, visit-range.Post)
+
+abbrev visit-range-Inv-loop : visit-range-lts.InvT-loop
+visit-range-Inv-loop words tables handle k level list₀ from to₀ rest₀ list to rest =
+    (to + 4 * length (each (linesAt (handle .base .0) tables words level k) (chunksOf rest)) ≡ from + 4 * length (each (linesAt (handle .base .0) tables words level k) (chunksOf rest₀)))
+    × (length list ≡ length list₀)
+    × (putPart to (numbers (each (linesAt (handle .base .0) tables words level k) (chunksOf rest))) list
+    ≡ putPart from (numbers (each (linesAt (handle .base .0) tables words level k) (chunksOf rest₀))) list₀)
+
+abbrev visit-range-μ-loop : visit-range-lts.MeasureT-loop
+visit-range-μ-loop words tables handle k level list₀ from to₀ rest₀ list to rest = length (chunksOf rest)
+
+-- all the lines, by the chunks at entry
+all : {t : ℕ} (c : visit-range-lts.After-split (calls t) (visit-range-at t) visit-range.Post visit-range-Inv-loop visit-range-μ-loop) → let a = c .before .before .before .args in
+    linesFrom (a .handle .base .0) (a .tables) (a .words .now) (3 - a .level) (a .k) (a .region) ≡ each (linesAt (a .handle .base .0) (a .tables) (a .words .now) (a .level) (a .k)) (chunksOf (c .split .result))
+all c =
+    let a = c .before .before .before .args in
+    lines-each (a .handle .base .0) (a .tables) (a .words .now) (a .level) (a .k) (a .region) (omega arith)
+    ∙ ap (λ (it : ChunkedIterator). each (linesAt (a .handle .base .0) (a .tables) (a .words .now) (a .level) (a .k)) (chunksOf it)) (sym (c .split .ensures))
+
+-- a chunk, once its entry is known
+abbrev Asked : ℕ → Type 0
+Asked t = visit-range-lts.After-subtable (calls t) (visit-range-at t) visit-range.Post visit-range-Inv-loop visit-range-μ-loop
+
+-- the chunk, and those after it
+cut : {t : ℕ} (c : Asked t) → chunksOf (c .before .before .before .before .before .before .loop .rest) ≡ c .before .before .before .next2 .given .0 .0 ∷ chunksOf (c .before .before .before .next2 .given .0 .1 .0)
+cut c = next-chunk (c .before .before .before .before .before .before .loop .rest) _ _ (c .before .before .before .before .before .next .ensures) (c .before .before .before .next2 .given .1)
+
+one : {t : ℕ} (c : Asked t) → (c .subtable .result ≡ Outside) ⊎ (c .subtable .result ≡ Leaf)
+    → let a = c .before .before .before .before .before .before .before .before .before .before .args in linesAt (a .handle .base .0) (a .tables) (a .words .now) (a .level) (a .k) (c .before .before .before .next2 .given .0 .0) ≡ line (c .before .before .before .next2 .given .0 .0) (c .before .get-entry .result) (a .level) ∷ []
+one c e = let a = c .before .before .before .before .before .before .before .before .before .before .args in lines-other (a .handle .base .0) (a .tables) (a .words .now) (a .level) (a .k) _ (c .before .get-entry .ensures) (c .subtable .ensures) e
+
+below : {t : ℕ} (c : Asked t) (j : ℕ) → c .subtable .result ≡ Table j
+    → let a = c .before .before .before .before .before .before .before .before .before .before .args in linesAt (a .handle .base .0) (a .tables) (a .words .now) (a .level) (a .k) (c .before .before .before .next2 .given .0 .0) ≡ linesFrom (a .handle .base .0) (a .tables) (a .words .now) (3 - (a .level + 1)) j (c .before .before .before .next2 .given .0 .0)
+below c j e = let a = c .before .before .before .before .before .before .before .before .before .before .args in lines-table (a .handle .base .0) (a .tables) (a .words .now) (a .level) (a .k) _ (c .before .get-entry .ensures) (c .subtable .ensures) j e
+
+step : {t : ℕ} (c : Asked t) {ls : List Line} → let a = c .before .before .before .before .before .before .before .before .before .before .args in let f = linesAt (a .handle .base .0) (a .tables) (a .words .now) (a .level) (a .k) in f (c .before .before .before .next2 .given .0 .0) ≡ ls
+    → length (each f (chunksOf (c .before .before .before .before .before .before .loop .rest))) ≡ length ls + length (each f (chunksOf (c .before .before .before .next2 .given .0 .1 .0)))
+step c {ls} lines = let a = c .before .before .before .before .before .before .before .before .before .before .args in count-step (linesAt (a .handle .base .0) (a .tables) (a .words .now) (a .level) (a .k)) ls (cut c) lines
+
+-- room for the lines that remain
+room : {t : ℕ} (c : Asked t) → let a = c .before .before .before .before .before .before .before .before .before .before .args in
+    c .before .before .before .before .before .before .loop .to + 4 * length (each (linesAt (a .handle .base .0) (a .tables) (a .words .now) (a .level) (a .k)) (chunksOf (c .before .before .before .before .before .before .loop .rest))) ≤ length (c .before .before .before .before .before .before .loop .list)
+room c =
+    let inv = c .before .before .before .before .before .before .loop .inv in
+    omega (arith, inv .0, inv .1, ap length (all (c .before .before .before .before .before .before .before)), c .before .before .before .before .before .before .before .before .before .before .pre .1 .3)
+
+visit-range-split-requires : (t : ℕ) → visit-range-lts.Need-split-requires (calls t) (visit-range-at t) visit-range.Post visit-range-Inv-loop visit-range-μ-loop
+visit-range-split-requires t c κs = omega arith
+
+visit-range-loop-holds : (t : ℕ) → visit-range-lts.Need-loop-holds (calls t) (visit-range-at t) visit-range.Post visit-range-Inv-loop visit-range-μ-loop
+visit-range-loop-holds t c = (refl, refl, refl)
+
+visit-range-next-requires : (t : ℕ) → visit-range-lts.Need-next-requires (calls t) (visit-range-at t) visit-range.Post visit-range-Inv-loop visit-range-μ-loop
+visit-range-next-requires t c κs = omega arith
+
+visit-range-enum-known-next : (t : ℕ) → visit-range-lts.Need-enum-known-next (calls t) (visit-range-at t) visit-range.Post visit-range-Inv-loop visit-range-μ-loop
+visit-range-enum-known-next t c = c .match .keys1
+
+visit-range-enum-told : (t : ℕ) → visit-range-lts.Need-enum-told (calls t) (visit-range-at t) visit-range.Post visit-range-Inv-loop visit-range-μ-loop
+visit-range-enum-told t c = omega arith
+
+visit-range-same-length : (t : ℕ) → visit-range-lts.Need-same-length (calls t) (visit-range-at t) visit-range.Post visit-range-Inv-loop visit-range-μ-loop
+visit-range-same-length t c = c .before .before .before .loop .inv .1
+
+visit-range-returns : (t : ℕ) → visit-range-lts.Need-returns (calls t) (visit-range-at t) visit-range.Post visit-range-Inv-loop visit-range-μ-loop
+unfolding writeLines
+visit-range-returns t c =
+    let at = c .before .before .before in
+    let a = at .before .before .before .before .args in
+    let f = linesAt (a .handle .base .0) (a .tables) (a .words .now) (a .level) (a .k) in
+    let none = next-none (at .loop .rest) (c .before .before .next .ensures) (c .enum-told .given .1) in
+    let left = ap length (each-none f none) in
+    let to : at .loop .to ≡ a .from + 4 * length (each f (chunksOf (at .before .split .result))) = omega (arith, at .loop .inv .0) in
+    ap₂ written to (sym (write-done f (at .loop .to) (at .loop .list) none) ∙ at .loop .inv .2)
+    ∙ ap (λ (ls : List Line). writeLines (a .from) ls (a .list .now)) (sym (all (at .before)))
+
+visit-range-get-entry-requires : (t : ℕ) → visit-range-lts.Need-get-entry-requires (calls t) (visit-range-at t) visit-range.Post visit-range-Inv-loop visit-range-μ-loop
+visit-range-get-entry-requires t c κs = omega arith
+
+visit-range-subtable-requires : (t : ℕ) → visit-range-lts.Need-subtable-requires (calls t) (visit-range-at t) visit-range.Post visit-range-Inv-loop visit-range-μ-loop
+visit-range-subtable-requires t c κs = omega arith
+
+visit-range-enum-known-kind : (t : ℕ) → visit-range-lts.Need-enum-known-kind (calls t) (visit-range-at t) visit-range.Post visit-range-Inv-loop visit-range-μ-loop
+visit-range-enum-known-kind t c = c .match2 .keys1
+
+visit-range-put-line-requires : (t : ℕ) → visit-range-lts.Need-put-line-requires (calls t) (visit-range-at t) visit-range.Post visit-range-Inv-loop visit-range-μ-loop
+visit-range-put-line-requires t c κs =
+    let s = c .before .before in
+    omega (arith, step s (one s (no-table _ (c .before .match2 .keys2))), room s)
+
+visit-range-add-to : (t : ℕ) → visit-range-lts.Need-add-to (calls t) (visit-range-at t) visit-range.Post visit-range-Inv-loop visit-range-μ-loop
+visit-range-add-to t c =
+    let s = c .before .before .before .before .before in
+    omega (arith, step s (one s (no-table _ (c .before .before .before .before .match2 .keys2))), room s, c .before .before .before .before .before .before .before .before .before .before .before .loop .inv .1, c .before .before .before .before .before .before .before .before .before .before .before .before .before .before .before .good .1 .1 .1 .1 .1 .1 .0 .0)
+
+visit-range-loop-less : (t : ℕ) → visit-range-lts.Need-loop-less (calls t) (visit-range-at t) visit-range.Post visit-range-Inv-loop visit-range-μ-loop
+visit-range-loop-less t c = let e = ap length (cut (c .before .before .before .before .before)) in omega (arith, e)
+
+visit-range-loop-again : (t : ℕ) → visit-range-lts.Need-loop-again (calls t) (visit-range-at t) visit-range.Post visit-range-Inv-loop visit-range-μ-loop
+visit-range-loop-again t c =
+    let s = c .before .before .before .before .before in
+    let at = c .before .before .before .before .before .before .before .before .before .before .before .loop in
+    let a = c .before .before .before .before .before .before .before .before .before .before .before .before .before .before .before .args in
+    let lines = one s (no-table _ (c .before .before .before .before .match2 .keys2)) in
+    (omega (arith, at .inv .0, step s lines), omega arith, write-step (linesAt (a .handle .base .0) (a .tables) (a .words .now) (a .level) (a .k)) _ (cut s) lines (at .to) (at .list) (room s) refl (c .before .before .put-line .ensures) ∙ at .inv .2)
+
+visit-range-add-visit-range : (t : ℕ) → visit-range-lts.Need-add-visit-range (calls t) (visit-range-at t) visit-range.Post visit-range-Inv-loop visit-range-μ-loop
+visit-range-add-visit-range t c =
+    let found = sub-found _ _ _ _ _ (sym (c .before .before .before .subtable .ensures) ∙ c .before .kind .given .1) in
+    omega (arith, found .high)
+
+visit-range-visit-range-requires : (t : ℕ) → visit-range-lts.Need-visit-range-requires (calls t) (visit-range-at t) visit-range.Post visit-range-Inv-loop visit-range-μ-loop
+visit-range-visit-range-requires t c κs =
+    let s = c .before .before .before .before in
+    let p = c .before .before .before .before .before .before .before .before .before .before .before .before .before .before .pre in
+    let table = c .before .before .kind .given .1 in
+    let found = sub-found _ _ _ _ _ (sym (s .subtable .ensures) ∙ table) in
+    (omega (arith, found .high, p .0), (p .1 .0, found .below, omega (arith, found .high), omega (arith, step s (below s _ table), room s)))
+
+visit-range-loop-less-2 : (t : ℕ) → visit-range-lts.Need-loop-less-2 (calls t) (visit-range-at t) visit-range.Post visit-range-Inv-loop visit-range-μ-loop
+visit-range-loop-less-2 t c = let e = ap length (cut (c .before .before .before .before .before .before .before)) in omega (arith, e)
+
+visit-range-loop-again-2 : (t : ℕ) → visit-range-lts.Need-loop-again-2 (calls t) (visit-range-at t) visit-range.Post visit-range-Inv-loop visit-range-μ-loop
+unfolding writeLines
+visit-range-loop-again-2 t c =
+    let s = c .before .before .before .before .before .before .before in
+    let at = c .before .before .before .before .before .before .before .before .before .before .before .before .before .loop in
+    let a = c .before .before .before .before .before .before .before .before .before .before .before .before .before .before .before .before .before .args in
+    let lines = below s _ (c .before .before .before .before .before .kind .given .1) in
+    let to = ap (λ (x : Written). x .to) (c .before .before .visit-range .ensures) in
+    let list = ap (λ (x : Written). x .list) (c .before .before .visit-range .ensures) in
+    (omega (arith, at .inv .0, step s lines, to), omega arith, write-step (linesAt (a .handle .base .0) (a .tables) (a .words .now) (a .level) (a .k)) _ (cut s) lines (at .to) (at .list) (room s) to list ∙ at .inv .2)
+
+pub +visit-range-spec : {M : Type 1} → statement M
++visit-range-spec = close μ-visit-range λ t. visit-range-lts.spec (calls t)
+    (visit-range-at t)
+    visit-range.Post
+    visit-range-Inv-loop
+    visit-range-μ-loop
+    (visit-range-split-requires t)
+    (visit-range-loop-holds t)
+    (visit-range-next-requires t)
+    (visit-range-enum-known-next t)
+    (visit-range-enum-told t)
+    (visit-range-same-length t)
+    (visit-range-returns t)
+    (visit-range-get-entry-requires t)
+    (visit-range-subtable-requires t)
+    (visit-range-enum-known-kind t)
+    (visit-range-put-line-requires t)
+    (visit-range-add-to t)
+    (visit-range-loop-less t)
+    (visit-range-loop-again t)
+    (visit-range-add-visit-range t)
+    (visit-range-visit-range-requires t)
+    (visit-range-loop-less-2 t)
+    (visit-range-loop-again-2 t)

@@ -1,2 +1,0 @@
--- Document 01, "Bench cases": the starred ones that go over whole tables.
-pub mod Long

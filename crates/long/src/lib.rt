@@ -1,1 +1,0 @@
-// Theorems alone: the starred bench cases that go over whole tables stand in specs/.

@@ -1,0 +1,2 @@
+-- What proofs of `look_up` share.
+pub mod Tags

@@ -1,0 +1,2 @@
+-- Look up: the whole call.
+pub mod Call

@@ -1,0 +1,319 @@
+-- `count_new`: each way through the code by its law. Assumes nothing.
+use mathlib.Core.Path.{_≡_, sym, ap, subst⁻¹, _∙_}
+use Prim.Native.Nat.{_+_, _*_, _-_, _%_, _^_, _≤_}
+use native.Mathlib.Omega.{arith}
+use Rattle.entry.proofs.Tags.{is-outside}
+use Rattle.entry.specs.Sub.{sub-below}
+use Rattle.address_slot.specs.Slot.{entryLast, entryIndex}
+use Rattle.region.specs.Region.{region}
+use Rattle.region.specs.Chunks.{chunk-fits}
+use Rattle.pool.specs.State.{st}
+use Rattle.map_rules.specs.declared.Map.{Map}
+use Rattle.map_rules.specs.Rules.{ruleOf, chunkMap}
+use Rattle.map_rules.specs.Fit.{Fit}
+use Rattle.map_rules.specs.Fit.{chunk-paged, chunk-fit, rest-paged}
+use Rattle.map_count_spec.specs.Needed.{sumChunks, sum-none, sum-first}
+use Rattle.map_count_spec.specs.Closed.{closed}
+use Rattle.map_count.specs.Laws.{countAt, closed-done, closed-open, count-fit, entry-outside, entry-leaf, entry-none, entry-table}
+use Rattle.map_count_leaf.proofs.Tags.{no-down}
+use Prim.Native.Nat.{ℕ, _<_}
+use borrow.Fn.Kinds.{In}
+use borrow.Fn.PlainCycle.{Measures, is, falls, and}
+use Rattle.map_count.proofs.count_new.Reads as count-new
+use Rattle.map_count.proofs.count_new.Kinds as count-new-kinds
+use Rattle.map_count.proofs.+count_new.Lts-count_new as count-new-lts
+use Rattle.entry.proofs.subtable.Reads as subtable-reads
+use Rattle.map_count.proofs.count_last.Reads as count-last-reads
+use Rattle.map_count_leaf.proofs.count_entry.Reads as count-entry-reads
+use Rattle.map_rules.proofs.chunk_of.Reads as chunk-of-reads
+use Rattle.map_rules.proofs.rule_of.Reads as rule-of-reads
+use Rattle.address_slot.proofs.chunk_end.Reads as chunk-end-reads
+use Rattle.address_slot.proofs.entry_index.Reads as entry-index-reads
+use Rattle.map_count.proofs.+count_new.{statement}
+use Rattle.map_count.proofs.+count_new.Tie.{close}
+
+abbrev μ-count-new : Measures 2 count-new-kinds.ps ℕ
+μ-count-new κs a = 3 - a .1 .1 .1 .1 .0
+
+abbrev count-new-at : ℕ → In 2 count-new-kinds.ps
+count-new-at t =
+    and 2 count-new-kinds.ps (is 2 count-new-kinds.ps μ-count-new t) count-new.Pre
+
+abbrev count-new-below : ℕ → In 2 count-new-kinds.ps
+count-new-below t =
+    and
+    2
+    count-new-kinds.ps
+    (falls 2 count-new-kinds.ps _<_ μ-count-new t)
+    count-new.Pre
+
+abbrev calls : ℕ → count-new-lts.Claims
+calls t = (count-last-reads.Asked, count-last-reads.Learnt, chunk-end-reads.Asked, chunk-end-reads.Learnt, entry-index-reads.Asked, entry-index-reads.Learnt, subtable-reads.Asked, subtable-reads.Learnt, count-entry-reads.Asked, count-entry-reads.Learnt, chunk-of-reads.Asked, chunk-of-reads.Learnt, rule-of-reads.Asked, rule-of-reads.Learnt, count-new-below t, count-new.Post)
+
+abbrev count-new-Inv-loop : count-new-lts.InvT-loop
+count-new-Inv-loop words ledger handle k level map end at₀ frame₀ count₀ at frame count =
+    (at ≤ map .region .end .0) × (at % 4096 ≡ 0) × (frame % 4096 ≡ 0) × (frame + (map .region .end .0 - at) ≤ 2 ^ 48)
+    × (count + sumChunks level (countAt level handle (st words ledger) k) (chunkMap map (region at (map .region .end .0)) frame) ≡ sumChunks level (countAt level handle (st words ledger) k) map)
+
+abbrev count-new-μ-loop : count-new-lts.MeasureT-loop
+count-new-μ-loop words ledger handle k level map end at₀ frame₀ count₀ at frame count = map .region .end .0 - at
+
+-- a chunk, once its end and its slot are known
+abbrev Place : ℕ → Type 0
+Place t = count-new-lts.After-entry-index (calls t) (count-new-at t) count-new.Post count-new-Inv-loop count-new-μ-loop
+
+-- the chunk's own map, and what remains after it
+abbrev chunkOf : (t : ℕ) → Place t → Map
+chunkOf t c = chunkMap (c .before .before .before .before .before .before .before .before .args .map) (region (c .before .before .before .loop .at) (c .before .chunk-end .result)) (c .before .before .before .loop .frame)
+
+abbrev leftOf : (t : ℕ) → Place t → Map
+leftOf t c =
+    let m = c .before .before .before .before .before .before .before .before .args .map in
+    chunkMap m (region (c .before .chunk-end .result) (m .region .end .0)) (c .before .before .before .loop .frame + (c .before .chunk-end .result - c .before .before .before .loop .at))
+
+-- what one chunk counts
+abbrev counts : (t : ℕ) → Place t → Map → ℕ
+counts t c = let a = c .before .before .before .before .before .before .before .before .args in countAt (a .level) (a .handle) (st (a .words .now) (a .ledger .now)) (a .k)
+
+record Facts (t : ℕ) (c : Place t) : Type 0 where
+  within : c .before .chunk-end .result ≤ entryLast (c .before .before .before .before .before .before .before .before .args .level) (c .before .before .before .loop .at) + 1
+  high : c .before .before .before .before .before .before .before .before .args .level < 2
+  above : c .before .before .before .loop .at < c .before .chunk-end .result
+  under : c .before .chunk-end .result ≤ c .before .before .before .before .before .before .before .before .args .map .region .end .0
+  paged : c .before .chunk-end .result % 4096 ≡ 0
+  framed : leftOf t c .frame .0 % 4096 ≡ 0
+  room : leftOf t c .frame .0 + (leftOf t c .region .end .0 - leftOf t c .region .start .0) ≤ 2 ^ 48
+  slot : c .entry-index .result < 512
+  fit : Fit (chunkOf t c)
+  next : c .before .before .before .loop .count + (counts t c (chunkOf t c) + sumChunks (c .before .before .before .before .before .before .before .before .args .level) (counts t c) (leftOf t c)) ≡ sumChunks (c .before .before .before .before .before .before .before .before .args .level) (counts t c) (c .before .before .before .before .before .before .before .before .args .map)
+  most : sumChunks (c .before .before .before .before .before .before .before .before .args .level) (counts t c) (c .before .before .before .before .before .before .before .before .args .map) ≤ 3 * 2 ^ 48
+
+facts : (t : ℕ) (c : Place t) → Facts t c
+unfolding entryIndex
+facts t c =
+    let start = c .before .before .before .before .before .before .before .before in
+    let a = start .args in
+    let p = start .pre .1 in
+    let at = c .before .before .before in
+    let inv = at .loop .inv in
+    let s = st (a .words .now) (a .ledger .now) in
+    let low = c .before .before .loop-test .taken in
+    let stop = c .before .chunk-end .ensures in
+    let fits = chunk-fits (a .level) (at .loop .at) (a .map .region .end .0) low in
+    let f = countAt (a .level) (a .handle) s (a .k) in
+    let level : a .level < 2 = omega arith in
+    record {
+      within = omega (arith, fits .2);
+      high = level;
+      above = omega (arith, fits .0);
+      under = omega (arith, fits .1);
+      paged = ap (λ (x : ℕ). x % 4096) stop ∙ chunk-paged (a .level) (at .loop .at) (a .map .region .end .0) (p .3 .to);
+      framed = ap (λ (x : ℕ). (at .loop .frame + (x - at .loop .at)) % 4096) stop
+          ∙ rest-paged (a .level) (at .loop .at) (a .map .region .end .0) (at .loop .frame) (a .map) (p .3) low (inv .1) (p .3 .to) (inv .2) (inv .3);
+      room = omega (arith, fits .0, fits .1, inv .3);
+      slot = omega (arith, c .entry-index .ensures);
+      fit = subst⁻¹ (λ (x : ℕ). Fit (chunkMap (a .map) (region (at .loop .at) x) (at .loop .frame))) stop
+          (chunk-fit (a .level) (at .loop .at) (a .map .region .end .0) (at .loop .frame) (a .map) (p .3) low (inv .1) (p .3 .to) (inv .2) (inv .3));
+      next =
+          ap (λ (x : ℕ). at .loop .count + (f (chunkMap (a .map) (region (at .loop .at) x) (at .loop .frame)) + sumChunks (a .level) f (chunkMap (a .map) (region x (a .map .region .end .0)) (at .loop .frame + (x - at .loop .at))))) stop
+          ∙ ap (λ (x : ℕ). at .loop .count + x) (sym (sum-first (a .level) f (chunkMap (a .map) (region (at .loop .at) (a .map .region .end .0)) (at .loop .frame)) low))
+          ∙ inv .4;
+      most = omega (arith, count-fit (a .level) (a .handle) s (a .k) (a .map) (omega arith), p .3 .some, p .3 .room);
+    }
+
+-- the chunk's part, where it is what the code adds: the sum that is left after it
+counted : (t : ℕ) (c : Place t) (n : ℕ) → counts t c (chunkOf t c) ≡ n
+    → c .before .before .before .loop .count + n + sumChunks (c .before .before .before .before .before .before .before .before .args .level) (counts t c) (leftOf t c) ≡ sumChunks (c .before .before .before .before .before .before .before .before .args .level) (counts t c) (c .before .before .before .before .before .before .before .before .args .map)
+counted t c n e = omega (arith, facts t c .next)
+
+adds : (t : ℕ) (c : Place t) (n : ℕ) → counts t c (chunkOf t c) ≡ n → c .before .before .before .loop .count + n < 2 ^ 64
+adds t c n e = let f = facts t c in omega (arith, f .next, f .most)
+
+-- the rule of the chunk, and what the tables below it need
+ruled : (t : ℕ) (c : count-new-lts.After-rule-of (calls t) (count-new-at t) count-new.Post count-new-Inv-loop count-new-μ-loop) (w : ℕ)
+    → c .rule-of .result ≡ ruleOf (c .before .before .before .before .before .before .before .before .before .before .before .before .before .before .before .args .level) (c .before .chunk-of .result) w → c .rule-of .result ≡ ruleOf (c .before .before .before .before .before .before .before .before .before .before .before .before .before .before .before .args .level) (chunkOf t (c .before .before .before .before .before .before .before)) w
+ruled t c w e = e ∙ ap (λ (m : Map). ruleOf (c .before .before .before .before .before .before .before .before .before .before .before .before .before .before .before .args .level) m w) (c .before .chunk-of .ensures)
+
+lower : (t : ℕ) (c : count-new-lts.After-count-new (calls t) (count-new-at t) count-new.Post count-new-Inv-loop count-new-μ-loop) (j : ℕ)
+    → let a = c .before .before .before .before .before .before .before .before .before .before .before .before .before .before .before .before .before .before .args in let s = st (a .words .now) (a .ledger .now) in
+    c .count-new .result ≡ closed (3 - (a .level + 1)) (a .handle) s j (c .before .before .before .before .chunk-of .result) → c .count-new .result ≡ closed (3 - (a .level + 1)) (a .handle) s j (chunkOf t (c .before .before .before .before .before .before .before .before .before .before))
+lower t c j e = let a = c .before .before .before .before .before .before .before .before .before .before .before .before .before .before .before .before .before .before .args in e ∙ ap (λ (m : Map). closed (3 - (a .level + 1)) (a .handle) (st (a .words .now) (a .ledger .now)) j m) (c .before .before .before .before .chunk-of .ensures)
+
+count-new-returns : (t : ℕ) → count-new-lts.Need-returns (calls t) (count-new-at t) count-new.Post count-new-Inv-loop count-new-μ-loop
+count-new-returns t c = let a = c .before .before .before .args in closed-done (a .level) (a .handle) (st (a .words .now) (a .ledger .now)) (a .k) (a .map) (omega arith)
+
+count-new-count-last-requires : (t : ℕ) → count-new-lts.Need-count-last-requires (calls t) (count-new-at t) count-new.Post count-new-Inv-loop count-new-μ-loop
+count-new-count-last-requires t c κs = let p = c .before .before .before .before .pre .1 in (p .0, p .1, p .3)
+
+count-new-returns-2 : (t : ℕ) → count-new-lts.Need-returns-2 (calls t) (count-new-at t) count-new.Post count-new-Inv-loop count-new-μ-loop
+count-new-returns-2 t c =
+    let a = c .before .before .before .before .before .args in
+    c .count-last .ensures ∙ ap (λ (l : ℕ). closed (3 - l) (a .handle) (st (a .words .now) (a .ledger .now)) (a .k) (a .map)) (sym (c .before .if2 .taken))
+
+count-new-loop-holds : (t : ℕ) → count-new-lts.Need-loop-holds (calls t) (count-new-at t) count-new.Post count-new-Inv-loop count-new-μ-loop
+count-new-loop-holds t c = let p = c .before .before .before .before .pre .1 in (p .3 .some, p .3 .from, p .3 .frame, p .3 .room, omega arith)
+
+count-new-chunk-end-requires : (t : ℕ) → count-new-lts.Need-chunk-end-requires (calls t) (count-new-at t) count-new.Post count-new-Inv-loop count-new-μ-loop
+count-new-chunk-end-requires t c κs = omega arith
+
+count-new-entry-index-requires : (t : ℕ) → count-new-lts.Need-entry-index-requires (calls t) (count-new-at t) count-new.Post count-new-Inv-loop count-new-μ-loop
+count-new-entry-index-requires t c κs = omega arith
+
+count-new-sub-frame : (t : ℕ) → count-new-lts.Need-sub-frame (calls t) (count-new-at t) count-new.Post count-new-Inv-loop count-new-μ-loop
+count-new-sub-frame t c = omega (arith, facts t c .above)
+
+count-new-add-frame : (t : ℕ) → count-new-lts.Need-add-frame (calls t) (count-new-at t) count-new.Post count-new-Inv-loop count-new-μ-loop
+count-new-add-frame t c = let f = facts t (c) in omega (arith, f .above, f .room)
+
+count-new-mul-word : (t : ℕ) → count-new-lts.Need-mul-word (calls t) (count-new-at t) count-new.Post count-new-Inv-loop count-new-μ-loop
+count-new-mul-word t c = let f = facts t (c) in omega (arith, f .slot, c .before .before .before .before .before .before .before .before .pre .1 .0, c .before .before .before .before .before .before .before .before .pre .1 .1)
+
+count-new-add-word : (t : ℕ) → count-new-lts.Need-add-word (calls t) (count-new-at t) count-new.Post count-new-Inv-loop count-new-μ-loop
+count-new-add-word t c = let f = facts t (c) in omega (arith, f .slot, c .before .before .before .before .before .before .before .before .pre .1 .0, c .before .before .before .before .before .before .before .before .pre .1 .1)
+
+count-new-mul-word-2 : (t : ℕ) → count-new-lts.Need-mul-word-2 (calls t) (count-new-at t) count-new.Post count-new-Inv-loop count-new-μ-loop
+count-new-mul-word-2 t c = let f = facts t (c) in omega (arith, f .slot, c .before .before .before .before .before .before .before .before .pre .1 .0, c .before .before .before .before .before .before .before .before .pre .1 .1)
+
+count-new-shared-slice-read-word : (t : ℕ) → count-new-lts.Need-shared-slice-read-word (calls t) (count-new-at t) count-new.Post count-new-Inv-loop count-new-μ-loop
+count-new-shared-slice-read-word t c = let f = facts t (c .before) in omega (arith, f .slot, c .before .before .before .before .before .before .before .before .before .pre .1 .0, c .before .before .before .before .before .before .before .before .before .pre .1 .1)
+
+count-new-subtable-requires : (t : ℕ) → count-new-lts.Need-subtable-requires (calls t) (count-new-at t) count-new.Post count-new-Inv-loop count-new-μ-loop
+count-new-subtable-requires t c κs = omega arith
+
+count-new-enum-known-kind : (t : ℕ) → count-new-lts.Need-enum-known-kind (calls t) (count-new-at t) count-new.Post count-new-Inv-loop count-new-μ-loop
+count-new-enum-known-kind t c = c .match .keys1
+
+count-new-enum-told : (t : ℕ) → count-new-lts.Need-enum-told (calls t) (count-new-at t) count-new.Post count-new-Inv-loop count-new-μ-loop
+count-new-enum-told t c = c .match2 .keys1
+
+count-new-loop-less : (t : ℕ) → count-new-lts.Need-loop-less (calls t) (count-new-at t) count-new.Post count-new-Inv-loop count-new-μ-loop
+count-new-loop-less t c = omega (arith, facts t (c .before .before .before .before) .above, facts t (c .before .before .before .before) .under)
+
+count-new-loop-again : (t : ℕ) → count-new-lts.Need-loop-again (calls t) (count-new-at t) count-new.Post count-new-Inv-loop count-new-μ-loop
+count-new-loop-again t c =
+    let place = c .before .before .before .before in
+    let f = facts t place in
+    let a = c .before .before .before .before .before .before .before .before .before .before .before .before .args in
+    let here = entry-outside (a .handle) (st (a .words .now) (a .ledger .now)) (a .level) (a .k) (chunkOf t place) (place .entry-index .ensures) (c .before .before .subtable .ensures) (is-outside (c .before .before .subtable .result) (c .before .match .keys2) (c .match2 .keys2)) in
+    (f .under, f .paged, f .framed, f .room, omega (arith, counted t place 0 here))
+
+count-new-count-entry-requires : (t : ℕ) → count-new-lts.Need-count-entry-requires (calls t) (count-new-at t) count-new.Post count-new-Inv-loop count-new-μ-loop
+count-new-count-entry-requires t c κs = let f = facts t (c .before .before .before .before .before) in (f .fit, record { some = f .above; within = f .within }, f .high)
+
+count-new-add-count : (t : ℕ) → count-new-lts.Need-add-count (calls t) (count-new-at t) count-new.Post count-new-Inv-loop count-new-μ-loop
+count-new-add-count t c =
+    let place = c .before .before .before .before .before .before in
+    let f = facts t place in
+    let a = c .before .before .before .before .before .before .before .before .before .before .before .before .before .before .args in
+    let here = entry-leaf (a .handle) (st (a .words .now) (a .ledger .now)) (a .level) (a .k) (chunkOf t place) (place .entry-index .ensures) (c .before .before .before .before .subtable .ensures) (c .before .enum-told .given .1) (omega (arith, f .high)) in
+    omega (arith, adds t place (c .count-entry .result) (here ∙ sym (c .count-entry .ensures)))
+
+count-new-loop-less-2 : (t : ℕ) → count-new-lts.Need-loop-less-2 (calls t) (count-new-at t) count-new.Post count-new-Inv-loop count-new-μ-loop
+count-new-loop-less-2 t c = omega (arith, facts t (c .before .before .before .before .before .before) .above, facts t (c .before .before .before .before .before .before) .under)
+
+count-new-loop-again-2 : (t : ℕ) → count-new-lts.Need-loop-again-2 (calls t) (count-new-at t) count-new.Post count-new-Inv-loop count-new-μ-loop
+count-new-loop-again-2 t c =
+    let place = c .before .before .before .before .before .before in
+    let f = facts t place in
+    let a = c .before .before .before .before .before .before .before .before .before .before .before .before .before .before .args in
+    let here = entry-leaf (a .handle) (st (a .words .now) (a .ledger .now)) (a .level) (a .k) (chunkOf t place) (place .entry-index .ensures) (c .before .before .before .before .subtable .ensures) (c .before .enum-told .given .1) (omega (arith, f .high)) in
+    (f .under, f .paged, f .framed, f .room, counted t place (c .count-entry .result) (here ∙ sym (c .count-entry .ensures)))
+
+count-new-chunk-of-requires : (t : ℕ) → count-new-lts.Need-chunk-of-requires (calls t) (count-new-at t) count-new.Post count-new-Inv-loop count-new-μ-loop
+count-new-chunk-of-requires t c κs = tt
+
+count-new-rule-of-requires : (t : ℕ) → count-new-lts.Need-rule-of-requires (calls t) (count-new-at t) count-new.Post count-new-Inv-loop count-new-μ-loop
+count-new-rule-of-requires t c κs = let f = facts t (c .before .before .before .before .before .before) in subst⁻¹ (λ (m : Map). Fit m × (m .region .start .0 < m .region .end .0)) (c .chunk-of .ensures) (f .fit, f .above)
+
+count-new-enum-told-2 : (t : ℕ) → count-new-lts.Need-enum-told-2 (calls t) (count-new-at t) count-new.Post count-new-Inv-loop count-new-μ-loop
+count-new-enum-told-2 t c = c .match3 .keys1
+
+count-new-loop-less-3 : (t : ℕ) → count-new-lts.Need-loop-less-3 (calls t) (count-new-at t) count-new.Post count-new-Inv-loop count-new-μ-loop
+count-new-loop-less-3 t c = omega (arith, facts t (c .before .before .before .before .before .before .before .before) .above, facts t (c .before .before .before .before .before .before .before .before) .under)
+
+count-new-loop-again-3 : (t : ℕ) → count-new-lts.Need-loop-again-3 (calls t) (count-new-at t) count-new.Post count-new-Inv-loop count-new-μ-loop
+count-new-loop-again-3 t c =
+    let place = c .before .before .before .before .before .before .before .before in
+    let f = facts t place in
+    let a = c .before .before .before .before .before .before .before .before .before .before .before .before .before .before .before .before .args in
+    let here = entry-none (a .handle) (st (a .words .now) (a .ledger .now)) (a .level) (a .k) (chunkOf t place) (place .entry-index .ensures) (c .before .before .before .before .before .before .subtable .ensures) (ruled t (c .before) _ (c .before .rule-of .ensures)) (no-down (c .before .rule-of .result) (c .match3 .keys2)) in
+    (f .under, f .paged, f .framed, f .room, omega (arith, counted t place 0 here))
+
+count-new-add-count-new : (t : ℕ) → count-new-lts.Need-add-count-new (calls t) (count-new-at t) count-new.Post count-new-Inv-loop count-new-μ-loop
+count-new-add-count-new t c = omega (arith, facts t (c .before .before .before .before .before .before .before .before .before) .high)
+
+count-new-count-new-requires : (t : ℕ) → count-new-lts.Need-count-new-requires (calls t) (count-new-at t) count-new.Post count-new-Inv-loop count-new-μ-loop
+count-new-count-new-requires t c κs =
+    let f = facts t (c .before .before .before .before .before .before .before .before .before) in
+    let a = c .before .before .before .before .before .before .before .before .before .before .before .before .before .before .before .before .before .args in
+    let p = c .before .before .before .before .before .before .before .before .before .before .before .before .before .before .before .before .before .pre .1 in
+    let inside = sub-below (a .handle .base .0) _ (a .level) _ _ (sym (c .before .before .before .before .before .before .before .subtable .ensures) ∙ c .before .before .before .before .before .kind .given .1) in
+    (omega (arith, f .high, c .before .before .before .before .before .before .before .before .before .before .before .before .before .before .before .before .before .pre .0), (p .0, inside, omega (arith, f .high), subst⁻¹ Fit (c .before .before .before .chunk-of .ensures) (f .fit)))
+
+count-new-add-count-2 : (t : ℕ) → count-new-lts.Need-add-count-2 (calls t) (count-new-at t) count-new.Post count-new-Inv-loop count-new-μ-loop
+count-new-add-count-2 t c =
+    let place = c .before .before .before .before .before .before .before .before .before .before in
+    let f = facts t place in
+    let a = c .before .before .before .before .before .before .before .before .before .before .before .before .before .before .before .before .before .before .args in
+    let here = entry-table (a .handle) (st (a .words .now) (a .ledger .now)) (a .level) (a .k) (chunkOf t place) (place .entry-index .ensures) (c .before .before .before .before .before .before .before .before .subtable .ensures) (ruled t (c .before .before .before) _ (c .before .before .before .rule-of .ensures)) _ (c .before .before .before .before .before .before .kind .given .1) (c .before .enum-told2 .given .1) in
+    omega (arith, adds t place (c .count-new .result) (here ∙ sym (lower t c _ (c .count-new .ensures))))
+
+count-new-loop-less-4 : (t : ℕ) → count-new-lts.Need-loop-less-4 (calls t) (count-new-at t) count-new.Post count-new-Inv-loop count-new-μ-loop
+count-new-loop-less-4 t c = omega (arith, facts t (c .before .before .before .before .before .before .before .before .before .before) .above, facts t (c .before .before .before .before .before .before .before .before .before .before) .under)
+
+count-new-loop-again-4 : (t : ℕ) → count-new-lts.Need-loop-again-4 (calls t) (count-new-at t) count-new.Post count-new-Inv-loop count-new-μ-loop
+count-new-loop-again-4 t c =
+    let place = c .before .before .before .before .before .before .before .before .before .before in
+    let f = facts t place in
+    let a = c .before .before .before .before .before .before .before .before .before .before .before .before .before .before .before .before .before .before .args in
+    let here = entry-table (a .handle) (st (a .words .now) (a .ledger .now)) (a .level) (a .k) (chunkOf t place) (place .entry-index .ensures) (c .before .before .before .before .before .before .before .before .subtable .ensures) (ruled t (c .before .before .before) _ (c .before .before .before .rule-of .ensures)) _ (c .before .before .before .before .before .before .kind .given .1) (c .before .enum-told2 .given .1) in
+    (f .under, f .paged, f .framed, f .room, counted t place (c .count-new .result) (here ∙ sym (lower t c _ (c .count-new .ensures))))
+
+count-new-returns-3 : (t : ℕ) → count-new-lts.Need-returns-3 (calls t) (count-new-at t) count-new.Post count-new-Inv-loop count-new-μ-loop
+count-new-returns-3 t c =
+    let at = c .before in
+    let a = c .before .before .before .before .before .before .args in
+    let s = (st (a .words .now) (a .ledger .now)) in
+    let f = countAt (a .level) (a .handle) s (a .k) in
+    let none = sum-none (a .level) f (chunkMap (a .map) (region (at .loop .at) (a .map .region .end .0)) (at .loop .frame)) (omega arith) in
+    let all = closed-open (a .level) (a .handle) s (a .k) (a .map) (omega arith) in
+    omega (arith, at .loop .inv .4)
+
+pub +count-new-spec : {M : Type 1} → statement M
++count-new-spec = close μ-count-new λ t. count-new-lts.spec (calls t)
+    (count-new-at t)
+    count-new.Post
+    count-new-Inv-loop
+    count-new-μ-loop
+    (count-new-returns t)
+    (count-new-count-last-requires t)
+    (count-new-returns-2 t)
+    (count-new-loop-holds t)
+    (count-new-chunk-end-requires t)
+    (count-new-entry-index-requires t)
+    (count-new-sub-frame t)
+    (count-new-add-frame t)
+    (count-new-mul-word t)
+    (count-new-add-word t)
+    (count-new-mul-word-2 t)
+    (count-new-shared-slice-read-word t)
+    (count-new-subtable-requires t)
+    (count-new-enum-known-kind t)
+    (count-new-enum-told t)
+    (count-new-loop-less t)
+    (count-new-loop-again t)
+    (count-new-count-entry-requires t)
+    (count-new-add-count t)
+    (count-new-loop-less-2 t)
+    (count-new-loop-again-2 t)
+    (count-new-chunk-of-requires t)
+    (count-new-rule-of-requires t)
+    (count-new-enum-told-2 t)
+    (count-new-loop-less-3 t)
+    (count-new-loop-again-3 t)
+    (count-new-add-count-new t)
+    (count-new-count-new-requires t)
+    (count-new-add-count-2 t)
+    (count-new-loop-less-4 t)
+    (count-new-loop-again-4 t)
+    (count-new-returns-3 t)

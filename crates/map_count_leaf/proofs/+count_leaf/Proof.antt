@@ -1,0 +1,183 @@
+-- `count_leaf`: each way through the code by its law. Assumes nothing.
+use mathlib.Core.Path.{_≡_, ap, ap₂, subst⁻¹, _∙_}
+use Prim.Native.Nat.{_+_, _*_, _-_, _≤_, _^_}
+use native.Mathlib.Omega.{arith}
+use Rattle.region.specs.Region.{region}
+use Rattle.region.specs.Chunks.{chunk-fits}
+use Rattle.map_rules.specs.declared.Map.{Map}
+use Rattle.map_rules.specs.Rules.{chunkMap}
+use Rattle.map_rules.specs.Fit.{Fit}
+use Rattle.map_rules.specs.Laws.{down-high}
+use Rattle.map_count_spec.specs.Needed.{childWord, firstChunk}
+use Rattle.map_count_spec.specs.Closed.{rests, closedLeaf}
+use Rattle.map_count_spec.specs.Ends.{leaf-none, leaf-low, leaf-down, leaf-fit, rests-fit, first-fit, length-fits}
+use Rattle.map_count_leaf.proofs.Tags.{no-down}
+use Prim.Native.Nat.{ℕ, _<_}
+use borrow.Fn.Kinds.{In}
+use borrow.Fn.PlainCycle.{Measures, is, falls, and}
+use Rattle.map_count_leaf.proofs.count_leaf.Reads as count-leaf
+use Rattle.map_count_leaf.proofs.count_leaf.Kinds as count-leaf-kinds
+use Rattle.map_count_leaf.proofs.+count_leaf.Lts-count_leaf as count-leaf-lts
+use Rattle.map_count_leaf.proofs.count_rest.Reads as count-rest-reads
+use Rattle.map_count_leaf.proofs.part_of.Reads as part-of-reads
+use Rattle.map_rules.proofs.chunk_of.Reads as chunk-of-reads
+use Rattle.map_rules.proofs.rule_of.Reads as rule-of-reads
+use Rattle.address_slot.proofs.chunk_end.Reads as chunk-end-reads
+use Rattle.map_count_leaf.proofs.+count_leaf.{statement}
+use Rattle.map_count_leaf.proofs.+count_leaf.Tie.{close}
+
+abbrev μ-count-leaf : Measures 0 count-leaf-kinds.ps ℕ
+μ-count-leaf κs a = 3 - a .0
+
+abbrev count-leaf-at : ℕ → In 0 count-leaf-kinds.ps
+count-leaf-at t =
+    and 0 count-leaf-kinds.ps (is 0 count-leaf-kinds.ps μ-count-leaf t) count-leaf.Pre
+
+abbrev count-leaf-below : ℕ → In 0 count-leaf-kinds.ps
+count-leaf-below t =
+    and 0 count-leaf-kinds.ps (falls 0 count-leaf-kinds.ps _<_ μ-count-leaf t) count-leaf.Pre
+
+abbrev calls : ℕ → count-leaf-lts.Claims
+calls t = (rule-of-reads.Asked, rule-of-reads.Learnt, chunk-end-reads.Asked, chunk-end-reads.Learnt, chunk-of-reads.Asked, chunk-of-reads.Learnt, part-of-reads.Asked, part-of-reads.Learnt, count-leaf-below t, count-leaf.Post, count-rest-reads.Asked, count-rest-reads.Learnt)
+
+-- after the call that finds where the first chunk below ends
+abbrev Place : ℕ → Type 0
+Place t = count-leaf-lts.After-chunk-end (calls t) (count-leaf-at t) count-leaf.Post
+
+-- the first chunk below
+abbrev firstOf : (t : ℕ) → Place t → Map
+firstOf t c = let m = c .before .before .before .before .before .args .map in chunkMap m (region (m .region .start .0) (c .chunk-end .result)) (m .frame .0)
+
+-- where it ends, and that its map fits
+record Facts (t : ℕ) (c : Place t) : Type 0 where
+  fits : (c .before .before .before .before .before .args .map .region .start .0 < c .chunk-end .result) × (c .chunk-end .result ≤ c .before .before .before .before .before .args .map .region .end .0)
+  fit : Fit (firstOf t c)
+  length : c .before .before .before .before .before .args .map .region .end .0 - c .before .before .before .before .before .args .map .region .start .0 ≤ 2 ^ 48
+  high : c .before .before .before .before .before .args .level < 2
+
+facts : (t : ℕ) (c : Place t) → Facts t c
+facts t c =
+    let start = c .before .before .before .before .before in
+    let a = start .args in
+    let p = start .pre .1 in
+    let stop = c .chunk-end .ensures in
+    let cut = chunk-fits (a .level + 1) (a .map .region .start .0) (a .map .region .end .0) (p .1) in
+    record {
+      fits = (omega (arith, cut .0), omega (arith, cut .1));
+      fit = subst⁻¹ (λ (x : ℕ). Fit (chunkMap (a .map) (region (a .map .region .start .0) x) (a .map .frame .0))) stop (first-fit (a .level + 1) (a .map) (p .0) (p .1));
+      length = length-fits (a .level + 1) (a .map) (p .0) (p .1);
+      high = omega arith;
+    }
+
+-- what the call one level down answers
+below : (t : ℕ) (c : count-leaf-lts.After-count-leaf (calls t) (count-leaf-at t) count-leaf.Post)
+    → c .count-leaf .result ≡ closedLeaf (3 - (c .before .before .before .before .before .before .before .before .before .args .level + 1)) (firstOf t (c .before .before .before .before)) (c .before .part-of .result)
+below t c = c .count-leaf .ensures ∙ ap (λ (m : Map). closedLeaf (3 - (c .before .before .before .before .before .before .before .before .before .args .level + 1)) m (c .before .part-of .result)) (c .before .before .before .chunk-of .ensures)
+
+deeper : (t : ℕ) (c : count-leaf-lts.After-count-leaf (calls t) (count-leaf-at t) count-leaf.Post)
+    → let a = c .before .before .before .before .before .before .before .before .before .args in
+    c .count-leaf .result ≡ closedLeaf (3 - (a .level + 1)) (firstChunk (a .level + 1) (a .map)) (childWord (a .level) (a .word) (a .map .region .start .0))
+deeper t c =
+    let a = c .before .before .before .before .before .before .before .before .before .args in
+    below t c
+    ∙ ap₂ (λ (x w : ℕ). closedLeaf (3 - (a .level + 1)) (chunkMap (a .map) (region (a .map .region .start .0) x) (a .map .frame .0)) w) (c .before .before .before .before .chunk-end .ensures) (c .before .part-of .ensures)
+
+deeper-fits : (t : ℕ) (c : count-leaf-lts.After-count-leaf (calls t) (count-leaf-at t) count-leaf.Post) → c .count-leaf .result ≤ 3 * 2 ^ 48
+deeper-fits t c =
+    let f = facts t (c .before .before .before .before) in
+    let most = leaf-fit (c .before .before .before .before .before .before .before .before .before .args .level + 1) (firstOf t (c .before .before .before .before)) (c .before .part-of .result) (f .fits .0) in
+    omega (arith, below t c, f .fits .0, f .fits .1, f .length)
+
+-- what remains, and its count
+abbrev restOf : (t : ℕ) → Place t → Map
+restOf t c = let m = c .before .before .before .before .before .args .map in chunkMap m (region (c .chunk-end .result) (m .region .end .0)) (m .frame .0 + (c .chunk-end .result - m .region .start .0))
+
+rested : (t : ℕ) (c : count-leaf-lts.After-count-rest (calls t) (count-leaf-at t) count-leaf.Post) → c .count-rest .result ≡ rests (3 - (c .before .before .before .before .before .before .before .before .before .before .args .level + 1)) (restOf t (c .before .before .before .before .before))
+rested t c = c .count-rest .ensures ∙ ap (rests (3 - (c .before .before .before .before .before .before .before .before .before .before .args .level + 1))) (c .before .before .before .chunk-of2 .ensures)
+
+count-leaf-rule-of-requires : (t : ℕ) → count-leaf-lts.Need-rule-of-requires (calls t) (count-leaf-at t) count-leaf.Post
+count-leaf-rule-of-requires t c κs = c .pre .1
+
+count-leaf-enum-told : (t : ℕ) → count-leaf-lts.Need-enum-told (calls t) (count-leaf-at t) count-leaf.Post
+count-leaf-enum-told t c = c .match .keys1
+
+count-leaf-returns : (t : ℕ) → count-leaf-lts.Need-returns (calls t) (count-leaf-at t) count-leaf.Post
+count-leaf-returns t c = let a = c .before .before .args in leaf-none (a .level) (a .map) (a .word) (c .before .rule-of .ensures) (no-down (c .before .rule-of .result) (c .match .keys2))
+
+count-leaf-returns-2 : (t : ℕ) → count-leaf-lts.Need-returns-2 (calls t) (count-leaf-at t) count-leaf.Post
+count-leaf-returns-2 t c = let a = c .before .before .before .before .args in leaf-low (a .level) (a .map) (a .word) (c .before .before .before .rule-of .ensures) (c .before .enum-told .given .1) (down-high (a .level) (a .map) (a .word) (c .before .before .before .rule-of .ensures) (c .before .enum-told .given .1)) (omega arith)
+
+count-leaf-add-chunk-end : (t : ℕ) → count-leaf-lts.Need-add-chunk-end (calls t) (count-leaf-at t) count-leaf.Post
+count-leaf-add-chunk-end t c = omega arith
+
+count-leaf-chunk-end-requires : (t : ℕ) → count-leaf-lts.Need-chunk-end-requires (calls t) (count-leaf-at t) count-leaf.Post
+count-leaf-chunk-end-requires t c κs = tt
+
+count-leaf-chunk-of-requires : (t : ℕ) → count-leaf-lts.Need-chunk-of-requires (calls t) (count-leaf-at t) count-leaf.Post
+count-leaf-chunk-of-requires t c κs = tt
+
+count-leaf-sub-result : (t : ℕ) → count-leaf-lts.Need-sub-result (calls t) (count-leaf-at t) count-leaf.Post
+count-leaf-sub-result t c = omega (arith, facts t (c .before) .fits .0)
+
+count-leaf-add-result : (t : ℕ) → count-leaf-lts.Need-add-result (calls t) (count-leaf-at t) count-leaf.Post
+count-leaf-add-result t c = let f = facts t (c .before) in omega (arith, f .fits .0, f .fits .1, c .before .before .before .before .before .before .pre .1 .0 .room)
+
+count-leaf-chunk-of-requires-2 : (t : ℕ) → count-leaf-lts.Need-chunk-of-requires-2 (calls t) (count-leaf-at t) count-leaf.Post
+count-leaf-chunk-of-requires-2 t c κs = tt
+
+count-leaf-part-of-requires : (t : ℕ) → count-leaf-lts.Need-part-of-requires (calls t) (count-leaf-at t) count-leaf.Post
+count-leaf-part-of-requires t c κs = omega (arith, facts t (c .before .before) .high)
+
+count-leaf-add-count-leaf : (t : ℕ) → count-leaf-lts.Need-add-count-leaf (calls t) (count-leaf-at t) count-leaf.Post
+count-leaf-add-count-leaf t c = omega (arith, facts t (c .before .before .before) .high)
+
+count-leaf-count-leaf-requires : (t : ℕ) → count-leaf-lts.Need-count-leaf-requires (calls t) (count-leaf-at t) count-leaf.Post
+count-leaf-count-leaf-requires t c κs = let f = facts t (c .before .before .before) in
+    (omega (arith, f .high, c .before .before .before .before .before .before .before .before .pre .0), subst⁻¹ (λ (m : Map). Fit m × (m .region .start .0 < m .region .end .0)) (c .before .before .chunk-of .ensures) (f .fit, f .fits .0))
+
+count-leaf-add-result-2 : (t : ℕ) → count-leaf-lts.Need-add-result-2 (calls t) (count-leaf-at t) count-leaf.Post
+count-leaf-add-result-2 t c = omega (arith, deeper-fits t c)
+
+count-leaf-add-count-rest : (t : ℕ) → count-leaf-lts.Need-add-count-rest (calls t) (count-leaf-at t) count-leaf.Post
+count-leaf-add-count-rest t c = omega (arith, facts t (c .before .before .before .before) .high)
+
+count-leaf-count-rest-requires : (t : ℕ) → count-leaf-lts.Need-count-rest-requires (calls t) (count-leaf-at t) count-leaf.Post
+count-leaf-count-rest-requires t c κs = let f = facts t (c .before .before .before .before) in
+    let length : restOf t (c .before .before .before .before) .region .end .0 - restOf t (c .before .before .before .before) .region .start .0 ≤ 2 ^ 48 = omega (arith, f .fits .0, f .length) in
+    subst⁻¹ (λ (m : Map). m .region .end .0 - m .region .start .0 ≤ 2 ^ 48) (c .before .before .chunk-of2 .ensures) length
+
+count-leaf-add-result-3 : (t : ℕ) → count-leaf-lts.Need-add-result-3 (calls t) (count-leaf-at t) count-leaf.Post
+count-leaf-add-result-3 t c =
+    let f = facts t (c .before .before .before .before .before) in
+    omega (arith, deeper-fits t (c .before), rested t c, rests-fit (c .before .before .before .before .before .before .before .before .before .before .args .level + 1) (restOf t (c .before .before .before .before .before)), f .fits .0, f .length)
+
+count-leaf-returns-3 : (t : ℕ) → count-leaf-lts.Need-returns-3 (calls t) (count-leaf-at t) count-leaf.Post
+count-leaf-returns-3 t c =
+    let a = c .before .before .before .before .before .before .before .before .before .before .args in
+    let high = facts t (c .before .before .before .before .before) .high in
+    let rest = rested t c ∙ ap (λ (x : ℕ). rests (3 - (a .level + 1)) (chunkMap (a .map) (region x (a .map .region .end .0)) (a .map .frame .0 + (x - a .map .region .start .0)))) (c .before .before .before .before .before .chunk-end .ensures) in
+    ap₂ (λ (x y : ℕ). 1 + x + y) (deeper t (c .before)) rest
+    ∙ leaf-down (a .level) (a .map) (a .word) (c .before .before .before .before .before .before .before .before .before .rule-of .ensures) (c .before .before .before .before .before .before .before .enum-told .given .1) (omega (arith, high))
+
+pub +count-leaf-spec : {M : Type 1} → statement M
++count-leaf-spec = close μ-count-leaf λ t. count-leaf-lts.spec (calls t)
+    (count-leaf-at t)
+    count-leaf.Post
+    (count-leaf-rule-of-requires t)
+    (count-leaf-enum-told t)
+    (count-leaf-returns t)
+    (count-leaf-returns-2 t)
+    (count-leaf-add-chunk-end t)
+    (count-leaf-chunk-end-requires t)
+    (count-leaf-chunk-of-requires t)
+    (count-leaf-sub-result t)
+    (count-leaf-add-result t)
+    (count-leaf-chunk-of-requires-2 t)
+    (count-leaf-part-of-requires t)
+    (count-leaf-add-count-leaf t)
+    (count-leaf-count-leaf-requires t)
+    (count-leaf-add-result-2 t)
+    (count-leaf-add-count-rest t)
+    (count-leaf-count-rest-requires t)
+    (count-leaf-add-result-3 t)
+    (count-leaf-returns-3 t)

@@ -1,0 +1,45 @@
+-- Document 01, "Putting down a map": what is done by each rule, the chunks of a table in ascending order, one level after the other. Assumes nothing.
+use mathlib.Core.List.{List, [], _∷_}
+use Prim.Native.Nat.{ℕ, zero, suc, _+_, _-_}
+use Rattle.entry.specs.Sub.{subOf}
+use Rattle.address_slot.specs.Slot.{entryIndex}
+use Rattle.region.specs.Chunks.{chunks}
+use Rattle.region.specs.declared.MemoryRegion.{MemoryRegion}
+use Rattle.pool.specs.State.{St, tables, wordAt, storeAt}
+use Rattle.pool_table.specs.Table.{freeSub, freeTree}
+use Rattle.pool.specs.declared.Handle.{Handle}
+use Rattle.map_rules.specs.declared.Map.{Map}
+use Rattle.map_rules.specs.declared.Rule.{Rule}
+use Rattle.map_rules.specs.declared.Rule.the-variants.{Write, Keep, Drop, Down}
+use Rattle.map_rules.specs.Rules.{ruleOf, chunkMap}
+use Rattle.map_split.specs.Split.{below, into}
+
+-- what the word w of a table at this level refers to is freed
+unfoldable pub dropEntry : Handle → ℕ → ℕ → St → St
+dropEntry h level w s = freeSub (λ j t. freeTree (3 - (level + 1)) h j t) (subOf (h .base .0) (tables s) level w) s
+
+-- a rule carried out on slot i of table k; `rec` goes on one level down
+unfoldable pub byRule : (ℕ → St → St) → Handle → ℕ → ℕ → ℕ → Rule → St → St
+byRule rec h level k i (Write x) s = storeAt k i x s
+byRule rec h level k i Keep s = s
+byRule rec h level k i (Drop x) s = dropEntry h level (wordAt s k i) (storeAt k i x s)
+byRule rec h level k i Down s = into rec (below h level k i s)
+
+-- one chunk of table k
+unfoldable pub mapChunk : (ℕ → Map → St → St) → Handle → ℕ → ℕ → Map → St → St
+mapChunk rec h level k m s =
+    let i = entryIndex level (m .region .start .0) in
+    byRule (λ j t. rec j m t) h level k i (ruleOf level m (wordAt s k i)) s
+
+-- "for each chunk, ascending .. the frame rises by the chunk's length after each"
+unfoldable pub eachOf : (MemoryRegion → ℕ → St → St) → List MemoryRegion → ℕ → St → St
+eachOf f [] frame s = s
+eachOf f (c ∷ cs) frame s = eachOf f cs (frame + (c .end .0 - c .start .0)) (f c frame s)
+
+unfoldable pub eachChunk : ℕ → (Map → St → St) → Map → St → St
+eachChunk level f m s = eachOf (λ c frame t. f (chunkMap m c frame) t) (chunks level (m .region .start .0) (m .region .end .0)) (m .frame .0) s
+
+-- a map of table k with `left` levels below its own
+unfoldable pub mapRange : ℕ → Handle → ℕ → Map → St → St
+mapRange zero h k m s = eachChunk 3 (mapChunk (λ j n t. t) h 3 k) m s
+mapRange (suc left) h k m s = eachChunk (3 - suc left) (mapChunk (λ j n t. mapRange left h j n t) h (3 - suc left) k) m s

@@ -1,0 +1,102 @@
+-- The loop over a table's chunks: one step after the other, and what each step needs. Leans on `Put`. Assumes nothing.
+use mathlib.Core.Path.{_≡_, refl, sym, ap, _∙_}
+use mathlib.Core.Bool.{cond}
+use mathlib.Core.Logic.{_⊎_, ⊎-elim}
+use Prim.Native.Nat.{ℕ, suc, _+_, _-_, _≤_, _<_}
+use native.Mathlib.Omega.{arith}
+use lib.Dec.{ltb}
+use borrow.Author.Tests.{lt-ltb}
+use Rattle.laws.specs.Test.{le-or}
+use Rattle.address_slot.specs.Slot.{entryIndex, chunkEnd}
+use Rattle.region.specs.Region.{region}
+use Rattle.region.specs.Chunks.{chunks-step, chunks-none}
+use Rattle.pool.specs.State.{St, wordAt, storeAt}
+use Rattle.pool_table.specs.Table.{Taken, taken}
+use Rattle.pool.specs.declared.Handle.{Handle}
+use Rattle.pool.specs.declared.Found.{Found}
+use Rattle.pool.specs.declared.Found.the-variants.{At, Nothing}
+use Rattle.map_rules.specs.declared.Map.{Map}
+use Rattle.map_rules.specs.declared.Rule.{Rule}
+use Rattle.map_rules.specs.declared.Rule.the-variants.{Write, Keep, Drop, Down}
+use Rattle.map_rules.specs.Rules.{ruleOf, chunkMap}
+use Rattle.map_split.specs.Split.{below, inFound, into}
+use Rattle.map_put.specs.Put.{dropEntry, byRule, mapChunk, eachOf, eachChunk, mapRange}
+use Rattle.map_put.specs.Laws.{put-here}
+
+-- ---- one level down
+
+-- at level 3 there is nothing below
+unfoldable pub recAt : ℕ → Handle → ℕ → Map → St → St
+recAt level h = cond (ltb level 3) (λ j n t. mapRange (3 - (level + 1)) h j n t) (λ j n t. t)
+
+pub rec-down : (level : ℕ) (h : Handle) (j : ℕ) (n : Map) (t : St) → level < 3 → mapRange (3 - (level + 1)) h j n t ≡ recAt level h j n t
+unfolding recAt
+rec-down level h j n t l = rw (lt-ltb level 3 l)
+
+-- one chunk of table k
+unfoldable pub stepAt : ℕ → Handle → ℕ → Map → St → St
+stepAt level h k = mapChunk (recAt level h) h level k
+
+pub map-open : (level : ℕ) (h : Handle) (k : ℕ) (m : Map) (s : St) → level ≤ 3 → eachChunk level (stepAt level h k) m s ≡ mapRange (3 - level) h k m s
+unfolding stepAt recAt mapRange
+map-open level h k m s l = ⊎-elim
+    (λ ge.
+    let e : 3 ≡ level = omega arith in
+    ap (λ (x : ℕ). eachChunk x (mapChunk (cond (ltb x 3) (λ j n t. mapRange (3 - (x + 1)) h j n t) (λ j n t. t)) h x k) m s) (sym e) ∙ ap (λ (x : ℕ). mapRange (3 - x) h k m s) e)
+    (λ lt.
+    let e : suc (3 - (level + 1)) ≡ 3 - level = omega arith in
+    let q : level ≡ 3 - suc (3 - (level + 1)) = omega arith in
+    rw (lt-ltb level 3 lt)
+    (ap (λ (x : ℕ). eachChunk x (mapChunk (λ j n t. mapRange (3 - (level + 1)) h j n t) h x k) m s) q ∙ ap (λ (x : ℕ). mapRange x h k m s) e))
+    (le-or 3 level)
+
+-- ---- the loop
+
+module _ (level : ℕ) (f : Map → St → St) (m : Map) (at end frame : ℕ) (s : St) where
+  pub each-done : end ≤ at → eachChunk level f (chunkMap m (region at end) frame) s ≡ s
+  unfolding eachChunk eachOf
+  each-done h = rw (chunks-none level at end h)
+
+  pub each-step : at < end
+      → eachChunk level f (chunkMap m (region at end) frame) s
+      ≡ eachChunk level f (chunkMap m (region (chunkEnd level at end) end) (frame + (chunkEnd level at end - at))) (f (chunkMap m (region at (chunkEnd level at end)) frame) s)
+  unfolding eachChunk eachOf
+  each-step h = rw (chunks-step level at end h)
+
+-- ---- one chunk, by its rule
+
+module _ (h : Handle) (level k : ℕ) (m : Map) (s : St) {i : ℕ} (index : i ≡ entryIndex level (m .region .start .0)) {r : Rule} (is : r ≡ ruleOf level m (wordAt s k i)) where
+  chosen : (q : Rule) → r ≡ q → byRule (λ j t. recAt level h j m t) h level k i q s ≡ stepAt level h k m s
+  unfolding stepAt mapChunk
+  chosen q e =
+      ap (λ (x : Rule). byRule (λ j t. recAt level h j m t) h level k i x s) (sym e ∙ is)
+      ∙ ap (λ (x : ℕ). byRule (λ j t. recAt level h j m t) h level k x (ruleOf level m (wordAt s k x)) s) index
+
+  pub chunk-write : (x : ℕ) → r ≡ Write x → storeAt k i x s ≡ stepAt level h k m s
+  unfolding byRule
+  chunk-write x e = chosen (Write x) e
+
+  pub chunk-keep : r ≡ Keep → s ≡ stepAt level h k m s
+  unfolding byRule
+  chunk-keep e = chosen Keep e
+
+  pub chunk-drop : (x : ℕ) → r ≡ Drop x → dropEntry h level (wordAt s k i) (storeAt k i x s) ≡ stepAt level h k m s
+  unfolding byRule
+  chunk-drop x e = chosen (Drop x) e
+
+  -- any rule that goes no lower
+  pub chunk-here : (r ≡ Down → ⊥) → byRule (λ j t. t) h level k i r s ≡ stepAt level h k m s
+  chunk-here n = put-here (λ j t. t) (λ j t. recAt level h j m t) h level k i s r n ∙ chosen r refl
+
+  module _ (e : r ≡ Down) {f : Found} {t : St} (found : taken f t ≡ below h level k i s) where
+    gone-down : inFound (λ j u. recAt level h j m u) f t ≡ stepAt level h k m s
+    unfolding byRule into
+    gone-down = ap (λ (x : Taken). inFound (λ j u. recAt level h j m u) (x .table) (x .state)) found ∙ chosen Down e
+
+    pub chunk-none : f ≡ Nothing → t ≡ stepAt level h k m s
+    unfolding inFound
+    chunk-none q = ap (λ (x : Found). inFound (λ j u. recAt level h j m u) x t) (sym q) ∙ gone-down
+
+    pub chunk-into : (j : ℕ) → f ≡ At j → level < 3 → mapRange (3 - (level + 1)) h j m t ≡ stepAt level h k m s
+    unfolding inFound
+    chunk-into j q l = rec-down level h j m t l ∙ ap (λ (x : Found). inFound (λ j u. recAt level h j m u) x t) (sym q) ∙ gone-down

@@ -1,0 +1,88 @@
+-- The whole call (document 01, "Putting down a map" and "The refusal slip"): answer and state for every input. Refusals 1 to 9 in their order; a refusal leaves
+-- the state as it was. Assumes nothing.
+use mathlib.Core.Path.{_≡_, sym, ap}
+use mathlib.Core.Bool.{true, false, cond}
+use Prim.Native.Nat.{ℕ, _-_, _≤_, _<_}
+use lib.Dec.{ltb}
+use borrow.Author.Tests.{lt-ltb, le-ltb}
+use Rattle.pool.specs.State.{St}
+use Rattle.pool.specs.Number.{used, free}
+use Rattle.pool.specs.Refuse.{shaped, Out, out}
+use Rattle.pool.specs.Sound.{soundb}
+use Rattle.pool.specs.declared.Handle.{Handle}
+use Rattle.pool.specs.declared.Refusal.{Refusal}
+use Rattle.pool.specs.declared.Refusal.the-variants.{Shape, Unsound, WantOfRoom}
+use Rattle.pool.specs.declared.Outcome.{Outcome}
+use Rattle.pool.specs.declared.Outcome.the-variants.{Accepted, Refused}
+use Rattle.pool.specs.declared.Counted.{Counted}
+use Rattle.pool.specs.declared.Counted.the-variants as counted
+use Rattle.map_rules.specs.declared.Map.{Map}
+use Rattle.map_put.specs.Put.{mapRange}
+use Rattle.map_count_spec.specs.Needed.{needed}
+use Rattle.map_verify.specs.Ask.{asked, verifyMap}
+
+-- a refusal leaves the state as it was
+abbrev pub refused : Refusal → St → Out Counted
+refused r s = out (counted.Refused r) s
+
+-- the map is put down in the root; "tables in use afterwards, counted off the ledger"
+unfoldable pub putDown : Handle → Map → St → Out Counted
+putDown h m s = let t = mapRange (3 - h .level) h 0 m s in out (counted.Tables (used (t .ledger))) t
+
+-- refusals 8, 9
+unfoldable pub mapSound : Handle → Map → St → Out Counted
+mapSound h m s =
+    let need = needed (3 - h .level) h s 0 m in
+    let room = free (s .ledger) in
+    cond (soundb h s) (cond (ltb room need) (refused (WantOfRoom need room) s) (putDown h m s)) (refused Unsound s)
+
+unfoldable pub orElse : Outcome → Out Counted → St → Out Counted
+orElse Accepted next s = next
+orElse (Refused r) next s = refused r s
+
+-- refusal 1, refusals 2 to 7, then the rest
+unfoldable pub mapCall : Handle → ℕ → ℕ → ℕ → ℕ → ℕ → St → Out Counted
+mapCall h start end frame flags constraints s =
+    let m = asked start end frame flags constraints in
+    cond (shaped h s) (orElse (verifyMap h end m) (mapSound h m s) s) (refused Shape s)
+
+-- ---- laws: one for each way through the code
+
+module _ (h : Handle) (m : Map) (s : St) where
+  pub sound-not : soundb h s ≡ false → refused Unsound s ≡ mapSound h m s
+  unfolding mapSound
+  sound-not e = rw e
+
+  module _ (sound : soundb h s ≡ true) {need room : ℕ} (counts : need ≡ needed (3 - h .level) h s 0 m) (left : room ≡ free (s .ledger)) where
+    pub sound-full : room < need → refused (WantOfRoom need room) s ≡ mapSound h m s
+    unfolding mapSound
+    sound-full l = rw (sound, sym counts, sym left, lt-ltb room need l)
+
+    pub sound-mapped : need ≤ room → putDown h m s ≡ mapSound h m s
+    unfolding mapSound
+    sound-mapped l = rw (sound, sym counts, sym left, le-ltb room need l)
+
+  pub put-down : {t : St} {count : ℕ} → t ≡ mapRange (3 - h .level) h 0 m s → count ≡ used (t .ledger) → out (counted.Tables count) t ≡ putDown h m s
+  unfolding putDown
+  put-down {t} e q = rw q (ap (λ (x : St). out (counted.Tables (used (x .ledger))) x) e)
+
+module _ (h : Handle) (start end frame flags constraints : ℕ) (s : St) where
+  abbrev m : Map
+  m = asked start end frame flags constraints
+
+  pub call-misshaped : shaped h s ≡ false → refused Shape s ≡ mapCall h start end frame flags constraints s
+  unfolding mapCall
+  call-misshaped e = rw e
+
+  module _ (shape : shaped h s ≡ true) {x : Outcome} (is : x ≡ verifyMap h end m) where
+    by-asked : (y : Outcome) → x ≡ y → orElse y (mapSound h m s) s ≡ mapCall h start end frame flags constraints s
+    unfolding mapCall
+    by-asked y e = rw (shape, sym is, e)
+
+    pub call-refused : (r : Refusal) → x ≡ Refused r → refused r s ≡ mapCall h start end frame flags constraints s
+    unfolding orElse
+    call-refused r e = by-asked (Refused r) e
+
+    pub call-asked : x ≡ Accepted → mapSound h m s ≡ mapCall h start end frame flags constraints s
+    unfolding orElse
+    call-asked e = by-asked Accepted e

@@ -1,0 +1,177 @@
+-- `edit_own`: each way through the code by its law. Assumes nothing.
+use mathlib.Core.Path.{_≡_, refl, sym, ap, _∙_}
+use Prim.Native.Nat.{ℕ, _+_, _*_, _-_, _≤_, _<_}
+use native.Mathlib.Omega.{arith}
+use lib.ListN.{length, length-set}
+use Rattle.address_slot.specs.Slot.{entryIndex}
+use Rattle.region.specs.Region.{region}
+use Rattle.region.specs.Chunks.{chunk-fits}
+use Rattle.modify_entry.specs.Each.{eachChunk, each-done, each-step}
+use Rattle.modify_entry.specs.Own.{noted, ownChunk, own-same, own-changed, own-all}
+use Rattle.modify_entry.proofs.edit_own.Statement.{statement}
+use Rattle.modify_entry.proofs.edit_own.Tie as tie
+use Rattle.modify_entry.proofs.edit_own.Reads as reads
+use Rattle.modify_entry.proofs.edit_own.Lts as lts
+use Rattle.address.proofs.tlbi_address.Reads as tlbi-address-reads
+use Rattle.modify_entry.proofs.edit_word.Reads as edit-word-reads
+use Rattle.modify_entry.proofs.put_number.Reads as put-number-reads
+use Rattle.address_slot.proofs.chunk_end.Reads as chunk-end-reads
+use Rattle.address_slot.proofs.entry_index.Reads as entry-index-reads
+
+abbrev Inv-loop : tie.InvT-loop
+Inv-loop words₀ k level edit list₀ before end at₀ count₀ words list at count =
+    (length words ≡ length words₀) × (length list ≡ length list₀)
+    × (eachChunk level (ownChunk level k edit) (region at (edit .region .end .0)) (noted words list count) ≡ eachChunk level (ownChunk level k edit) (edit .region) (noted words₀ list₀ before))
+
+abbrev μ-loop : tie.MeasureT-loop
+μ-loop words₀ k level edit list₀ before end at₀ count₀ words list at count = edit .region .end .0 - at
+
+-- a chunk, once its end and its slot are known
+abbrev Place : Type 0
+Place = tie.After-tlbi-address Inv-loop μ-loop
+
+record Facts (c : Place) : Type 0 where
+  above : c .before .before .before .before .loop .at < c .before .before .chunk-end .result
+  under : c .before .before .chunk-end .result ≤ c .before .before .before .before .before .before .before .args .edit .region .end .0
+  slot : c .before .entry-index .result < 512
+  index : c .before .entry-index .result ≡ entryIndex (c .before .before .before .before .before .before .before .args .level) (c .before .before .before .before .loop .at)
+  room : 512 * c .before .before .before .before .before .before .before .args .k + 512 ≤ length (c .before .before .before .before .loop .words)
+  next : let a = c .before .before .before .before .before .before .before .args in let f = ownChunk (a .level) (a .k) (a .edit) in
+      eachChunk (a .level) f (region (c .before .before .chunk-end .result) (a .edit .region .end .0)) (f (region (c .before .before .before .before .loop .at) (c .before .before .chunk-end .result)) (noted (c .before .before .before .before .loop .words) (c .before .before .before .before .loop .list) (c .before .before .before .before .loop .count)))
+      ≡ eachChunk (a .level) f (a .edit .region) (noted (a .words .now) (a .list .now) (a .before))
+
+facts : (c : Place) → Facts c
+unfolding entryIndex
+facts c =
+    let start = c .before .before .before .before .before .before .before in
+    let a = start .args in
+    let at = c .before .before .before .before in
+    let inv = at .loop .inv in
+    let low = c .before .before .before .loop-test .taken in
+    let stop = c .before .before .chunk-end .ensures in
+    let fits = chunk-fits (a .level) (at .loop .at) (a .edit .region .end .0) low in
+    let f = ownChunk (a .level) (a .k) (a .edit) in
+    let n = noted (at .loop .words) (at .loop .list) (at .loop .count) in
+    record {
+      above = omega (arith, fits .0);
+      under = omega (arith, fits .1);
+      slot = omega (arith, c .before .entry-index .ensures);
+      index = c .before .entry-index .ensures;
+      room = omega (arith, inv .0, start .pre);
+      next =
+          ap (λ (x : ℕ). eachChunk (a .level) f (region x (a .edit .region .end .0)) (f (region (at .loop .at) x) n)) stop
+          ∙ sym (each-step (a .level) f (at .loop .at) (a .edit .region .end .0) n low) ∙ inv .2;
+    }
+
+loop-holds : tie.Need-loop-holds Inv-loop μ-loop
+loop-holds c = (refl, refl, refl)
+
+chunk-end-requires : tie.Need-chunk-end-requires Inv-loop μ-loop
+chunk-end-requires c κs = tt
+
+entry-index-requires : tie.Need-entry-index-requires Inv-loop μ-loop
+entry-index-requires c κs = tt
+
+tlbi-address-requires : tie.Need-tlbi-address-requires Inv-loop μ-loop
+tlbi-address-requires c κs = tt
+
+mul-word : tie.Need-mul-word Inv-loop μ-loop
+mul-word c = let f = facts c in omega (arith, f .slot, f .room)
+
+add-word : tie.Need-add-word Inv-loop μ-loop
+add-word c = let f = facts c in omega (arith, f .slot, f .room)
+
+mul-word-2 : tie.Need-mul-word-2 Inv-loop μ-loop
+mul-word-2 c = let f = facts c in omega (arith, f .slot, f .room)
+
+slice-read-word : tie.Need-slice-read-word Inv-loop μ-loop
+slice-read-word c = let f = facts (c .before) in omega (arith, f .slot, f .room)
+
+edit-word-requires : tie.Need-edit-word-requires Inv-loop μ-loop
+edit-word-requires c κs = tt
+
+loop-less : tie.Need-loop-less Inv-loop μ-loop
+loop-less c = let f = facts (c .before .before .before) in omega (arith, f .above, f .under)
+
+loop-again : tie.Need-loop-again Inv-loop μ-loop
+loop-again c =
+    let place = c .before .before .before in
+    let f = facts place in
+    let at = c .before .before .before .before .before .before .before in
+    let a = c .before .before .before .before .before .before .before .before .before .before .args in
+    let n = noted (at .loop .words) (at .loop .list) (at .loop .count) in
+    let same = own-same (a .level) (a .k) (a .edit) (region (at .loop .at) (place .before .before .chunk-end .result)) n (f .index) (c .before .edit-word .ensures) (c .if1 .taken) in
+    (at .loop .inv .0, at .loop .inv .1, ap (eachChunk (a .level) (ownChunk (a .level) (a .k) (a .edit)) (region (place .before .before .chunk-end .result) (a .edit .region .end .0))) same ∙ f .next)
+
+mul-words : tie.Need-mul-words Inv-loop μ-loop
+mul-words c = let f = facts (c .before .before .before) in omega (arith, f .slot, f .room)
+
+add-words : tie.Need-add-words Inv-loop μ-loop
+add-words c = let f = facts (c .before .before .before) in omega (arith, f .slot, f .room)
+
+mul-words-2 : tie.Need-mul-words-2 Inv-loop μ-loop
+mul-words-2 c = let f = facts (c .before .before .before) in omega (arith, f .slot, f .room)
+
+slice-write-words : tie.Need-slice-write-words Inv-loop μ-loop
+slice-write-words c = let f = facts (c .before .before .before) in omega (arith, f .slot, f .room)
+
+put-number-requires : tie.Need-put-number-requires Inv-loop μ-loop
+put-number-requires c κs = tt
+
+loop-less-2 : tie.Need-loop-less-2 Inv-loop μ-loop
+loop-less-2 c = let f = facts (c .before .before .before .before .before .before .before) in omega (arith, f .above, f .under)
+
+loop-again-2 : tie.Need-loop-again-2 Inv-loop μ-loop
+loop-again-2 c =
+    let place = c .before .before .before .before .before .before .before in
+    let f = facts place in
+    let at = c .before .before .before .before .before .before .before .before .before .before .before in
+    let a = c .before .before .before .before .before .before .before .before .before .before .before .before .before .before .args in
+    let n = noted (at .loop .words) (at .loop .list) (at .loop .count) in
+    let changed = own-changed (a .level) (a .k) (a .edit) (region (at .loop .at) (place .before .before .chunk-end .result)) n (f .index) (c .before .before .before .before .before .edit-word .ensures) (c .before .before .before .before .if1 .left) (place .tlbi-address .ensures) (c .before .before .put-number .ensures) in (
+      length-set (at .loop .words) _ _ ∙ at .loop .inv .0,
+      c .before .before .put-number .kept .1 .0 ∙ at .loop .inv .1,
+      ap (eachChunk (a .level) (ownChunk (a .level) (a .k) (a .edit)) (region (place .before .before .chunk-end .result) (a .edit .region .end .0))) changed ∙ f .next,
+    )
+
+same-length : tie.Need-same-length Inv-loop μ-loop
+same-length c = c .before .loop .inv .0
+
+same-length-2 : tie.Need-same-length-2 Inv-loop μ-loop
+same-length-2 c = c .before .loop .inv .1
+
+returns : tie.Need-returns Inv-loop μ-loop
+returns c =
+    let at = c .before in
+    let a = c .before .before .before .before .args in
+    sym (each-done (a .level) (ownChunk (a .level) (a .k) (a .edit)) (at .loop .at) (a .edit .region .end .0) (noted (at .loop .words) (at .loop .list) (at .loop .count)) (omega arith))
+    ∙ at .loop .inv .2
+    ∙ own-all (a .level) (a .k) (a .edit) (noted (a .words .now) (a .list .now) (a .before))
+
+pub edit-own-spec : {M : Type 1} → statement M
+edit-own-spec =
+    tie.close
+    (tie.spec
+    Inv-loop
+    μ-loop
+    loop-holds
+    chunk-end-requires
+    entry-index-requires
+    tlbi-address-requires
+    mul-word
+    add-word
+    mul-word-2
+    slice-read-word
+    edit-word-requires
+    loop-less
+    loop-again
+    mul-words
+    add-words
+    mul-words-2
+    slice-write-words
+    put-number-requires
+    loop-less-2
+    loop-again-2
+    same-length
+    same-length-2
+    returns)

@@ -1,0 +1,277 @@
+-- `modify_range`: each way through the code by its law. Assumes nothing.
+use mathlib.Core.Path.{_≡_, refl, sym, ap, _∙_}
+use Prim.Native.Nat.{_+_, _-_, _≤_}
+use native.Mathlib.Omega.{arith}
+use lib.ListN.{length}
+use Rattle.address_slot.specs.Slot.{entryIndex}
+use Rattle.region.specs.Region.{region}
+use Rattle.region.specs.Chunks.{chunk-fits}
+use Rattle.pool.specs.State.{st, wordAt}
+use Rattle.pool.specs.Refuse.{Shaped, shaped-keep}
+use Rattle.map_split.specs.Split.{below-inside}
+use Rattle.modify_entry.specs.declared.Edit.{Edit}
+use Rattle.modify_entry.specs.Each.{eachChunk, each-done, each-step}
+use Rattle.modify_range.specs.Range.{Work, work, own, ownWork, modifyRange, stepAt, own-done, modify-pages, modify-open, step-own, step-none, step-into}
+use Prim.Native.Nat.{ℕ, _<_}
+use borrow.Fn.Kinds.{In}
+use borrow.Fn.PlainCycle.{Measures, is, falls, and}
+use Rattle.modify_range.proofs.modify_range.Reads as modify-range
+use Rattle.modify_range.proofs.modify_range.Kinds as modify-range-kinds
+use Rattle.modify_range.proofs.+modify_range.Lts-modify_range as modify-range-lts
+use Rattle.modify_entry.proofs.chunk_edit.Reads as chunk-edit-reads
+use Rattle.modify_entry.proofs.edit_own.Reads as edit-own-reads
+use Rattle.modify_range.proofs.is_own.Reads as is-own-reads
+use Rattle.address_slot.proofs.chunk_end.Reads as chunk-end-reads
+use Rattle.address_slot.proofs.entry_index.Reads as entry-index-reads
+use Rattle.map_split.proofs.descend.Reads as descend-reads
+use Rattle.modify_range.proofs.+modify_range.{statement}
+use Rattle.modify_range.proofs.+modify_range.Tie.{close}
+
+abbrev μ-modify-range : Measures 3 modify-range-kinds.ps ℕ
+μ-modify-range κs a = 3 - a .1 .1 .1 .1 .0
+
+abbrev modify-range-at : ℕ → In 3 modify-range-kinds.ps
+modify-range-at t =
+    and 3 modify-range-kinds.ps (is 3 modify-range-kinds.ps μ-modify-range t) modify-range.Pre
+
+abbrev modify-range-below : ℕ → In 3 modify-range-kinds.ps
+modify-range-below t =
+    and
+    3
+    modify-range-kinds.ps
+    (falls 3 modify-range-kinds.ps _<_ μ-modify-range t)
+    modify-range.Pre
+
+abbrev calls : ℕ → modify-range-lts.Claims
+calls t = (edit-own-reads.Asked, edit-own-reads.Learnt, chunk-end-reads.Asked, chunk-end-reads.Learnt, entry-index-reads.Asked, entry-index-reads.Learnt, chunk-edit-reads.Asked, chunk-edit-reads.Learnt, is-own-reads.Asked, is-own-reads.Learnt, descend-reads.Asked, descend-reads.Learnt, modify-range-below t, modify-range.Post)
+
+abbrev modify-range-Inv-loop : modify-range-lts.InvT-loop
+modify-range-Inv-loop words₀ ledger₀ handle k level edit list₀ before end at₀ count₀ words ledger list at count =
+    (length words ≡ length words₀) × (length ledger ≡ length ledger₀) × (length list ≡ length list₀)
+    × (eachChunk level (stepAt level handle k edit) (region at (edit .region .end .0)) (work (st words ledger) list count)
+    ≡ eachChunk level (stepAt level handle k edit) (edit .region) (work (st words₀ ledger₀) list₀ before))
+
+abbrev modify-range-μ-loop : modify-range-lts.MeasureT-loop
+modify-range-μ-loop words₀ ledger₀ handle k level edit list₀ before end at₀ count₀ words ledger list at count = edit .region .end .0 - at
+
+-- a chunk, once its end and its slot are known
+abbrev Place : ℕ → Type 0
+Place t = modify-range-lts.After-entry-index (calls t) (modify-range-at t) modify-range.Post modify-range-Inv-loop modify-range-μ-loop
+
+-- the pool and the list before the chunk
+abbrev workOf : (t : ℕ) → Place t → Work
+workOf t c = work (st (c .before .before .before .loop .words) (c .before .before .before .loop .ledger)) (c .before .before .before .loop .list) (c .before .before .before .loop .count)
+
+record Facts (t : ℕ) (c : Place t) : Type 0 where
+  high : c .before .before .before .before .before .before .before .before .args .level < 3
+  above : c .before .before .before .loop .at < c .before .chunk-end .result
+  under : c .before .chunk-end .result ≤ c .before .before .before .before .before .before .before .before .args .edit .region .end .0
+  slot : c .entry-index .result < 512
+  index : c .entry-index .result ≡ entryIndex (c .before .before .before .before .before .before .before .before .args .level) (c .before .before .before .loop .at)
+  shape : Shaped (c .before .before .before .before .before .before .before .before .args .handle) (st (c .before .before .before .loop .words) (c .before .before .before .loop .ledger))
+  table : c .before .before .before .before .before .before .before .before .args .k < length (c .before .before .before .loop .ledger)
+  next : let a = c .before .before .before .before .before .before .before .before .args in let f = stepAt (a .level) (a .handle) (a .k) (a .edit) in
+      eachChunk (a .level) f (region (c .before .chunk-end .result) (a .edit .region .end .0)) (f (region (c .before .before .before .loop .at) (c .before .chunk-end .result)) (workOf t c))
+      ≡ eachChunk (a .level) f (a .edit .region) (work (st (a .words .now) (a .ledger .now)) (a .list .now) (a .before))
+
+facts : (t : ℕ) (c : Place t) → Facts t c
+unfolding entryIndex
+facts t c =
+    let start = c .before .before .before .before .before .before .before .before in
+    let a = start .args in
+    let p = start .pre .1 in
+    let at = c .before .before .before in
+    let inv = at .loop .inv in
+    let low = c .before .before .loop-test .taken in
+    let stop = c .before .chunk-end .ensures in
+    let fits = chunk-fits (a .level) (at .loop .at) (a .edit .region .end .0) low in
+    let f = stepAt (a .level) (a .handle) (a .k) (a .edit) in
+    record {
+      high = omega arith;
+      above = omega (arith, fits .0);
+      under = omega (arith, fits .1);
+      slot = omega (arith, c .entry-index .ensures);
+      index = c .entry-index .ensures;
+      shape = shaped-keep (a .handle) (st (a .words .now) (a .ledger .now)) (st (at .loop .words) (at .loop .ledger)) (p .0) (inv .0) (inv .1);
+      table = omega (arith, p .1, inv .1);
+      next =
+          ap (λ (x : ℕ). eachChunk (a .level) f (region x (a .edit .region .end .0)) (f (region (at .loop .at) x) (workOf t c))) stop
+          ∙ sym (each-step (a .level) f (at .loop .at) (a .edit .region .end .0) (workOf t c) low) ∙ inv .3;
+    }
+
+-- what is left to do after the chunk, where the step is known
+onwards : (t : ℕ) (c : Place t) (w : Work) → let a = c .before .before .before .before .before .before .before .before .args in let f = stepAt (a .level) (a .handle) (a .k) (a .edit) in
+    w ≡ f (region (c .before .before .before .loop .at) (c .before .chunk-end .result)) (workOf t c)
+    → eachChunk (a .level) f (region (c .before .chunk-end .result) (a .edit .region .end .0)) w ≡ eachChunk (a .level) f (a .edit .region) (work (st (a .words .now) (a .ledger .now)) (a .list .now) (a .before))
+onwards t c w e =
+    let a = c .before .before .before .before .before .before .before .before .args in
+    ap (eachChunk (a .level) (stepAt (a .level) (a .handle) (a .k) (a .edit)) (region (c .before .chunk-end .result) (a .edit .region .end .0))) e ∙ facts t c .next
+
+-- whether the chunk's entry is the table's own, asked of the region itself
+is-own : (t : ℕ) (c : modify-range-lts.After-is-own (calls t) (modify-range-at t) modify-range.Post modify-range-Inv-loop modify-range-μ-loop) → let place = c .before .before .before in let a = c .before .before .before .before .before .before .before .before .before .before .before .args in
+    own (a .level) (region (place .before .before .before .loop .at) (place .before .chunk-end .result)) (wordAt (workOf t place .state) (a .k) (place .entry-index .result)) ≡ c .is-own .result
+is-own t c =
+    let place = c .before .before .before in
+    let a = c .before .before .before .before .before .before .before .before .before .before .before .args in
+    sym (c .is-own .ensures ∙ ap (λ (e : Edit). own (a .level) (e .region) (wordAt (workOf t place .state) (a .k) (place .entry-index .result))) (c .before .before .chunk-edit .ensures))
+
+modify-range-edit-own-requires : (t : ℕ) → modify-range-lts.Need-edit-own-requires (calls t) (modify-range-at t) modify-range.Post modify-range-Inv-loop modify-range-μ-loop
+modify-range-edit-own-requires t c κs = let p = c .before .before .before .before .before .before .pre .1 in omega (arith, p .0 .sized, p .1)
+
+modify-range-same-length : (t : ℕ) → modify-range-lts.Need-same-length (calls t) (modify-range-at t) modify-range.Post modify-range-Inv-loop modify-range-μ-loop
+modify-range-same-length t c = c .before .before .before .before .edit-own .kept .0
+
+modify-range-same-length-2 : (t : ℕ) → modify-range-lts.Need-same-length-2 (calls t) (modify-range-at t) modify-range.Post modify-range-Inv-loop modify-range-μ-loop
+modify-range-same-length-2 t c = c .before .before .before .before .edit-own .kept .1 .1 .1 .1 .0
+
+modify-range-returns : (t : ℕ) → modify-range-lts.Need-returns (calls t) (modify-range-at t) modify-range.Post modify-range-Inv-loop modify-range-μ-loop
+modify-range-returns t c =
+    let a = c .before .before .before .before .before .before .before .before .before .before .before .args in
+    let w = work (st (a .words .now) (a .ledger .now)) (a .list .now) (a .before) in
+    own-done (a .level) (a .k) (a .edit) w (c .before .before .before .before .edit-own .ensures) ∙ modify-pages (a .level) (a .handle) (a .k) (a .edit) w (c .before .before .before .before .before .before .before .before .before .before .before .pre .1 .2) (c .before .before .before .before .before .before .before .if1 .taken)
+
+modify-range-loop-holds : (t : ℕ) → modify-range-lts.Need-loop-holds (calls t) (modify-range-at t) modify-range.Post modify-range-Inv-loop modify-range-μ-loop
+modify-range-loop-holds t c = (refl, refl, refl, refl)
+
+modify-range-chunk-end-requires : (t : ℕ) → modify-range-lts.Need-chunk-end-requires (calls t) (modify-range-at t) modify-range.Post modify-range-Inv-loop modify-range-μ-loop
+modify-range-chunk-end-requires t c κs = tt
+
+modify-range-entry-index-requires : (t : ℕ) → modify-range-lts.Need-entry-index-requires (calls t) (modify-range-at t) modify-range.Post modify-range-Inv-loop modify-range-μ-loop
+modify-range-entry-index-requires t c κs = tt
+
+modify-range-chunk-edit-requires : (t : ℕ) → modify-range-lts.Need-chunk-edit-requires (calls t) (modify-range-at t) modify-range.Post modify-range-Inv-loop modify-range-μ-loop
+modify-range-chunk-edit-requires t c κs = tt
+
+modify-range-mul-is-own : (t : ℕ) → modify-range-lts.Need-mul-is-own (calls t) (modify-range-at t) modify-range.Post modify-range-Inv-loop modify-range-μ-loop
+modify-range-mul-is-own t c = let f = facts t (c .before) in omega (arith, f .slot, f .table, f .shape .sized)
+
+modify-range-add-is-own : (t : ℕ) → modify-range-lts.Need-add-is-own (calls t) (modify-range-at t) modify-range.Post modify-range-Inv-loop modify-range-μ-loop
+modify-range-add-is-own t c = let f = facts t (c .before) in omega (arith, f .slot, f .table, f .shape .sized)
+
+modify-range-mul-is-own-2 : (t : ℕ) → modify-range-lts.Need-mul-is-own-2 (calls t) (modify-range-at t) modify-range.Post modify-range-Inv-loop modify-range-μ-loop
+modify-range-mul-is-own-2 t c = let f = facts t (c .before) in omega (arith, f .slot, f .table, f .shape .sized)
+
+modify-range-slice-read-is-own : (t : ℕ) → modify-range-lts.Need-slice-read-is-own (calls t) (modify-range-at t) modify-range.Post modify-range-Inv-loop modify-range-μ-loop
+modify-range-slice-read-is-own t c = let f = facts t (c .before .before) in omega (arith, f .slot, f .table, f .shape .sized)
+
+modify-range-is-own-requires : (t : ℕ) → modify-range-lts.Need-is-own-requires (calls t) (modify-range-at t) modify-range.Post modify-range-Inv-loop modify-range-μ-loop
+modify-range-is-own-requires t c κs = tt
+
+modify-range-loop-less : (t : ℕ) → modify-range-lts.Need-loop-less (calls t) (modify-range-at t) modify-range.Post modify-range-Inv-loop modify-range-μ-loop
+modify-range-loop-less t c = let f = facts t (c .before .before .before .before) in omega (arith, f .above, f .under)
+
+modify-range-loop-again : (t : ℕ) → modify-range-lts.Need-loop-again (calls t) (modify-range-at t) modify-range.Post modify-range-Inv-loop modify-range-μ-loop
+modify-range-loop-again t c =
+    let at = c .before .before .before .before .before .before .before in
+    let a = c .before .before .before .before .before .before .before .before .before .before .before .before .args in
+    let f = facts t (c .before .before .before .before) in
+    (at .loop .inv .0, at .loop .inv .1, at .loop .inv .2, onwards t (c .before .before .before .before) (workOf t (c .before .before .before .before)) (step-own (a .handle) (a .level) (a .k) (a .edit) _ (workOf t (c .before .before .before .before)) (f .index) (is-own t (c .before) ∙ c .if2 .taken)))
+
+modify-range-descend-requires : (t : ℕ) → modify-range-lts.Need-descend-requires (calls t) (modify-range-at t) modify-range.Post modify-range-Inv-loop modify-range-μ-loop
+modify-range-descend-requires t c κs = let f = facts t (c .before .before .before .before .before .before) in (f .shape, f .high, f .table, f .slot)
+
+modify-range-enum-known-under : (t : ℕ) → modify-range-lts.Need-enum-known-under (calls t) (modify-range-at t) modify-range.Post modify-range-Inv-loop modify-range-μ-loop
+modify-range-enum-known-under t c = c .match .keys1
+
+modify-range-enum-told : (t : ℕ) → modify-range-lts.Need-enum-told (calls t) (modify-range-at t) modify-range.Post modify-range-Inv-loop modify-range-μ-loop
+modify-range-enum-told t c = c .match .keys2
+
+modify-range-loop-less-2 : (t : ℕ) → modify-range-lts.Need-loop-less-2 (calls t) (modify-range-at t) modify-range.Post modify-range-Inv-loop modify-range-μ-loop
+modify-range-loop-less-2 t c = let f = facts t (c .before .before .before .before .before .before .before .before .before .before .before .before .before) in omega (arith, f .above, f .under)
+
+modify-range-loop-again-2 : (t : ℕ) → modify-range-lts.Need-loop-again-2 (calls t) (modify-range-at t) modify-range.Post modify-range-Inv-loop modify-range-μ-loop
+modify-range-loop-again-2 t c =
+    let at = c .before .before .before .before .before .before .before .before .before .before .before .before .before .before .before .before in
+    let a = c .before .before .before .before .before .before .before .before .before .before .before .before .before .before .before .before .before .before .before .before .before .args in
+    let f = facts t (c .before .before .before .before .before .before .before .before .before .before .before .before .before) in
+    let step = step-none (a .handle) (a .level) (a .k) (a .edit) _ (workOf t (c .before .before .before .before .before .before .before .before .before .before .before .before .before)) (f .index) (is-own t (c .before .before .before .before .before .before .before .before .before .before) ∙ c .before .before .before .before .before .before .before .before .before .if2 .left) (c .before .before .before .before .before .before .descend .ensures) (c .enum-told .given .1) in
+    (c .before .before .before .before .before .before .descend .kept .0 ∙ at .loop .inv .0, c .before .before .before .before .before .before .descend .kept .1 .0 ∙ at .loop .inv .1, at .loop .inv .2, onwards t (c .before .before .before .before .before .before .before .before .before .before .before .before .before) _ step)
+
+modify-range-add-modify-range : (t : ℕ) → modify-range-lts.Need-add-modify-range (calls t) (modify-range-at t) modify-range.Post modify-range-Inv-loop modify-range-μ-loop
+modify-range-add-modify-range t c = omega (arith, facts t (c .before .before .before .before .before .before .before .before .before .before .before .before .before .before .before .before) .high)
+
+modify-range-modify-range-requires : (t : ℕ) → modify-range-lts.Need-modify-range-requires (calls t) (modify-range-at t) modify-range.Post modify-range-Inv-loop modify-range-μ-loop
+modify-range-modify-range-requires t c κs =
+    let place = c .before .before .before .before .before .before .before .before .before .before .before .before .before .before .before .before .before in
+    let f = facts t place in
+    let a = c .before .before .before .before .before .before .before .before .before .before .before .before .before .before .before .before .before .before .before .before .before .before .before .before .before .args in
+    let at = c .before .before .before .before .before .before .before .before .before .before .before .before .before .before .before .before .before .before .before .before in
+    let under = c .before .before .before .before .before .before .before .before .before .before in
+    let s = st (at .loop .words) (at .loop .ledger) in
+    let found = below-inside (a .handle) (a .level) (a .k) (place .entry-index .result) s _ (under .descend .ensures) (c .before .before .before .before .under .given .1) in (
+      omega (arith, f .high, c .before .before .before .before .before .before .before .before .before .before .before .before .before .before .before .before .before .before .before .before .before .before .before .before .before .pre .0),
+      (shaped-keep (a .handle) s (st (under .descend .last .0) (under .descend .last .1 .0)) (f .shape) (under .descend .kept .0) (under .descend .kept .1 .0), omega (arith, found, under .descend .kept .1 .0), omega (arith, f .high)),
+    )
+
+modify-range-loop-less-3 : (t : ℕ) → modify-range-lts.Need-loop-less-3 (calls t) (modify-range-at t) modify-range.Post modify-range-Inv-loop modify-range-μ-loop
+modify-range-loop-less-3 t c = let f = facts t (c .before .before .before .before .before .before .before .before .before .before .before .before .before .before .before .before .before .before .before .before .before .before .before .before) in omega (arith, f .above, f .under)
+
+modify-range-loop-again-3 : (t : ℕ) → modify-range-lts.Need-loop-again-3 (calls t) (modify-range-at t) modify-range.Post modify-range-Inv-loop modify-range-μ-loop
+modify-range-loop-again-3 t c =
+    let at = c .before .before .before .before .before .before .before .before .before .before .before .before .before .before .before .before .before .before .before .before .before .before .before .before .before .before .before in
+    let a = c .before .before .before .before .before .before .before .before .before .before .before .before .before .before .before .before .before .before .before .before .before .before .before .before .before .before .before .before .before .before .before .before .args in
+    let f = facts t (c .before .before .before .before .before .before .before .before .before .before .before .before .before .before .before .before .before .before .before .before .before .before .before .before) in
+    let under = c .before .before .before .before .before .before .before .before .before .before .before .before .before .before .before .before .before in
+    let rec = c .before .before .before .before .before .before .modify-range in
+    let j = c .before .before .before .before .before .before .before .before .before .before .before .under .given .0 .0 in
+    let lent = work (st (under .descend .last .0) (under .descend .last .1 .0)) (at .loop .list) (at .loop .count) in
+    let part = ap (λ (e : Edit). modifyRange (3 - (a .level + 1)) (a .handle) j e lent) (c .before .before .before .before .before .before .before .before .before .before .before .before .before .before .before .before .before .before .before .before .before .before .before .chunk-edit .ensures) in
+    let step = rec .ensures ∙ part ∙ step-into (a .handle) (a .level) (a .k) (a .edit) _ (workOf t (c .before .before .before .before .before .before .before .before .before .before .before .before .before .before .before .before .before .before .before .before .before .before .before .before)) (f .index) (is-own t (c .before .before .before .before .before .before .before .before .before .before .before .before .before .before .before .before .before .before .before .before .before) ∙ c .before .before .before .before .before .before .before .before .before .before .before .before .before .before .before .before .before .before .before .before .if2 .left) (under .descend .ensures) j (c .before .before .before .before .before .before .before .before .before .before .before .under .given .1) in
+    (rec .kept .0 ∙ under .descend .kept .0 ∙ at .loop .inv .0, rec .kept .1 .0 ∙ under .descend .kept .1 .0 ∙ at .loop .inv .1, rec .kept .1 .1 .1 .1 .1 .1 .0 ∙ at .loop .inv .2, onwards t (c .before .before .before .before .before .before .before .before .before .before .before .before .before .before .before .before .before .before .before .before .before .before .before .before) _ step)
+
+modify-range-edit-own-requires-2 : (t : ℕ) → modify-range-lts.Need-edit-own-requires-2 (calls t) (modify-range-at t) modify-range.Post modify-range-Inv-loop modify-range-μ-loop
+modify-range-edit-own-requires-2 t c κs = let p = c .before .before .before .before .before .before .before .before .pre .1 in omega (arith, p .0 .sized, p .1, c .before .before .before .loop .inv .0)
+
+modify-range-same-length-3 : (t : ℕ) → modify-range-lts.Need-same-length-3 (calls t) (modify-range-at t) modify-range.Post modify-range-Inv-loop modify-range-μ-loop
+modify-range-same-length-3 t c = c .before .before .before .before .edit-own2 .kept .0 ∙ c .before .before .before .before .before .before .before .before .loop .inv .0
+
+modify-range-same-length-4 : (t : ℕ) → modify-range-lts.Need-same-length-4 (calls t) (modify-range-at t) modify-range.Post modify-range-Inv-loop modify-range-μ-loop
+modify-range-same-length-4 t c = c .before .before .before .before .before .before .before .before .loop .inv .1
+
+modify-range-same-length-5 : (t : ℕ) → modify-range-lts.Need-same-length-5 (calls t) (modify-range-at t) modify-range.Post modify-range-Inv-loop modify-range-μ-loop
+modify-range-same-length-5 t c = c .before .before .before .before .edit-own2 .kept .1 .1 .1 .1 .0 ∙ c .before .before .before .before .before .before .before .before .loop .inv .2
+
+modify-range-returns-2 : (t : ℕ) → modify-range-lts.Need-returns-2 (calls t) (modify-range-at t) modify-range.Post modify-range-Inv-loop modify-range-μ-loop
+modify-range-returns-2 t c =
+    let at = c .before .before .before .before .before .before .before .before in
+    let a = c .before .before .before .before .before .before .before .before .before .before .before .before .before .args in
+    let w = work (st (at .loop .words) (at .loop .ledger)) (at .loop .list) (at .loop .count) in
+    own-done (a .level) (a .k) (a .edit) w (c .before .before .before .before .edit-own2 .ensures)
+    ∙ ap (ownWork (a .level) (a .k) (a .edit)) (sym (each-done (a .level) (stepAt (a .level) (a .handle) (a .k) (a .edit)) (at .loop .at) (a .edit .region .end .0) w (omega arith)) ∙ at .loop .inv .3)
+    ∙ modify-open (a .level) (a .handle) (a .k) (a .edit) (work (st (a .words .now) (a .ledger .now)) (a .list .now) (a .before)) (omega arith)
+
+pub +modify-range-spec : {M : Type 1} → statement M
++modify-range-spec = close μ-modify-range λ t. modify-range-lts.spec (calls t)
+    (modify-range-at t)
+    modify-range.Post
+    modify-range-Inv-loop
+    modify-range-μ-loop
+    (modify-range-edit-own-requires t)
+    (modify-range-same-length t)
+    (modify-range-same-length-2 t)
+    (modify-range-returns t)
+    (modify-range-loop-holds t)
+    (modify-range-chunk-end-requires t)
+    (modify-range-entry-index-requires t)
+    (modify-range-chunk-edit-requires t)
+    (modify-range-mul-is-own t)
+    (modify-range-add-is-own t)
+    (modify-range-mul-is-own-2 t)
+    (modify-range-slice-read-is-own t)
+    (modify-range-is-own-requires t)
+    (modify-range-loop-less t)
+    (modify-range-loop-again t)
+    (modify-range-descend-requires t)
+    (modify-range-enum-known-under t)
+    (modify-range-enum-told t)
+    (modify-range-loop-less-2 t)
+    (modify-range-loop-again-2 t)
+    (modify-range-add-modify-range t)
+    (modify-range-modify-range-requires t)
+    (modify-range-loop-less-3 t)
+    (modify-range-loop-again-3 t)
+    (modify-range-edit-own-requires-2 t)
+    (modify-range-same-length-3 t)
+    (modify-range-same-length-4 t)
+    (modify-range-same-length-5 t)
+    (modify-range-returns-2 t)

@@ -1,0 +1,36 @@
+// A stored list of calls with their answers: its lines by kind, and the tallies of what agrees.
+// Leans on text_script for a line, on text_forms for a name, on text_access for what another hand writes. No function needs anything of its caller.
+mod call;
+mod hand;
+pub mod kind;
+mod numbers;
+mod tally;
+
+pub use call::Call;
+pub use call::call_of;
+pub use call::none;
+pub use hand::put_number;
+pub use hand::put_word;
+pub use numbers::UNWRITTEN;
+pub use tally::close;
+pub use tally::compare;
+use text_script::Line;
+
+// What no call answers: none was made.
+pub const NO_CALL: u64 = 99;
+
+// The kind of the next line of the input. Its numbers go over zeroes.
+pub fn next(line: &mut [u64; 13]) -> usize {
+    let mut text = [0u8; 256];
+    let Line::Length(length) = text_script::read_line(&mut text) else {
+        return kind::END;
+    };
+    let kind = kind::kind_of(text[0]);
+    if kind == kind::COMMENT {
+        return kind;
+    }
+    if numbers::numbers_of(&text, length, kind::asked(kind), line) != numbers::END {
+        return kind::NO_LINE;
+    }
+    kind
+}

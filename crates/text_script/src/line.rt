@@ -1,0 +1,36 @@
+// Reading a line from standard input, a byte at a time, so that a typed line is answered at once.
+
+// A line: how long it is, counted past the buffer's end too.
+pub enum Line {
+    Length(usize),
+    End,
+}
+
+// The length at which a line is taken as ended, whatever follows.
+const LONGEST: usize = 0x1_0000_0000;
+
+// The next line, without its end; a carriage return is passed over.
+pub fn read_line(text: &mut [u8; 256]) -> Line {
+    let mut one = [0u8; 1];
+    let mut length = 0;
+    let mut passed = 0;
+    while passed < LONGEST {
+        passed += 1;
+        if libc::read(0, &mut one) <= 0 {
+            if length == 0 {
+                return Line::End;
+            }
+            return Line::Length(length);
+        }
+        let byte = one[0];
+        if byte == b'\n' {
+            return Line::Length(length);
+        }
+        if byte == b'\r' {
+            continue;
+        }
+        text_access::put_byte(text, length, byte);
+        length += 1;
+    }
+    Line::Length(length)
+}

@@ -1,0 +1,92 @@
+// What a line asks: a command of a usage table, with its values.
+// The table has a line for each command: its name, then a word for each value; what may be left out stands in brackets.
+use crate::values::values_of;
+use text_words::MOST;
+use text_words::NOWHERE;
+use text_words::Word;
+use text_words::count_words;
+use text_words::line_of;
+use text_words::next_word;
+use text_words::place_of;
+
+// What a line asks: a command by its line in the table, with so many values; or why it asks nothing, and the word.
+pub struct Ask {
+    // 0 a command, 1 too long, 2 no such command, 3 too few or too many values, 4 a number above 2^64 - 1, 5 no number,
+    // 6 a line without a word.
+    pub why: u64,
+    pub word: Word,
+    pub command: u64,
+    pub count: usize,
+}
+
+// Whether a command takes so many values.
+fn takes(usage: &[u8], command: u64, count: usize) -> bool {
+    if MOST < count {
+        return false;
+    }
+    let line = line_of(usage, command);
+    if count + 1 < count_words(usage, line, b'[') {
+        return false;
+    }
+    count < count_words(usage, line, b'#')
+}
+
+// A command with its values.
+fn valued(text: &[u8], name: Word, end: usize, usage: &[u8], values: &mut [u64; 6]) -> Ask {
+    let command = place_of(text, name, usage);
+    if command == NOWHERE {
+        return Ask {
+            why: 2,
+            word: name,
+            command,
+            count: 0,
+        };
+    }
+    let read = values_of(text, name.end, end, values);
+    let word = read.word;
+    let count = read.count;
+    if read.why != 0 {
+        return Ask {
+            why: read.why,
+            word,
+            command,
+            count,
+        };
+    }
+    if takes(usage, command, count) {
+        return Ask {
+            why: 0,
+            word: name,
+            command,
+            count,
+        };
+    }
+    Ask {
+        why: 3,
+        word: name,
+        command,
+        count,
+    }
+}
+
+// What a line asks, up to its comment; its values go over the front of `values`.
+pub fn asked(text: &[u8], length: usize, usage: &[u8], values: &mut [u64; 6]) -> Ask {
+    if text.len() < length {
+        return Ask {
+            why: 1,
+            word: Word { start: 0, end: 0 },
+            command: 0,
+            count: 0,
+        };
+    }
+    let name = next_word(text, 0, length);
+    if name.end <= name.start {
+        return Ask {
+            why: 6,
+            word: name,
+            command: 0,
+            count: 0,
+        };
+    }
+    valued(text, name, length, usage, values)
+}

@@ -1,0 +1,182 @@
+-- Compact of a table of a sound pool does on lists what it does on the table's tree. Assumes nothing.
+use mathlib.Core.Path.{_≡_, refl, sym, ap, _∙_, subst}
+use mathlib.Core.Logic.{_⊎_, inl, inr, _≢_}
+use Prim.Native.Nat.{ℕ, zero, suc, _+_, _*_, _-_, _%_, _≤_, _<_}
+use native.Mathlib.Omega.{arith}
+use lib.ListN.{length-set}
+use Rattle.laws.specs.Slot.{iter}
+use Rattle.laws.specs.Test.{byBool, eq-or}
+use Rattle.entry.specs.Sub.{sub-leaf, sub-link}
+use Rattle.pool.specs.State.{St, tables, wordAt, storeAt, used-in}
+use Rattle.pool.specs.Refuse.{Shaped, shaped-keep}
+use Rattle.pool.specs.declared.Handle.{Handle}
+use Rattle.pool_table.specs.Table.{clear}
+use Rattle.theory_forest.specs.Tree.{Tree}
+use Rattle.theory_forest.specs.Sound.{Codec, Refers, Sound}
+use Rattle.theory_forest.specs.Under.{refers-level, refers-over}
+use Rattle.theory_forest.specs.Frame.{slotTree}
+use Rattle.theory_forest.specs.Place.{below-self, over-refers}
+use Rattle.theory_forest.specs.Move.{Move, Work, Runs, work-skip, runs-zero, runs-suc, runs-work}
+use Rattle.theory_forest.specs.Compact.{squash, compactTree, compact-leaf, compact-keep, compact-drop}
+use Rattle.theory_sound.specs.Codec.{Placed, codecOf, slotWord, view, word-in, treeFrom}
+use Rattle.theory_sound.specs.Clauses.{InUse, levelAt, SoundPool}
+use Rattle.theory_sound.specs.Generic.{pool-sound, sound-pool}
+use Rattle.theory_sound.specs.Lists.{Inside, clear-tables, clear-words}
+use Rattle.theory_sound.specs.Step.{used-inside}
+use Rattle.theory_sound.specs.Store.{cleared}
+use Rattle.theory_sound.specs.FreeRun.{SameSize, size-trans}
+use Rattle.compact_spec.specs.Compact.{allZero, tableWords, releaseEmpty, compactEntry, compactTable, release-kept, release-freed, entry-table, entry-leaf}
+use Rattle.theory_compact.specs.Empty.{empty-is}
+
+-- where a run stands: at table k of a sound pool, with `left` levels below its own
+pub record Ready (h : Handle) (s : St) (left k : ℕ) : Type 0 where
+  pub shape : Shaped h s
+  pub pool : SoundPool h s
+  pub used : InUse s k
+  pub low : levelAt s k + left ≡ 3
+
+-- what one entry's step comes to, whatever is done one level down
+module _ {h : Handle} (rec : ℕ → St → St) (s : St) (left k i : ℕ) (R : Ready h s (suc left) k) (inside : i < 512) where
+  -- the slot refers to no table
+  pub entry-none : slotWord s k i % 4 ≢ 3 → s ≡ compactEntry rec h (3 - suc left) k i s
+  entry-none other = entry-leaf rec h (3 - suc left) k i s refl
+      (sym (sub-leaf (h .base .0) (tables s) (3 - suc left) (wordAt s k i) (λ table. other (ap (λ (w : ℕ). w % 4) (word-in s k i inside) ∙ table .1))))
+
+  -- it refers to table c
+  pub entry-some : (placed : Placed h) (c : ℕ) → Refers (codecOf h placed) (view s) k i c → releaseEmpty k i c (rec c s) ≡ compactEntry rec h (3 - suc left) k i s
+  entry-some placed c r = entry-table rec h (3 - suc left) k i s refl c
+      (rw (sym (word-in s k i inside) ∙ r .says)
+      (sub-link (h .base .0) (tables s) (3 - suc left) c (omega arith) (R .shape .paged) (R .shape .ended) (used-in s c (r .used))))
+
+module _ {h : Handle} (placed : Placed h) where
+  abbrev C : Codec
+  C = codecOf h placed
+
+  -- s′ is s with work done at table k, whose tree is now t
+  pub record Worked (s s′ : St) (left k : ℕ) (t : Tree) : Type 0 where
+    pub work : Work C (view s) (view s′) left k t
+    pub size : SameSize s s′
+
+  -- .. at slot i of table k
+  record Moved (s s′ : St) (left k i : ℕ) (t : Tree) : Type 0 where
+    move : Move C (view s) (view s′) left k i t
+    size : SameSize s s′
+
+  -- the pool is sound again
+  pub pool-again : {s s′ : St} → SoundPool h s → SameSize s s′ → Sound C (view s′) → SoundPool h s′
+  pool-again P size S = sound-pool placed (omega (arith, P .sized, size .same-tables, size .same-words)) S
+
+  pub shaped-again : {s s′ : St} → Shaped h s → SameSize s s′ → Shaped h s′
+  shaped-again {s} {s′} shape size = shaped-keep h s s′ shape (size .same-words) (size .same-tables)
+
+  -- what is still to be shown of a table one level down
+  abbrev Below : ℕ → Type 0
+  Below left = (s : St) (j : ℕ) → Ready h s left j → Worked s (compactTable left h j s) left j (compactTree left (treeFrom h s left j))
+
+  module _ (left : ℕ) (below : Below left) where
+    abbrev rec : ℕ → St → St
+    rec j t = compactTable left h j t
+
+    abbrev step : ℕ → ℕ → St → St
+    step k i s = compactEntry rec h (3 - suc left) k i s
+
+    abbrev squashed : Tree → Tree
+    squashed t = squash (λ u. compactTree left u) t
+
+    -- ---- one entry
+
+    module _ (s : St) (k i : ℕ) (R : Ready h s (suc left) k) (inside : i < 512) where
+      abbrev Goal : St → Type 0
+      Goal s′ = Moved s s′ (suc left) k i (squashed (slotTree C (view s) (suc left) k i))
+
+      S : Sound C (view s)
+      S = pool-sound placed (R .pool)
+
+      -- the slot refers to no table
+      entry-plain : slotWord s k i % 4 ≢ 3 → Goal (step k i s)
+      entry-plain other =
+          subst Goal (entry-none rec s left k i R inside other)
+          (record { move = compact-leaf S (λ u. compactTree left u) left (R .low) (λ table. other (table .1)); size = record { same-tables = refl; same-words = refl } })
+
+      -- it refers to table c: that is compacted, and freed if that leaves it empty
+      module _ (c : ℕ) (r : Refers C (view s) k i c) where
+        abbrev after : St
+        after = compactTable left h c s
+
+        worked : Worked s after left c (compactTree left (treeFrom h s left c))
+        worked = below s c (record { shape = R .shape; pool = R .pool; used = r .used; low = omega (arith, R .low, refers-level r) })
+
+        goes : releaseEmpty k i c after ≡ step k i s
+        goes = entry-some rec s left k i R inside placed c r
+
+        pool : SoundPool h after
+        pool = pool-again (R .pool) (worked .size) (worked .work .over .sound)
+
+        still : Refers C (view after) k i c
+        still = over-refers S (R .used) r (worked .work .over)
+
+        used : InUse after k
+        used = rw (worked .work .over .ledger k (R .used) (λ d. refers-over r (suc d))) (R .used)
+
+        at : Inside after c
+        at = used-inside pool c (still .used)
+
+        freed : SameSize after (clear c (storeAt k i 0 after))
+        freed =
+            let stored = length-set (after .words) (512 * k + i) 0 in
+            record { same-tables = clear-tables c (storeAt k i 0 after); same-words = clear-words c (storeAt k i 0 after) (omega (arith, at, stored)) ∙ stored }
+
+        entry-refers : Goal (step k i s)
+        entry-refers = byBool (allZero (tableWords after c))
+            (λ yes. subst Goal (release-freed k i c after yes ∙ goes) (record {
+              move = compact-drop S (λ u. compactTree left u) left (R .used) r (worked .work) inside (R .low) (sym (empty-is after c at) ∙ yes)
+                  (cleared placed pool k i 0 used inside still);
+              size = size-trans (worked .size) freed;
+            }))
+            (λ no. subst Goal (release-kept k i c after no ∙ goes) (record {
+              move = compact-keep S (λ u. compactTree left u) left (R .used) r (worked .work) (sym (empty-is after c at) ∙ no);
+              size = worked .size;
+            }))
+
+      entry-moves : Goal (step k i s)
+      entry-moves = go (eq-or (slotWord s k i % 4) 3)
+        where
+          go : (slotWord s k i % 4 ≡ 3) ⊎ (slotWord s k i % 4 ≢ 3) → Goal (step k i s)
+          go (inl both) = let to = S .names k i (R .used) (omega (arith, R .low), both) in entry-refers (to .0) (to .1)
+          go (inr other) = entry-plain other
+
+    -- ---- the first n entries
+
+    record Ran (s s′ : St) (k n : ℕ) : Type 0 where
+      runs : Runs C (view s) (view s′) (suc left) k n (λ i. squashed (slotTree C (view s) (suc left) k i))
+      size : SameSize s s′
+
+    ran : (s : St) (k n : ℕ) → n ≤ 512 → Ready h s (suc left) k → Ran s (iter (step k) n s) k n
+    unfolding iter
+    ran s k zero small R = record {
+      runs = runs-zero (pool-sound placed (R .pool)) (suc left) k (λ i. squashed (slotTree C (view s) (suc left) k i));
+      size = record { same-tables = refl; same-words = refl };
+    }
+    ran s k (suc n) small R =
+        let before = ran s k n (omega arith) R in
+        let own = before .runs .over .ledger k (R .used) below-self in
+        let now : Ready h (iter (step k) n s) (suc left) k = record {
+          shape = shaped-again (R .shape) (before .size);
+          pool = pool-again (R .pool) (before .size) (before .runs .over .sound);
+          used = rw own (R .used);
+          low = rw own (R .low);
+        } in
+        let next = entry-moves (iter (step k) n s) k n now (omega arith) in
+        record {
+          runs = runs-suc (pool-sound placed (R .pool)) (R .used) (R .low) (before .runs)
+              (record { at = next .move .at; tree = next .move .tree ∙ ap squashed (before .runs .high n (omega arith)) });
+          size = size-trans (before .size) (next .size);
+        }
+
+  -- COMPACT of a table: its tree is compacted
+  pub table-worked : (left : ℕ) → Below left
+  unfolding compactTable compactTree
+  table-worked zero s k R = record { work = work-skip (pool-sound placed (R .pool)) 0 k; size = record { same-tables = refl; same-words = refl } }
+  table-worked (suc left) s k R =
+      let all = ran left (table-worked left) s k 512 (omega arith) R in
+      record { work = runs-work (λ i t. squash (λ u. compactTree left u) t) (all .runs); size = all .size }

@@ -1,0 +1,94 @@
+-- A pool with no empty table but the root: so its tree says, and so its words; compact changes nothing in it. Assumes nothing.
+use mathlib.Core.Path.{_≡_, refl, sym, ap, _∙_, subst}
+use mathlib.Core.Bool.{false}
+use mathlib.Core.Logic.{_⊎_, inl, inr, _≢_}
+use Prim.Native.Nat.{ℕ, zero, suc, _-_, _%_, _<_}
+use native.Mathlib.Omega.{arith}
+use Rattle.laws.specs.Slot.{iter}
+use Rattle.laws.specs.Test.{eq-or}
+use Rattle.pool.specs.State.{St, numberAt}
+use Rattle.pool.specs.declared.Handle.{Handle}
+use Rattle.theory_forest.specs.Tree.{treeAt-node}
+use Rattle.theory_forest.specs.Sound.{State, Codec, Refers, Sound}
+use Rattle.theory_forest.specs.Under.{Under, LevelsLeft, under-zero, under-via, refers-level}
+use Rattle.theory_forest.specs.Hang.{root-not-hung}
+use Rattle.theory_forest.specs.Frame.{treeOf, slot-refers}
+use Rattle.theory_forest.specs.Compact.{emptyWords, emptyTree, empty-tree}
+use Rattle.theory_tree.specs.Compact.{Tight}
+use Rattle.theory_sound.specs.Codec.{Placed, codecOf, slotWord, view, rootTree}
+use Rattle.theory_sound.specs.Clauses.{InUse, SoundPool}
+use Rattle.theory_sound.specs.Generic.{pool-sound}
+use Rattle.theory_sound.specs.Hanging.{root-left, root-under}
+use Rattle.theory_sound.specs.Step.{used-inside}
+use Rattle.compact_spec.specs.Compact.{allZero, tableWords, releaseEmpty, compactEntry, compactTable, release-kept}
+use Rattle.theory_compact.specs.Empty.{empty-is}
+use Rattle.theory_compact.specs.Run.{Ready, entry-none, entry-some}
+
+-- ---- what the tree says of the tables under its top
+
+module _ {C : Codec} {s : State} (S : Sound C s) where
+  tight-slot : (left k i c : ℕ) → i < 512 → Refers C s k i c → Tight (suc left) (treeOf C s (suc left) k)
+      → (emptyTree (treeOf C s left c) ≡ false) × Tight left (treeOf C s left c)
+  tight-slot left k i c inside r tight =
+      rw (← slot-refers left r) (subst (Tight (suc left)) (treeAt-node (C .child) (suc left) (s .word) k) tight i inside)
+
+  tight-under : (left k : ℕ) → LevelsLeft C s k left → Tight left (treeOf C s left k) → (d j : ℕ) → Under C s k (suc d) j → emptyWords (s .word j) ≡ false
+  tight-under zero k low tight d j under = absurd (omega (arith, low, under .deep, C .level-le (s .ledger j)))
+  tight-under (suc left) k low tight d j under =
+      let via = under-via S under in
+      let r = via .refers in
+      let inside : via .slot < 512 = rw (← r .at) (C .slot-lt (s .ledger (via .top))) in
+      let at = tight-slot left k (via .slot) (via .top) inside r tight in
+      go (via .top) (via .deep) (via .under) (at .0) (λ m below. tight-under left (via .top) (omega (arith, low, refers-level r)) (at .1) m j below)
+    where
+      go : (c m : ℕ) → Under C s c m j → emptyTree (treeOf C s left c) ≡ false → ((m : ℕ) → Under C s c (suc m) j → emptyWords (s .word j) ≡ false)
+          → emptyWords (s .word j) ≡ false
+      go c zero below here deeper = ap (λ (q : ℕ). emptyWords (s .word q)) (under-zero below) ∙ sym (empty-tree (C .child) left (s .word) c) ∙ here
+      go c (suc m) below here deeper = deeper m below
+
+-- ---- no table but the root is all zero
+
+abbrev pub NoneEmpty : St → Type 0
+NoneEmpty s = (k : ℕ) → k ≢ 0 → InUse s k → allZero (tableWords s k) ≡ false
+
+pub tight-none : {h : Handle} {s : St} (placed : Placed h) → SoundPool h s → Tight (3 - h .level) (rootTree h s) → NoneEmpty s
+tight-none {h} {s} placed P tight k other used =
+    empty-is s k (used-inside P k used) ∙ go (root-under placed P used .0) (root-under placed P used .1)
+  where
+    go : (d : ℕ) → Under (codecOf h placed) (view s) 0 d k → emptyWords (slotWord s k) ≡ false
+    go zero under = absurd (other (under-zero under))
+    go (suc d) under = tight-under (pool-sound placed P) (3 - h .level) 0 (root-left placed P) tight d k under
+
+-- ---- such a pool is left as it is
+
+iter-same : (f : ℕ → St → St) (s : St) (n : ℕ) → ((i : ℕ) → i < n → f i s ≡ s) → iter f n s ≡ s
+unfolding iter
+iter-same f s zero same = refl
+iter-same f s (suc n) same = ap (f n) (iter-same f s n (λ i l. same i (omega arith))) ∙ same n (omega arith)
+
+module _ {h : Handle} (placed : Placed h) {s : St} (none : NoneEmpty s) where
+  -- one entry, where nothing is done one level down
+  entry-same : (rec : ℕ → St → St) (left k i : ℕ) → Ready h s (suc left) k → i < 512 → ((j : ℕ) → Ready h s left j → rec j s ≡ s)
+      → compactEntry rec h (3 - suc left) k i s ≡ s
+  entry-same rec left k i R inside below = go (eq-or (slotWord s k i % 4) 3)
+    where
+      S : Sound (codecOf h placed) (view s)
+      S = pool-sound placed (R .pool)
+
+      go : (slotWord s k i % 4 ≡ 3) ⊎ (slotWord s k i % 4 ≢ 3) → compactEntry rec h (3 - suc left) k i s ≡ s
+      go (inl both) =
+          let to = S .names k i (R .used) (omega (arith, R .low), both) in
+          let c = to .0 in
+          let r = to .1 in
+          let other : c ≢ 0 = λ e. root-not-hung {C = codecOf h placed} {s = view s} {k = c} (e, ap (numberAt s) e ∙ R .pool .root) (r .hung) in
+          sym (entry-some rec s left k i R inside placed c r)
+          ∙ ap (releaseEmpty k i c) (below c (record { shape = R .shape; pool = R .pool; used = r .used; low = omega (arith, R .low, refers-level r) }))
+          ∙ sym (release-kept k i c s (none c other (r .used)))
+      go (inr other) = sym (entry-none rec s left k i R inside other)
+
+  pub table-same : (left k : ℕ) → Ready h s left k → compactTable left h k s ≡ s
+  unfolding compactTable
+  table-same zero k R = refl
+  table-same (suc left) k R =
+      iter-same (compactEntry (λ j t. compactTable left h j t) h (3 - suc left) k) s 512
+      (λ i l. entry-same (λ j t. compactTable left h j t) left k i R l (λ j low. table-same left j low))

@@ -1,0 +1,163 @@
+-- What refusals 2 to 7 leave of a map: flags from the set, whole pages inside the root's span, frames below 2^48. Assumes nothing.
+use mathlib.Core.Path.{_≡_, refl, sym, ap, _∙_}
+use mathlib.Core.Bool.{Bool, true, false, cond, _&&_, _||_}
+use mathlib.Core.Logic.{_⊎_, inl, inr}
+use Prim.Native.Nat.{ℕ, suc, _+_, _*_, _-_, _/_, _%_, _^_, _≤_, _<_}
+use native.Mathlib.Omega.{arith}
+use lib.Bits.{bitAnd, and-le-r}
+use lib.Dec.{eqb, eqb→eq, leb, ltb, lit<}
+use borrow.Author.Tests.{ltb-true}
+use Rattle.laws.specs.Bit.{Sub}
+use Rattle.laws.specs.Size.{sizeAt, size-high, up, down-paged}
+use Rattle.laws.specs.Test.{byBool, le-or}
+use Rattle.address.specs.Address.{alignUp}
+use Rattle.entry.specs.Word.{only}
+use Rattle.region.specs.Region.{rounded}
+use Rattle.region.specs.declared.MemoryRegion.{MemoryRegion}
+use Rattle.pool.specs.Sound.{flagSet}
+use Rattle.pool.specs.declared.Handle.{Handle}
+use Rattle.pool.specs.declared.VaRange.{VaRange}
+use Rattle.pool.specs.declared.VaRange.the-variants.{Lower, Upper}
+use Rattle.pool.specs.Refuse.{number}
+use Rattle.pool.specs.declared.Refusal.{Refusal}
+use Rattle.pool.specs.declared.Refusal.the-variants.{End, InvalidFlags, FlagSet, RegionBackwards, AddressRange, Frame}
+use Rattle.pool.specs.declared.Outcome.{Outcome}
+use Rattle.pool.specs.declared.Outcome.the-variants.{Accepted, Refused}
+use Rattle.region_verify.specs.Verify.{endFits, span as wide, inRange, verify, lower-start, lower-end, upper-start, verify-forwards, verified-forwards}
+use Rattle.map_rules.specs.declared.Map.{Map}
+use Rattle.map_rules.specs.Fit.{Fit}
+use Rattle.map_verify.specs.Ask.{asked, frameAsked, first as firstOf, verifyMap, passes, only-plain, asked-fit, up-pages}
+use Rattle.theory_tree.specs.Page.{span, span-size, span-suc, first, in-from}
+use Rattle.theory_tree.specs.Root.{upperRoot, upper-span}
+use Rattle.theory_tree.specs.Chunks.{Inside}
+use Rattle.theory_map.specs.Terms.{rootOf}
+use Rattle.theory_map.specs.Leaf.{set-below}
+use Rattle.theory_map.specs.Stand.{Allowed}
+use Rattle.theory_map.specs.Pieces.{Area}
+
+pub no-refusal : {x : Outcome} {r : Refusal} → Refused r ≡ x → x ≡ Accepted → ⊥
+no-refusal e q = let z : _≡_ {A = ℕ} 0 1 = cc in omega arith
+
+-- ---- a region that refusal 6 leaves lies in the root's span
+
+lower-ends : (level : ℕ) (r : MemoryRegion) → inRange Lower level r ≡ Accepted → r .end .0 ≤ 512 * sizeAt level
+lower-ends level r ok = go (le-or (2 ^ 63) (r .start .0)) (le-or (r .end .0) (512 * sizeAt level))
+  where
+    go : (2 ^ 63 ≤ r .start .0) ⊎ (r .start .0 < 2 ^ 63) → (r .end .0 ≤ 512 * sizeAt level) ⊎ (512 * sizeAt level < r .end .0) → r .end .0 ≤ 512 * sizeAt level
+    go (inl l) b = absurd (no-refusal (lower-start Lower level r refl refl l) ok)
+    go (inr l) (inl b) = b
+    go (inr l) (inr b) = absurd (no-refusal (lower-end Lower level r refl refl l b) ok)
+
+upper-starts : (level : ℕ) (r : MemoryRegion) → inRange Upper level r ≡ Accepted → 2 ^ 64 - 512 * sizeAt level ≤ r .start .0
+upper-starts level r ok = go (le-or (r .start .0) (2 ^ 64 - 1 - 512 * sizeAt level))
+  where
+    go : (r .start .0 ≤ 2 ^ 64 - 1 - 512 * sizeAt level) ⊎ (2 ^ 64 - 1 - 512 * sizeAt level < r .start .0) → 2 ^ 64 - 512 * sizeAt level ≤ r .start .0
+    go (inl l) = absurd (no-refusal (upper-start Upper level r refl refl l) ok)
+    go (inr l) = let h = size-high level in omega arith
+
+-- its pages, in the root's table
+root-pages : (range : VaRange) (left : ℕ) (r : MemoryRegion) → left ≤ 3 → inRange range (3 - left) r ≡ Accepted
+    → r .start .0 ≤ r .end .0 → r .end .0 < 2 ^ 64 → r .end .0 % 4096 ≡ 0
+    → (first (suc left) (rootOf range left) ≤ r .start .0 / 4096) × (r .end .0 / 4096 ≤ first (suc left) (rootOf range left) + span (suc left))
+unfolding rootOf first
+root-pages Lower left r low ok some small paged =
+    let e = lower-ends (3 - left) r ok in
+    let s = span-size left low in
+    let n = span-suc left in
+    (omega arith, omega arith)
+root-pages Upper left r low ok some small paged =
+    let b = upper-starts (3 - left) r ok in
+    let s = in-from (suc left) (upperRoot left) (r .start .0 / 4096) (upper-span left (r .start .0) low b (omega arith)) in
+    let e = in-from (suc left) (upperRoot left) (r .end .0 / 4096) (upper-span left (r .end .0) low (omega arith) small) in
+    (s .0, omega (arith, e .1))
+
+aligned-below : (a : ℕ) → alignUp a 4096 < 2 ^ 64
+unfolding alignUp
+aligned-below a = byBool (ltb (up a 4096) (2 ^ 64)) (λ e. rw e (ltb-true (up a 4096) (2 ^ 64) e)) (λ e. rw e (omega arith))
+
+-- a region that is rounded and verified, with its frame, in the root's table
+pub pages-inside : (h : Handle) (start end frame : ℕ) → h .level ≤ 3 → verify h (rounded start end) ≡ Accepted → frame % 4096 ≡ 0
+    → let left = 3 - h .level in let r = rounded start end in
+    Inside (first (suc left) (rootOf (h .range) left)) (span (suc left)) (r .start .0) (r .end .0) frame
+unfolding rounded sizeAt
+pages-inside h start end frame low ok paged =
+    let r : MemoryRegion = rounded start end in
+    let some = verified-forwards h r ok in
+    let e : h .level ≡ 3 - (3 - h .level) = omega arith in
+    let range : inRange (h .range) (3 - (3 - h .level)) r ≡ Accepted = ap (λ (l : ℕ). inRange (h .range) l r) (sym e) ∙ verify-forwards h r some ∙ ok in
+    let pages = root-pages (h .range) (3 - h .level) r (omega arith) range some (aligned-below end) (up-pages end) in
+    record { startPage = down-paged 3 start; endPage = up-pages end; framePage = paged; low = pages .0; high = pages .1 }
+
+-- flags that refusals 3 and 4 leave
+pub flags-allowed : (h : Handle) (f : ℕ) → only (flagSet h) f ≡ true → f / 2 % 2 ≡ 0 → Allowed h f
+unfolding only
+flags-allowed h f from clear =
+    let sub : Sub f (flagSet h) = eqb→eq (bitAnd f (flagSet h)) f (rw from tt) in
+    record { plain = record { bits = only-plain h f from; clear = clear; wide = omega (arith, and-le-r f (flagSet h), set-below h) }; from = sub }
+
+-- ---- what is left of a call
+
+module _ (h : Handle) (start end frame flags constraints : ℕ) where
+  abbrev m : Map
+  m = asked start end frame flags constraints
+
+  module _ (ok : verifyMap h end m ≡ Accepted) where
+    pub asked-allowed : Allowed h (m .flags)
+    asked-allowed = let p = passes h end m ok in flags-allowed h (m .flags) (p .from) (p .plain)
+
+    small : flags < 2 ^ 64
+    unfolding asked
+    small = asked-allowed .plain .wide
+
+    fit : Fit m
+    fit = asked-fit h start end frame flags constraints small ok
+
+    pub asked-area : h .level ≤ 3 → Area (3 - h .level) (rootOf (h .range) (3 - h .level)) m
+    unfolding asked
+    asked-area low = record { inside = pages-inside h start end frame low (passes h end m ok .region) (fit .frame); room = fit .room }
+
+-- ---- refusals 2 to 7 are none of the later ones
+
+abbrev pub Early : Outcome → Type 0
+Early Accepted = Unit {0}
+Early (Refused r) = number r < 8
+
+pub cond-early : (b : Bool) (x y : Outcome) → Early x → Early y → Early (cond b x y)
+cond-early true x y a e = a
+cond-early false x y a e = e
+
+first-early : (x y : Outcome) → Early x → Early y → Early (firstOf x y)
+unfolding firstOf
+first-early Accepted y a e = e
+first-early (Refused r) y a e = a
+
+range-early : (range : VaRange) (level : ℕ) (r : MemoryRegion) → Early (inRange range level r)
+unfolding inRange
+range-early Lower level r =
+    let ends : Bool = ltb (wide level) (r .end .0) in
+    cond-early (leb (2 ^ 63) (r .start .0)) (Refused (AddressRange (r .start))) (cond ends (Refused (AddressRange (r .end))) Accepted) (lit< tt)
+    (cond-early ends (Refused (AddressRange (r .end))) Accepted (lit< tt) tt)
+range-early Upper level r =
+    cond-early (ltb (r .start .0) (2 ^ 63) || ltb (r .start .0) (2 ^ 64 - wide level)) (Refused (AddressRange (r .start))) Accepted (lit< tt) tt
+
+pub verify-early : (h : Handle) (r : MemoryRegion) → Early (verify h r)
+unfolding verify
+verify-early h r = cond-early (ltb (r .end .0) (r .start .0)) (Refused (RegionBackwards r)) (inRange (h .range) (h .level) r) (lit< tt) (range-early (h .range) (h .level) r)
+
+frame-early : (frame length : ℕ) → Early (frameAsked frame length)
+unfolding frameAsked
+frame-early frame length =
+    cond-early (eqb (frame % 4096) 0 && leb (frame + length) (2 ^ 48)) Accepted (Refused (Frame (record { 0 = frame }))) tt (lit< tt)
+
+pub asked-early : (h : Handle) (end : ℕ) (m : Map) → Early (verifyMap h end m)
+unfolding verifyMap
+asked-early h end m =
+    let last : Outcome = firstOf (verify h (m .region)) (frameAsked (m .frame .0) (m .region .end .0 - m .region .start .0)) in
+    let flags : Outcome = cond (only (flagSet h) (m .flags)) last (Refused (FlagSet (m .flags))) in
+    cond-early (endFits end) (cond (eqb (m .flags / 2 % 2) 1) (Refused (InvalidFlags (m .flags))) flags) (Refused (End end))
+    (cond-early (eqb (m .flags / 2 % 2) 1) (Refused (InvalidFlags (m .flags))) flags (lit< tt)
+    (cond-early (only (flagSet h) (m .flags)) last (Refused (FlagSet (m .flags)))
+    (first-early (verify h (m .region)) (frameAsked (m .frame .0) (m .region .end .0 - m .region .start .0)) (verify-early h (m .region))
+    (frame-early (m .frame .0) (m .region .end .0 - m .region .start .0)))
+    (lit< tt)))
+    (lit< tt)

@@ -1,0 +1,191 @@
+-- The call of map on a pool that refusals 1 to 8 leave: it is refused 9 exactly when the tree's count exceeds what is free, and otherwise it leaves a sound
+-- pool whose root shows the tree after the map. Assumes nothing.
+use mathlib.Core.Path.{_≡_, refl, sym, ap, subst, _∙_}
+use mathlib.Core.Bool.{true}
+use mathlib.Core.Logic.{_⊎_, inl, inr}
+use Prim.Native.Nat.{ℕ, _≤_, _<_}
+use native.Mathlib.Omega.{arith}
+use lib.Dec.{lit<}
+use Rattle.laws.specs.Test.{byBool, is-true, le-or}
+use Rattle.pool.specs.State.{St, tables}
+use Rattle.pool.specs.Number.{used, free}
+use Rattle.pool.specs.Refuse.{number, shaped, Shaped, shaped-says, says-shaped, shaped-keep, Out, out}
+use Rattle.pool.specs.Sound.{soundb}
+use Rattle.pool.specs.declared.Handle.{Handle}
+use Rattle.pool.specs.declared.Refusal.{Refusal}
+use Rattle.pool.specs.declared.Refusal.the-variants.{Shape, Unsound, WantOfRoom}
+use Rattle.pool.specs.declared.Outcome.{Outcome}
+use Rattle.pool.specs.declared.Outcome.the-variants.{Accepted, Refused}
+use Rattle.pool.specs.declared.Counted.{Counted}
+use Rattle.pool.specs.declared.Counted.the-variants as counted
+use Rattle.map_rules.specs.declared.Map.{Map}
+use Rattle.map_count_spec.specs.Needed.{needed}
+use Rattle.map_put.specs.Put.{mapRange}
+use Rattle.map_verify.specs.Ask.{verifyMap}
+use Rattle.map_spec.specs.Call.{refused, mapSound, sound-not, sound-full, sound-mapped, put-down, call-misshaped, call-refused, call-asked}
+use Rattle.theory_forest.specs.Tree.{Tree}
+use Rattle.theory_sound.specs.Clauses.{SoundPool}
+use Rattle.theory_sound.specs.Codec.{shaped-placed, rootTree}
+use Rattle.theory_sound.specs.Decide.{decide-sound, sound-decide}
+use Rattle.theory_sound.specs.Generic.{sound-pool}
+use Rattle.theory_tree.specs.Rules.{Given}
+use Rattle.theory_tree.specs.Document.{document-is}
+use Rattle.theory_tree.specs.Needed.{document-needs}
+use Rattle.theory_tree.specs.Root.{mapTree, mapMade}
+use Rattle.theory_map.specs.Terms.{Call, callOf, Maps, askedOf, Passed, leftOf, rootIn, pagesOf, treeAfter, madeBy}
+use Rattle.theory_map.specs.Stand.{Allowed}
+use Rattle.theory_map.specs.Moves.{Ready, Worked, root-ready, root-node}
+use Rattle.theory_map.specs.Pieces.{doneTable, takesTable, Area}
+use Rattle.theory_map.specs.Range.{range-works}
+use Rattle.theory_map.specs.Need.{needed-is}
+use Rattle.theory_map.specs.Asked.{asked-allowed, asked-area, Early, asked-early}
+
+-- the state that an accepted call leaves
+abbrev pub stateAfter : Handle → Call → St → St
+stateAfter h c s = mapRange (leftOf h) h 0 (askedOf c) s
+
+module _ {h : Handle} {c : Call} {s : St} (passed : Passed h c s) where
+  abbrev m : Map
+  m = askedOf c
+
+  allowed : Allowed h (m .flags)
+  allowed = asked-allowed h (c .start) (c .end) (c .frame) (c .flags) (c .constraints) (passed .asks)
+
+  pub area : Area (leftOf h) (rootIn h) m
+  area = asked-area h (c .start) (c .end) (c .frame) (c .flags) (c .constraints) (passed .asks) (passed .shape .level)
+
+  ready : Ready (shaped-placed (passed .shape)) s (leftOf h) 0
+  ready = root-ready (passed .shape) (passed .pool)
+
+  pub given : Given (pagesOf c)
+  given =
+      let I = area .inside in
+      record { plain = allowed .plain; ends = omega (arith, area .room, I .startPage, I .endPage, I .framePage) }
+
+  takes-made : takesTable m (leftOf h) (rootTree h s) ≡ madeBy h c s
+  takes-made =
+      subst (λ (t : Tree). takesTable m (leftOf h) t ≡ mapMade (leftOf h) (rootIn h) (pagesOf c) t) (sym (root-node h s))
+      (document-needs (m .flags) (m .blocks) (leftOf h) (rootIn h) (m .region .start .0) (m .region .end .0) (m .frame .0) _ (omega arith) (area .inside))
+
+  done-tree : doneTable m (leftOf h) (rootTree h s) ≡ treeAfter h c s
+  done-tree =
+      subst (λ (t : Tree). doneTable m (leftOf h) t ≡ mapTree (leftOf h) (rootIn h) (pagesOf c) t) (sym (root-node h s))
+      (document-is (m .flags) (m .blocks) (leftOf h) (rootIn h) (m .region .start .0) (m .region .end .0) (m .frame .0) _ (omega arith) (area .inside))
+
+  -- REFUSAL 9'S COUNT IS THE TREE'S
+  pub needed-made : needed (leftOf h) h s 0 m ≡ madeBy h c s
+  needed-made = needed-is (shaped-placed (passed .shape)) (leftOf h) 0 m s ready ∙ takes-made
+
+  -- ---- with room
+
+  module _ (room : madeBy h c s ≤ free (s .ledger)) where
+    worked : Worked (shaped-placed (passed .shape)) s (stateAfter h c s) (leftOf h) 0 (doneTable m (leftOf h) (rootTree h s)) (takesTable m (leftOf h) (rootTree h s))
+    worked = range-works (shaped-placed (passed .shape)) (leftOf h) (omega arith) (rootIn h) 0 m s allowed area ready (omega (arith, takes-made))
+
+    pub after-shaped : Shaped h (stateAfter h c s)
+    after-shaped = shaped-keep h s (stateAfter h c s) (passed .shape) (worked .same-words) (worked .same-tables)
+
+    pub after-sound : SoundPool h (stateAfter h c s)
+    after-sound = sound-pool (shaped-placed (passed .shape)) (after-shaped .sized) (worked .work .over .sound)
+
+    pub after-tree : rootTree h (stateAfter h c s) ≡ treeAfter h c s
+    after-tree = worked .work .tree ∙ done-tree
+
+    pub after-tables : tables (stateAfter h c s) ≡ tables s
+    after-tables = worked .same-tables
+
+-- ---- what the call answers
+
+-- no refusal is an acceptance
+not-tables : {r : Refusal} {s s′ : St} {n : ℕ} {x : Out Counted} → refused r s ≡ x → x ≡ out (counted.Tables n) s′ → ⊥
+not-tables e q = let p = ap (λ (y : Out Counted). y .answer) (e ∙ q) in let z : _≡_ {A = ℕ} 0 1 = cc in omega arith
+
+module _ {h : Handle} {c : Call} {s : St} (passed : Passed h c s) where
+  sound-is : soundb h s ≡ true
+  sound-is = is-true (soundb h s) (sound-decide (passed .shape) (passed .pool))
+
+  asked-is : mapSound h (askedOf c) s ≡ callOf h c s
+  asked-is = call-asked h (c .start) (c .end) (c .frame) (c .flags) (c .constraints) s (is-true (shaped h s) (says-shaped h s (passed .shape))) refl (passed .asks)
+
+  -- refusal 9
+  pub call-full : free (s .ledger) < madeBy h c s → callOf h c s ≡ refused (WantOfRoom (madeBy h c s) (free (s .ledger))) s
+  call-full full = sym (sound-full h (askedOf c) s sound-is (sym (needed-made passed)) refl full ∙ asked-is)
+
+  -- accepted
+  pub call-maps : madeBy h c s ≤ free (s .ledger) → callOf h c s ≡ out (counted.Tables (used (stateAfter h c s .ledger))) (stateAfter h c s)
+  call-maps room = sym (put-down h (askedOf c) s refl refl ∙ sound-mapped h (askedOf c) s sound-is (sym (needed-made passed)) refl room ∙ asked-is)
+
+-- what is answered otherwise than by refusals 1 to 8 was left by them
+passed-by : (h : Handle) (c : Call) (s : St) {x : Out Counted} → callOf h c s ≡ x → ((r : Refusal) → number r < 9 → refused r s ≡ x → ⊥) → Passed h c s
+passed-by h c s {x} is later =
+    byBool (shaped h s) shape (λ e. absurd (later Shape (lit< tt) (call-misshaped h (c .start) (c .end) (c .frame) (c .flags) (c .constraints) s e ∙ is)))
+  where
+    pool : shaped h s ≡ true → verifyMap h (c .end) (askedOf c) ≡ Accepted → Passed h c s
+    pool e ok =
+        let shape = shaped-says h s (rw e tt) in
+        let asked = call-asked h (c .start) (c .end) (c .frame) (c .flags) (c .constraints) s e refl ok in
+        byBool (soundb h s)
+        (λ sound. record { shape = shape; asks = ok; pool = decide-sound shape (rw sound tt) })
+        (λ unsound. absurd (later Unsound (lit< tt) (sound-not h (askedOf c) s unsound ∙ asked ∙ is)))
+
+    asks : shaped h s ≡ true → (y : Outcome) → verifyMap h (c .end) (askedOf c) ≡ y → Early y → Passed h c s
+    asks e Accepted q early = pool e q
+    asks e (Refused r) q early =
+        absurd (later r (omega arith) (call-refused h (c .start) (c .end) (c .frame) (c .flags) (c .constraints) s e refl r q ∙ is))
+
+    shape : shaped h s ≡ true → Passed h c s
+    shape e = asks e (verifyMap h (c .end) (askedOf c)) refl (asked-early h (c .end) (askedOf c))
+
+-- ---- refused 9
+
+answer-of : {r : Refusal} {s s′ : St} {y : Counted} → refused r s ≡ out y s′ → counted.Refused r ≡ y
+answer-of e = ap (λ (x : Out Counted). x .answer) e
+
+module _ (h : Handle) (c : Call) (s : St) {a b : ℕ} {s′ : St} (is : callOf h c s ≡ out (counted.Refused (WantOfRoom a b)) s′) where
+  pub full-passed : Passed h c s
+  full-passed = passed-by h c s is (λ r early e.
+      let same : r ≡ WantOfRoom a b = let p = answer-of e in cc in
+      let nine : number r ≡ 9 = ap number same in
+      omega arith)
+
+  pub full-more : free (s .ledger) < madeBy h c s
+  full-more = go (le-or (madeBy h c s) (free (s .ledger)))
+    where
+      go : (madeBy h c s ≤ free (s .ledger)) ⊎ (free (s .ledger) < madeBy h c s) → free (s .ledger) < madeBy h c s
+      go (inl room) = absurd (let p = ap (λ (x : Out Counted). x .answer) (sym is ∙ call-maps full-passed room) in let z : _≡_ {A = ℕ} 0 1 = cc in omega arith)
+      go (inr more) = more
+
+-- ---- accepted
+
+module _ {h : Handle} {c : Call} {s s′ : St} {n : ℕ} (maps : Maps h c s n s′) where
+  pub call-passed : Passed h c s
+  call-passed = passed-by h c s (maps .answers) (λ r early e. not-tables e refl)
+
+  pub call-room : madeBy h c s ≤ free (s .ledger)
+  call-room = go (le-or (madeBy h c s) (free (s .ledger)))
+    where
+      go : (madeBy h c s ≤ free (s .ledger)) ⊎ (free (s .ledger) < madeBy h c s) → madeBy h c s ≤ free (s .ledger)
+      go (inl room) = room
+      go (inr full) = absurd (not-tables (sym (call-full call-passed full)) (maps .answers))
+
+  pub call-state : s′ ≡ stateAfter h c s
+  call-state = ap (λ (x : Out Counted). x .state) (sym (maps .answers) ∙ call-maps call-passed call-room)
+
+  pub call-count : n ≡ used (s′ .ledger)
+  call-count =
+      let p : counted.Tables n ≡ counted.Tables (used (stateAfter h c s .ledger)) = ap (λ (x : Out Counted). x .answer) (sym (maps .answers) ∙ call-maps call-passed call-room) in
+      let e : n ≡ used (stateAfter h c s .ledger) = cc in
+      e ∙ ap (λ (x : St). used (x .ledger)) (sym call-state)
+
+  -- the pool that it leaves
+  pub call-shaped : Shaped h s′
+  call-shaped = subst (Shaped h) (sym call-state) (after-shaped call-passed call-room)
+
+  pub call-sound : SoundPool h s′
+  call-sound = subst (SoundPool h) (sym call-state) (after-sound call-passed call-room)
+
+  pub call-tree : rootTree h s′ ≡ treeAfter h c s
+  call-tree = ap (rootTree h) call-state ∙ after-tree call-passed call-room
+
+  pub call-tables : tables s′ ≡ tables s
+  call-tables = ap (λ (x : St). tables x) call-state ∙ after-tables call-passed call-room

@@ -1,0 +1,179 @@
+-- One chunk of a table of a sound pool: what the rules do on lists is what they do on the tree of its slot, and takes no more tables than that needs.
+-- Assumes nothing.
+use mathlib.Core.Path.{_≡_, refl, sym, ap, subst, subst₂, _∙_}
+use Prim.Native.Nat.{ℕ, suc, _+_, _-_, _≤_, _<_}
+use native.Mathlib.Omega.{arith}
+use Rattle.entry.specs.Sub.{subOf}
+use Rattle.entry.specs.declared.Sub.the-variants.{Table}
+use Rattle.address_slot.specs.Slot.{entryIndex}
+use Rattle.pool.specs.State.{St, tables, wordAt, storeAt}
+use Rattle.pool.specs.Number.{free}
+use Rattle.pool.specs.declared.Handle.{Handle}
+use Rattle.pool.specs.declared.Found.the-variants.{At}
+use Rattle.pool_table.specs.Table.{taken, freeTree}
+use Rattle.map_rules.specs.declared.Map.{Map}
+use Rattle.map_rules.specs.declared.Rule.the-variants.{Down}
+use Rattle.map_rules.specs.Rules.{ruleOf}
+use Rattle.map_rules.specs.Laws.{rule-page}
+use Rattle.map_split.specs.Split.{below}
+use Rattle.map_count_spec.specs.Needed.{slot-below}
+use Rattle.map_put.specs.Put.{mapRange}
+use Rattle.map_put.specs.Laws.{drop-table}
+use Rattle.map_put.specs.Range.{stepAt, chunk-write, chunk-keep, chunk-drop, chunk-into}
+use Rattle.theory_forest.specs.Tree.{Tree, leaf, node}
+use Rattle.theory_forest.specs.Sound.{TableWord, Refers}
+use Rattle.theory_forest.specs.Keep.{slot-leaf}
+use Rattle.theory_sound.specs.Clauses.{levelAt}
+use Rattle.theory_sound.specs.Codec.{Placed, codecOf, view, word-in, treeFrom}
+use Rattle.theory_tree.specs.Visit.{down as goDown, opened, splits, fillTree}
+use Rattle.theory_tree.specs.Shown.{FineTree}
+use Rattle.theory_map.specs.Leaf.{slot-fine}
+use Rattle.theory_map.specs.Rule.{saysOf, LeafRule, keeps, writes, splits as leaf-splits, TableRule, drops, enters, page-rule, leaf-rule, table-rule}
+use Rattle.theory_map.specs.Stand.{Allowed, Piece, write-stands}
+use Rattle.theory_map.specs.Moves.{slotShows, Ready, Slotted, Worked, kept, stored, dropped}
+use Rattle.theory_map.specs.Down.{Holds, holds-table, holds-leaf, holds, opens}
+use Rattle.theory_map.specs.Pieces.{doneTo, takes, doneTable, takesTable, done-keep, done-write, done-down, takes-down, Area, piece-area}
+
+-- what opening a leaf or a table takes
+pub takes-split : (m : Map) (left w : ℕ) → saysOf m (suc left) (leaf w) ≡ goDown → takes m (suc left) (leaf w) ≡ 1 + takesTable m left (fillTree left w)
+unfolding splits opened
+takes-split m left w e = takes-down m left (leaf w) e
+
+pub takes-enter : (m : Map) (left : ℕ) (f : ℕ → Tree) → saysOf m (suc left) (node f) ≡ goDown → takes m (suc left) (node f) ≡ takesTable m left (node f)
+unfolding splits opened
+takes-enter m left f e = let z : takes m (suc left) (node f) ≡ 0 + takesTable m left (node f) = takes-down m left (node f) e in omega arith
+
+module _ {h : Handle} (placed : Placed h) where
+  -- a map of a table with `left` levels below its own does on lists what it does on the table's tree
+  abbrev pub Works : ℕ → Type 0
+  Works left = (q k : ℕ) (m : Map) (s : St) → Allowed h (m .flags) → Area left q m → Ready placed s left k → takesTable m left (treeFrom h s left k) ≤ free (s .ledger)
+      → Worked placed s (mapRange left h k m s) left k (doneTable m left (treeFrom h s left k)) (takesTable m left (treeFrom h s left k))
+
+  module _ (q k : ℕ) (m : Map) (s : St) (left : ℕ) (allowed : Allowed h (m .flags)) (piece : Piece left q m) (R : Ready placed s left k) where
+    abbrev pub level : ℕ
+    level = 3 - left
+
+    abbrev pub i : ℕ
+    i = entryIndex level (m .region .start .0)
+
+    abbrev w : ℕ
+    w = wordAt s k i
+
+    -- what is to be shown, if the slot shows t
+    abbrev pub Done : Tree → Type 0
+    Done t = Slotted placed s (stepAt level h k m s) left k i (doneTo m left t) (takes m left t)
+
+    inside : i < 512
+    inside = slot-below level (m .region .start .0)
+
+    fine : FineTree left (slotShows h s left k i)
+    fine = slot-fine placed (R .pool) left k i (R .used) (R .low) inside
+
+    -- ---- the slot holds no table
+
+    module _ (old : ¬ (TableWord (levelAt s k) w)) where
+      shows-leaf : slotShows h s left k i ≡ leaf w
+      shows-leaf = slot-leaf (codecOf h placed) (view s) left k i (R .low) (word-in s k i inside) old
+
+      by-leaf : LeafRule level m left w → (ruleOf level m w ≡ Down → saysOf m left (leaf w) ≡ goDown → Done (leaf w)) → Done (leaf w)
+      by-leaf (keeps r e) down =
+          subst₂ (λ (s′ : St) (t : Tree). Slotted placed s s′ left k i t (takes m left (leaf w)))
+          (chunk-keep h level k m s refl refl r) (shows-leaf ∙ sym (done-keep m left (leaf w) e)) (kept placed R i (takes m left (leaf w)))
+      by-leaf (writes x r e) down =
+          subst₂ (λ (s′ : St) (t : Tree). Slotted placed s s′ left k i t (takes m left (leaf w)))
+          (chunk-write h level k m s refl refl x r) (sym (done-write m left x (leaf w) e))
+          (stored placed R i (takes m left (leaf w)) x inside old
+          (write-stands h left q (levelAt s k) x m (leaf w) allowed piece (R .low) (subst (FineTree left) shows-leaf fine) e))
+      by-leaf (leaf-splits r e) down = down r e
+
+  -- ---- above the lowest level
+
+  module _ (q k : ℕ) (m : Map) (s : St) (left : ℕ) (works : Works left) (allowed : Allowed h (m .flags)) (piece : Piece (suc left) q m) (R : Ready placed s (suc left) k) where
+    abbrev l : ℕ
+    l = 3 - suc left
+
+    abbrev j : ℕ
+    j = entryIndex l (m .region .start .0)
+
+    abbrev x : ℕ
+    x = wordAt s k j
+
+    abbrev Goal : Tree → Type 0
+    Goal t = Slotted placed s (stepAt l h k m s) (suc left) k j (doneTo m (suc left) t) (takes m (suc left) t)
+
+    slot : j < 512
+    slot = slot-below l (m .region .start .0)
+
+    high : l < 3
+    high = omega arith
+
+    last : 3 - (l + 1) ≡ left
+    last = omega (arith, R .low)
+
+    -- on in table c of the state t
+    goes-in : {c : ℕ} {t : St} → ruleOf l m x ≡ Down → taken (At c) t ≡ below h l k j s → mapRange left h c m t ≡ stepAt l h k m s
+    goes-in {c} {t} r found = ap (λ (d : ℕ). mapRange d h c m t) (sym last) ∙ chunk-into h l k m s refl refl r found c refl high
+
+    -- ---- down, after a split if there is no table
+
+    by-down : let t = slotShows h s (suc left) k j in takes m (suc left) t ≤ free (s .ledger) → ruleOf l m x ≡ Down → saysOf m (suc left) t ≡ goDown → Goal t
+    by-down room r e =
+        let t : Tree = slotShows h s (suc left) k j in
+        let all = takes-down m left t e in
+        let O = opens placed R j slot (omega arith) in
+        let fewer = O .room in
+        let W = works q (O .table) m (O .state) allowed (piece-area piece) (O .ready)
+        (subst (λ (u : Tree). takesTable m left u ≤ free (O .state .ledger)) (sym (O .shows)) (omega arith)) in
+        let W′ = subst (λ (u : Tree). Worked placed (O .state) (mapRange left h (O .table) m (O .state)) left (O .table) (doneTable m left u) (takesTable m left u)) (O .shows) W in
+        subst (λ (s′ : St). Slotted placed s s′ (suc left) k j (doneTo m (suc left) t) (takes m (suc left) t)) (goes-in r (O .found))
+        (subst₂ (λ (u : Tree) (c : ℕ). Slotted placed s (mapRange left h (O .table) m (O .state)) (suc left) k j u c) (sym (done-down m left t e)) (sym all) (O .back W′))
+
+    -- ---- a table
+
+    module _ (e : ℕ) (r : Refers (codecOf h placed) (view s) k j e) (leads : subOf (h .base .0) (tables s) l x ≡ Table e) where
+      abbrev g : ℕ → Tree
+      g i = slotShows h s left e i
+
+      by-table : slotShows h s (suc left) k j ≡ node g → TableRule l m (suc left) x g → takes m (suc left) (slotShows h s (suc left) k j) ≤ free (s .ledger)
+          → Goal (slotShows h s (suc left) k j)
+      by-table shows (drops rule says) room =
+          let fine = subst (FineTree (suc left)) shows (slot-fine placed (R .pool) (suc left) k j (R .used) (R .low) slot) in
+          let put : freeTree left h e (storeAt k j (m .flags) s) ≡ stepAt l h k m s =
+          ap (λ (d : ℕ). freeTree d h e (storeAt k j (m .flags) s)) (sym last)
+          ∙ drop-table h l x (storeAt k j (m .flags) s) refl e leads
+          ∙ chunk-drop h l k m s refl refl (m .flags) rule in
+          subst Goal (sym shows)
+          (subst₂ (λ (s′ : St) (t : Tree). Slotted placed s s′ (suc left) k j t (takes m (suc left) (node g))) put (sym (done-write m (suc left) (m .flags) (node g) says))
+          (dropped placed R j slot (takes m (suc left) (node g)) (m .flags) r
+          (write-stands h (suc left) q (levelAt s k) (m .flags) m (node g) allowed piece (R .low) fine says)))
+      by-table shows (enters rule says) room = by-down room rule (ap (saysOf m (suc left)) shows ∙ says)
+
+    up-works : takes m (suc left) (slotShows h s (suc left) k j) ≤ free (s .ledger) → Goal (slotShows h s (suc left) k j)
+    up-works room = go (holds placed R j slot)
+      where
+        go : Holds placed s left k j → Goal (slotShows h s (suc left) k j)
+        go (holds-table e r both leads shows) = by-table e r leads shows (table-rule m left x (omega (arith, R .low)) (λ i. slotShows h s left e i) both) room
+        go (holds-leaf old other shows) =
+            subst Goal (sym shows) (by-leaf q k m s (suc left) allowed piece R old (leaf-rule m left x (omega (arith, R .low)) other)
+            (λ r e. subst Goal shows (by-down room r (ap (saysOf m (suc left)) shows ∙ e))))
+
+  -- ---- ONE CHUNK
+
+  abbrev pub ChunkWorks : ℕ → Type 0
+  ChunkWorks left = (q k : ℕ) (m : Map) (s : St) → Allowed h (m .flags) → Piece left q m → Ready placed s left k → let i = entryIndex (3 - left) (m .region .start .0) in
+      takes m left (slotShows h s left k i) ≤ free (s .ledger)
+      → Slotted placed s (stepAt (3 - left) h k m s) left k i (doneTo m left (slotShows h s left k i)) (takes m left (slotShows h s left k i))
+
+  -- at the lowest level nothing goes down
+  pub page-works : ChunkWorks 0
+  page-works q k m s allowed piece R room =
+      let x : ℕ = wordAt s k (entryIndex 3 (m .region .start .0)) in
+      let old : ¬ (TableWord (levelAt s k) x) = λ table. omega (arith, R .low, table .0) in
+      subst (Done q k m s 0 allowed piece R) (sym (shows-leaf q k m s 0 allowed piece R old))
+      (by-leaf q k m s 0 allowed piece R old (page-rule m x) (λ r e. absurd (never x r)))
+    where
+      never : (x : ℕ) → ruleOf 3 m x ≡ Down → ⊥
+      never x r = let z : _≡_ {A = ℕ} 0 1 = cc (rule-page 3 m x (omega arith), r) in omega arith
+
+  pub chunk-works : (left : ℕ) → Works left → ChunkWorks (suc left)
+  chunk-works left works q k m s allowed piece R room = up-works q k m s left works allowed piece R room

@@ -1,0 +1,83 @@
+-- The leaves of a sound pool are fine words, so its root shows a fine tree; and a fine word with flags from the set may stand where it is fine.
+-- Assumes nothing.
+use mathlib.Core.Path.{_≡_, ap, subst, _∙_}
+use Prim.Native.Nat.{ℕ, _+_, _-_, _/_, _%_, _^_, _≤_, _<_}
+use native.Mathlib.Omega.{arith}
+use lib.Dec.{T, lit<}
+use Rattle.laws.specs.Bit.{Sub}
+use Rattle.laws.specs.Size.{sizeAt}
+use Rattle.entry.specs.Word.{addressOf, el1Flags, plainFlags}
+use Rattle.pool.specs.State.{St, wordAt}
+use Rattle.pool.specs.Number.{levelOf, rootNumber}
+use Rattle.pool.specs.Sound.{flagSet, leafb}
+use Rattle.pool.specs.declared.Handle.{Handle}
+use Rattle.theory_forest.specs.Tree.{treeAt-node, entry}
+use Rattle.theory_forest.specs.Sound.{TableWord}
+use Rattle.theory_sound.specs.Clauses.{InUse, levelAt, LeafWord, SoundPool}
+use Rattle.theory_sound.specs.Codec.{Placed, codecOf, childOf, slotWord, treeFrom, rootTree}
+use Rattle.theory_sound.specs.Generic.{leaf-says, pool-sound}
+use Rattle.theory_sound.specs.Hanging.{root-left}
+use Rattle.theory_sound.specs.Step.{Stands}
+use Rattle.theory_tree.specs.Page.{span, entry-rest}
+use Rattle.theory_tree.specs.Word.{frameOf, address-frame}
+use Rattle.theory_tree.specs.Fine.{Fine, sound-fine}
+use Rattle.theory_tree.specs.Shown.{FineTree, FineTable}
+use Rattle.theory_tree.specs.Forest.{tree-fine}
+
+-- ---- a leaf of a sound pool is fine
+
+pub set-below : (h : Handle) → flagSet h < 2 ^ 64
+unfolding flagSet el1Flags
+set-below h = lit< tt
+
+pub leaf-fine : (h : Handle) (level w : ℕ) → level ≤ 3 → LeafWord (flagSet h) level w → Fine (3 - level) w
+leaf-fine h level w low leaf =
+    sound-fine (flagSet h) level w low (set-below h) (leaf .flags)
+    (leaf .clear) (leaf .aligned) (leaf .top) (leaf .page)
+
+module _ {h : Handle} (placed : Placed h) {s : St} (P : SoundPool h s) where
+  good : (x w : ℕ) → T (leafb (flagSet h) (levelOf x) w) → Fine (3 - levelOf x) w
+  good x w t = leaf-fine h (levelOf x) w (omega arith) (leaf-says (flagSet h) (levelOf x) w (omega arith) t)
+
+  -- THE TREE OF A USED TABLE IS FINE
+  pub table-fine : (left k : ℕ) → InUse s k → levelAt s k + left ≡ 3 → FineTable left (treeFrom h s left k)
+  table-fine left k used low = tree-fine {C = codecOf h placed} (pool-sound placed P) good left k used low
+
+  -- slot by slot
+  pub slot-fine : (left k i : ℕ) → InUse s k → levelAt s k + left ≡ 3 → i < 512 → FineTree left (entry (childOf (h .base .0)) left (slotWord s) (slotWord s k i))
+  slot-fine left k i used low inside = subst (FineTable left) (treeAt-node (childOf (h .base .0)) left (slotWord s) k) (table-fine left k used low) i inside
+
+  -- the root is in use
+  pub root-used : InUse s 0
+  unfolding rootNumber
+  root-used = omega (arith, P .root)
+
+  pub root-fine : FineTable (3 - h .level) (rootTree h s)
+  root-fine = table-fine (3 - h .level) 0 root-used (root-left placed P)
+
+-- the flags of a leaf are from the set
+pub leaf-from : {h : Handle} {s : St} → SoundPool h s → (k i : ℕ) → i < 512 → InUse s k → ¬ (TableWord (levelAt s k) (wordAt s k i)) → Sub (plainFlags (wordAt s k i)) (flagSet h)
+leaf-from {h} {s} P k i inside used old = P .leaves k i inside used old .flags
+
+-- ---- a fine word with flags from the set may stand
+
+pub fine-stands : (h : Handle) (left level v : ℕ) → level + left ≡ 3 → Fine left v → Sub (plainFlags v) (flagSet h) → Stands h level v
+fine-stands h left level v low fine flags = record {
+  plain = λ table. let c = fine .clear (omega (arith, table .0)) in omega (arith, table .1);
+  leaf = record {
+    flags = flags;
+    clear = λ high. fine .clear (omega arith);
+    aligned = λ some high. aligned;
+    top = λ z. let t = fine .top (omega arith) in let f = address-frame v in (t .0, omega (arith, t .1));
+    page = λ z valid. fine .page (omega arith) valid;
+  };
+}
+  where
+    aligned : addressOf v % sizeAt level ≡ 0
+    aligned =
+        let e : level ≡ 3 - left = omega arith in
+        let f = address-frame v in
+        let frame : addressOf v / 4096 ≡ frameOf v = omega arith in
+        let rest = entry-rest left (addressOf v) (omega arith) (omega arith) in
+        let whole : addressOf v / 4096 % span left ≡ 0 = ap (λ (x : ℕ). x % span left) frame ∙ fine .aligned in
+        ap (λ (l : ℕ). addressOf v % sizeAt l) e ∙ (let z : addressOf v % sizeAt (3 - left) ≡ 0 = omega arith in z)

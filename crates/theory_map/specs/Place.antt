@@ -1,0 +1,72 @@
+-- Addresses of the call's region and of the root's span, in pages of the root's tree. Assumes nothing.
+use mathlib.Core.Path.{_≡_, refl, ap, _∙_}
+use mathlib.Core.Bool.{true}
+use Prim.Native.Nat.{ℕ, suc, _+_, _*_, _-_, _/_, _^_, _≤_, _<_}
+use native.Mathlib.Omega.{arith}
+use borrow.Author.Tests.{ltb-true}
+use Rattle.laws.specs.Size.{sizeAt, size-high, down}
+use Rattle.region.specs.Region.{rounded}
+use Rattle.region.specs.Chunks.{Holds}
+use Rattle.region.specs.declared.MemoryRegion.{MemoryRegion}
+use Rattle.pool.specs.State.{St}
+use Rattle.pool.specs.declared.Handle.{Handle}
+use Rattle.pool.specs.declared.VaRange.{VaRange}
+use Rattle.pool.specs.declared.VaRange.the-variants.{Lower, Upper}
+use Rattle.map_verify.specs.Ask.{asked}
+use Rattle.look_up.specs.Call.{spanned, span-lower, span-upper}
+use Rattle.theory_tree.specs.Page.{span, first, In, in-of}
+use Rattle.theory_tree.specs.Chunks.{Inside}
+use Rattle.theory_tree.specs.Root.{lower-span, upper-span}
+use Rattle.theory_tree.specs.Demands.{OfRegion}
+use Rattle.theory_map.specs.Terms.{Call, Passed, InRegion, frameFor, InSpan, leftOf, rootOf, rootIn, pagesOf}
+use Rattle.theory_map.specs.Call.{area}
+
+-- ---- the pages of a region
+
+module _ (r : MemoryRegion) {b n p : ℕ} (I : Inside b n (r .start .0) (r .end .0) p) (va : ℕ) where
+  pub in-page : Holds r va → OfRegion (r .start .0 / 4096) (r .end .0 / 4096) (va / 4096)
+  in-page at = record { from = omega (arith, at .from, I .startPage); below = omega (arith, at .below, I .endPage) }
+
+  pub page-in : OfRegion (r .start .0 / 4096) (r .end .0 / 4096) (va / 4096) → Holds r va
+  page-in of = record { from = omega (arith, of .from, I .startPage); below = omega (arith, of .below, I .endPage) }
+
+pub page-spans : (left q : ℕ) {start end p page : ℕ} → Inside (first (suc left) q) (span (suc left)) start end p → OfRegion (start / 4096) (end / 4096) page → In (suc left) q page
+page-spans left q {page = page} I of = in-of (suc left) q page (omega (arith, I .low, of .from)) (omega (arith, I .high, of .below))
+
+-- ---- the call's region
+
+module _ {h : Handle} {c : Call} {s : St} (passed : Passed h c s) (va : ℕ) where
+  pub region-page : InRegion c va → OfRegion (pagesOf c .from) (pagesOf c .upto) (va / 4096)
+  unfolding asked
+  region-page at = in-page (rounded (c .start) (c .end)) (area passed .inside) va at
+
+  pub page-region : OfRegion (pagesOf c .from) (pagesOf c .upto) (va / 4096) → InRegion c va
+  unfolding asked
+  page-region of = page-in (rounded (c .start) (c .end)) (area passed .inside) va of
+
+  pub region-spans : InRegion c va → In (suc (leftOf h)) (rootIn h) (va / 4096)
+  region-spans at = page-spans (leftOf h) (rootIn h) (area passed .inside) (region-page at)
+
+  pub frame-is : InRegion c va → (pagesOf c .frame + (va / 4096 - pagesOf c .from)) * 4096 ≡ frameFor c va
+  unfolding asked down
+  frame-is at =
+      let I = area passed .inside in
+      let a = I .startPage in
+      let b = I .framePage in
+      let f = at .from in
+      omega arith
+
+-- ---- the root's span
+
+root-spans : (range : VaRange) (left va : ℕ) → left ≤ 3 → spanned range (3 - left) va ≡ true → va < 2 ^ 64 → In (suc left) (rootOf range left) (va / 4096)
+unfolding rootOf
+root-spans Lower left va low e word = lower-span left va low (ltb-true va (512 * sizeAt (3 - left)) (span-lower Lower (3 - left) va (sizeAt (3 - left)) refl refl ∙ e))
+root-spans Upper left va low e word =
+    let h = size-high (3 - left) in
+    let l = ltb-true (18446744073709551615 - 512 * sizeAt (3 - left)) va (span-upper Upper (3 - left) va (sizeAt (3 - left)) refl refl ∙ e) in
+    upper-span left va low (omega arith) word
+
+pub span-spans : (h : Handle) (va : ℕ) → h .level ≤ 3 → InSpan h va → In (suc (leftOf h)) (rootIn h) (va / 4096)
+span-spans h va low at =
+    let e : 3 - (3 - h .level) ≡ h .level = omega arith in
+    root-spans (h .range) (leftOf h) va (omega arith) (ap (λ (l : ℕ). spanned (h .range) l va) e ∙ at .spans) (at .word)

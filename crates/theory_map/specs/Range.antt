@@ -1,0 +1,53 @@
+-- A map of a table of a sound pool does on lists what the document's loop does on the table's tree, with no more tables than that needs: no split meets a
+-- full pool. Assumes nothing.
+use mathlib.Core.Path.{_≡_, refl, ap, subst, _∙_}
+use mathlib.Core.List.{List, [], _∷_}
+use Prim.Native.Nat.{ℕ, zero, suc, _+_, _-_, _≤_}
+use native.Mathlib.Omega.{arith}
+use Rattle.region.specs.Chunks.{chunks}
+use Rattle.region.specs.declared.MemoryRegion.{MemoryRegion}
+use Rattle.pool.specs.State.{St}
+use Rattle.pool.specs.declared.Handle.{Handle}
+use Rattle.map_rules.specs.declared.Map.{Map}
+use Rattle.map_rules.specs.Rules.{chunkMap}
+use Rattle.map_put.specs.Put.{eachOf, eachChunk, mapRange}
+use Rattle.map_put.specs.Range.{stepAt, map-open}
+use Rattle.theory_sound.specs.Codec.{Placed, treeFrom}
+use Rattle.theory_tree.specs.Page.{child}
+use Rattle.theory_tree.specs.Chunks.{chunked, chunkedTable}
+use Rattle.theory_tree.specs.Needed.{needed, neededTable}
+use Rattle.theory_tree.specs.Document.{documentRule}
+use Rattle.theory_map.specs.Moves.{Worked}
+use Rattle.theory_map.specs.Pieces.{doneTable, takesTable, slotAt, pieces}
+use Rattle.theory_map.specs.Chunk.{Works, ChunkWorks, page-works, chunk-works}
+use Rattle.theory_map.specs.Loop.{through, loop}
+
+through-is : (f : MemoryRegion → ℕ → St → St) (cs : List MemoryRegion) (p : ℕ) (s : St) → through f cs p s ≡ eachOf f cs p s
+unfolding through eachOf
+through-is f [] p s = refl
+through-is f (c ∷ cs) p s = through-is f cs (p + (c .end .0 - c .start .0)) (f c p s)
+
+each-is : (level : ℕ) (f : Map → St → St) (m : Map) (s : St)
+    → through (λ c frame t. f (chunkMap m c frame) t) (chunks level (m .region .start .0) (m .region .end .0)) (m .frame .0) s ≡ eachChunk level f m s
+unfolding eachChunk
+each-is level f m s = through-is (λ c frame t. f (chunkMap m c frame) t) (chunks level (m .region .start .0) (m .region .end .0)) (m .frame .0) s
+
+module _ {h : Handle} (placed : Placed h) where
+  table-works : (left : ℕ) → left ≤ 3 → ChunkWorks placed left → Works placed left
+  unfolding chunkedTable neededTable
+  table-works left low works q k m s allowed area R room =
+      subst (λ (s′ : St). Worked placed s s′ left k (doneTable m left (treeFrom h s left k)) (takesTable m left (treeFrom h s left k))) is
+      (loop placed (λ (x : St). x) (λ c p t. stepAt (3 - left) h k (chunkMap m c p) t)
+      (λ c p u. chunked (documentRule (m .flags) (m .blocks)) left c p u) (λ c p u. needed (documentRule (m .flags) (m .blocks)) left c p u) left q k m low
+      (λ c p x piece ready enough. works (child q (slotAt left c)) k (chunkMap m c p) x allowed piece ready enough)
+      (chunks (3 - left) (m .region .start .0) (m .region .end .0)) 0 (m .frame .0) s (pieces left q m low (m .frame .0) (m .region) area) R room)
+    where
+      is : through (λ c frame t. stepAt (3 - left) h k (chunkMap m c frame) t) (chunks (3 - left) (m .region .start .0) (m .region .end .0)) (m .frame .0) s ≡ mapRange left h k m s
+      is =
+          let e : 3 - (3 - left) ≡ left = omega arith in
+          each-is (3 - left) (stepAt (3 - left) h k) m s ∙ map-open (3 - left) h k m s (omega arith) ∙ ap (λ (d : ℕ). mapRange d h k m s) e
+
+  -- A MAP OF A TABLE
+  pub range-works : (left : ℕ) → left ≤ 3 → Works placed left
+  range-works zero low = table-works zero low (page-works placed)
+  range-works (suc left) low = table-works (suc left) low (chunk-works placed left (range-works left (omega arith)))

@@ -1,0 +1,181 @@
+-- Laws of the numbers that a modify lists: by what an entry is, after the first pass over a table, and what is gathered from a table. Assumes nothing.
+use mathlib.Core.Path.{_≡_, refl, sym, ap, ap₂, _∙_}
+use mathlib.Core.Bool.{true, false}
+use mathlib.Core.List.{List, [], _∷_, _++_}
+use mathlib.Core.Logic.{_≢_}
+use Prim.Native.Nat.{ℕ, zero, suc, _+_, _-_, _/_, _%_, _^_, _≤_, _<_}
+use native.Mathlib.Omega.{arith}
+use lib.ListN.{length, length-append}
+use borrow.Author.Tests.{eq-eqb, ne-eqb}
+use Rattle.laws.specs.Test.{byBool}
+use Rattle.entry.specs.Word.{valid, edited}
+use Rattle.address_slot.specs.Slot.{entryIndex}
+use Rattle.region.specs.Region.{whole}
+use Rattle.region.specs.Chunks.{chunks}
+use Rattle.region.specs.declared.MemoryRegion.{MemoryRegion}
+use Rattle.map_rules.specs.declared.Map.{Map}
+use Rattle.theory_forest.specs.Tree.{Tree, leaf, node}
+use Rattle.theory_tree.specs.Visit.{opened}
+use Rattle.theory_tree.specs.Slots.{fillSlot, fill-node}
+use Rattle.theory_tree.specs.Chunks.{atSlot, sweep, chunkedTable, index-slot}
+use Rattle.theory_tree.specs.Needed.{slotIn}
+use Rattle.theory_tree.specs.DocumentModify.{documentModify}
+use Rattle.theory_map.specs.Pieces.{slotAt, Pieces}
+use Rattle.theory_modify.specs.Passes.{downTo, down-whole, down-part, down-into}
+use Rattle.theory_modify.specs.Numbers.{gathered, changedNumber, ownNumbers, lowerNumbers}
+
+module _ (set clear : ℕ) where
+  pub number-changed : (c : MemoryRegion) (w : ℕ) → valid w ≡ true → edited set clear w ≢ w → changedNumber set clear c w ≡ c .start .0 / 4096 % 2 ^ 44 ∷ []
+  unfolding changedNumber
+  number-changed c w v other = rw (v, ne-eqb (edited set clear w) w other)
+
+  pub number-same : (c : MemoryRegion) (w : ℕ) → valid w ≡ true → edited set clear w ≡ w → changedNumber set clear c w ≡ []
+  unfolding changedNumber
+  number-same c w v same = rw (v, eq-eqb (edited set clear w) w same)
+
+  pub number-hole : (c : MemoryRegion) (w : ℕ) → valid w ≡ false → changedNumber set clear c w ≡ []
+  unfolding changedNumber
+  number-hole c w v = rw v
+
+  pub own-whole : (left : ℕ) (c : MemoryRegion) (w : ℕ) → whole (3 - suc left) c ≡ true → ownNumbers set clear (suc left) c (leaf w) ≡ changedNumber set clear c w
+  unfolding ownNumbers
+  own-whole left c w e = rw e
+
+  pub own-part : (left : ℕ) (c : MemoryRegion) (w : ℕ) → whole (3 - suc left) c ≡ false → ownNumbers set clear (suc left) c (leaf w) ≡ []
+  unfolding ownNumbers
+  own-part left c w e = rw e
+
+  pub own-none : (left : ℕ) (c : MemoryRegion) (f : ℕ → Tree) → ownNumbers set clear left c (node f) ≡ []
+  unfolding ownNumbers
+  own-none zero c f = refl
+  own-none (suc left) c f = refl
+
+  module _ (rec : MemoryRegion → Tree → List ℕ) (left : ℕ) (c : MemoryRegion) where
+    pub lower-whole : (w : ℕ) → whole (3 - suc left) c ≡ true → lowerNumbers set clear rec left c (leaf w) ≡ []
+    unfolding lowerNumbers
+    lower-whole w e = rw e
+
+    pub lower-part : (w : ℕ) → whole (3 - suc left) c ≡ false → lowerNumbers set clear rec left c (leaf w) ≡ rec c (opened left (leaf w))
+    unfolding lowerNumbers opened
+    lower-part w e = rw e
+
+    pub lower-into : (f : ℕ → Tree) → lowerNumbers set clear rec left c (node f) ≡ rec c (opened left (node f))
+    unfolding lowerNumbers opened
+    lower-into f = refl
+
+  -- ---- after the first pass the leaves are the table's own entries
+
+  -- an entry as the second pass finds it
+  unfoldable pub leafNumbers : MemoryRegion → Tree → List ℕ
+  leafNumbers c (leaf w) = changedNumber set clear c w
+  leafNumbers c (node f) = []
+
+  pub leaf-number : (c : MemoryRegion) (w : ℕ) → leafNumbers c (leaf w) ≡ changedNumber set clear c w
+  unfolding leafNumbers
+  leaf-number c w = refl
+
+  pub leaf-none : (c : MemoryRegion) (f : ℕ → Tree) → leafNumbers c (node f) ≡ []
+  unfolding leafNumbers
+  leaf-none c f = refl
+
+  pub leaf-page : (c : MemoryRegion) (u : Tree) → leafNumbers c u ≡ ownNumbers set clear 0 c u
+  unfolding leafNumbers ownNumbers
+  leaf-page c (leaf w) = refl
+  leaf-page c (node f) = refl
+
+  sweep-none : (d : MemoryRegion) (left : ℕ) (f : MemoryRegion → ℕ → Tree → Tree) (cs : List MemoryRegion) (p : ℕ) (g : ℕ → Tree) → leafNumbers d (sweep left f cs p (node g)) ≡ []
+  unfolding sweep atSlot leafNumbers
+  sweep-none d left f [] p g = refl
+  sweep-none d left f (c ∷ cs) p g = sweep-none d left f cs (p + (c .end .0 - c .start .0)) _
+
+  table-none : (d : MemoryRegion) (left : ℕ) (c : MemoryRegion) (p : ℕ) (g : ℕ → Tree) → leafNumbers d (chunkedTable (documentModify set clear) left c p (node g)) ≡ []
+  unfolding chunkedTable
+  table-none d left c p g = sweep-none d left _ (chunks (3 - left) (c .start .0) (c .end .0)) p g
+
+  open-none : (d : MemoryRegion) (left : ℕ) (c : MemoryRegion) (p : ℕ) (u : Tree) → leafNumbers d (chunkedTable (documentModify set clear) left c p (opened left u)) ≡ []
+  unfolding opened
+  open-none d left c p (leaf w) = ap (λ (t : Tree). leafNumbers d (chunkedTable (documentModify set clear) left c p t)) (fill-node left w) ∙ table-none d left c p (fillSlot left w)
+  open-none d left c p (node f) = table-none d left c p f
+
+  pub leaf-after : (left : ℕ) (c : MemoryRegion) (p : ℕ) (u : Tree) → leafNumbers c (downTo set clear left c p u) ≡ ownNumbers set clear (suc left) c u
+  leaf-after left c p (leaf w) = byBool (whole (3 - suc left) c)
+      (λ e. ap (leafNumbers c) (down-whole set clear left c p w e) ∙ leaf-number c w ∙ sym (own-whole left c w e))
+      (λ e. ap (leafNumbers c) (down-part set clear left c p w e) ∙ open-none c left c p (leaf w) ∙ sym (own-part left c w e))
+  leaf-after left c p (node f) = ap (leafNumbers c) (down-into set clear left c p f) ∙ open-none c left c p (node f) ∙ sym (own-none (suc left) c f)
+
+-- ---- what is gathered from a table
+
+pub at-slot : (i : ℕ) (f : Tree → Tree) (g : ℕ → Tree) → slotIn (atSlot i f (node g)) i ≡ f (g i)
+unfolding atSlot slotIn
+at-slot i f g = rw (eq-eqb i i refl)
+
+pub in-node : (g : ℕ → Tree) (i : ℕ) → slotIn (node g) i ≡ g i
+unfolding slotIn
+in-node g i = refl
+
+-- a table stays a table
+pub at-node : (i : ℕ) (f : Tree → Tree) (g : ℕ → Tree) → atSlot i f (node g) ≡ node (λ j. slotIn (atSlot i f (node g)) j)
+unfolding atSlot slotIn
+at-node i f g = refl
+
+pub at-others : (i j : ℕ) (f : Tree → Tree) (t : Tree) → j ≢ i → slotIn (atSlot i f t) j ≡ slotIn t j
+unfolding atSlot slotIn
+at-others i j f (leaf w) other = refl
+at-others i j f (node g) other = rw (ne-eqb j i other)
+
+pub gathered-both : (left : ℕ) (f g : MemoryRegion → Tree → List ℕ) (cs : List MemoryRegion) (t : Tree)
+    → length (gathered left (λ c u. f c u ++ g c u) cs t) ≡ length (gathered left f cs t) + length (gathered left g cs t)
+unfolding gathered
+gathered-both left f g [] t = refl
+gathered-both left f g (c ∷ cs) t =
+    let u : Tree = slotIn t (entryIndex (3 - left) (c .start .0)) in
+    let a = length-append (f c u ++ g c u) (gathered left (λ d v. f d v ++ g d v) cs t) in
+    let b = length-append (f c u) (g c u) in
+    let x = length-append (f c u) (gathered left f cs t) in
+    let y = length-append (g c u) (gathered left g cs t) in
+    omega (arith, gathered-both left f g cs t)
+
+pub gathered-none : (left : ℕ) (f : MemoryRegion → Tree → List ℕ) (cs : List MemoryRegion) (t : Tree)
+    → ((c : MemoryRegion) → f c (slotIn t (entryIndex (3 - left) (c .start .0))) ≡ []) → gathered left f cs t ≡ []
+unfolding gathered
+gathered-none left f [] t none = refl
+gathered-none left f (c ∷ cs) t none = ap₂ (λ (a b : List ℕ). a ++ b) (none c) (gathered-none left f cs t none)
+
+module _ (left q : ℕ) (m : Map) (low : left ≤ 3) where
+  -- it depends on the slots from a on
+  pub gathered-from : (f : MemoryRegion → Tree → List ℕ) (cs : List MemoryRegion) (a p : ℕ) (t u : Tree) → Pieces left q m a p cs
+      → ((j : ℕ) → a ≤ j → slotIn t j ≡ slotIn u j) → gathered left f cs t ≡ gathered left f cs u
+  unfolding gathered
+  gathered-from f [] a p t u all same = refl
+  gathered-from f (c ∷ cs) a p t u all same =
+      let i : ℕ = entryIndex (3 - left) (c .start .0) in
+      let at = index-slot left (c .start .0) low in
+      ap₂ (λ (x y : List ℕ). x ++ y) (ap (f c) (same i (omega (arith, all .0 .from))))
+      (gathered-from f cs (suc (slotAt left c)) (p + (c .end .0 - c .start .0)) t u (all .1) (λ j l. same j (omega (arith, all .0 .from))))
+
+  pub sweep-before : (f : MemoryRegion → ℕ → Tree → Tree) (cs : List MemoryRegion) (a p j : ℕ) (t : Tree) → Pieces left q m a p cs → j < a
+      → slotIn (sweep left f cs p t) j ≡ slotIn t j
+  unfolding sweep
+  sweep-before f [] a p j t all l = refl
+  sweep-before f (c ∷ cs) a p j t all l =
+      let i : ℕ = entryIndex (3 - left) (c .start .0) in
+      let at = index-slot left (c .start .0) low in
+      sweep-before f cs (suc (slotAt left c)) (p + (c .end .0 - c .start .0)) j (atSlot i (f c p) t) (all .1) (omega (arith, all .0 .from))
+      ∙ at-others i j (f c p) t (λ e. omega (arith, all .0 .from))
+
+  -- from a table after a sweep over the same chunks
+  pub gathered-after : (f : MemoryRegion → ℕ → Tree → Tree) (g g′ : MemoryRegion → Tree → List ℕ) → ((c : MemoryRegion) (p : ℕ) (u : Tree) → g c (f c p u) ≡ g′ c u)
+      → (cs : List MemoryRegion) (a p : ℕ) (v : ℕ → Tree) → Pieces left q m a p cs → gathered left g cs (sweep left f cs p (node v)) ≡ gathered left g′ cs (node v)
+  unfolding gathered sweep
+  gathered-after f g g′ each [] a p v all = refl
+  gathered-after f g g′ each (c ∷ cs) a p v all =
+      let i : ℕ = entryIndex (3 - left) (c .start .0) in
+      let p′ : ℕ = p + (c .end .0 - c .start .0) in
+      let index = index-slot left (c .start .0) low in
+      ap₂ (λ (x y : List ℕ). x ++ y)
+      (ap (g c) (sweep-before f cs (suc (slotAt left c)) p′ i (atSlot i (f c p) (node v)) (all .1) (omega arith) ∙ at-slot i (f c p) v) ∙ each c p (v i)
+      ∙ ap (g′ c) (sym (in-node v i)))
+      (ap (λ (t : Tree). gathered left g cs (sweep left f cs p′ t)) (at-node i (f c p) v)
+      ∙ gathered-after f g g′ each cs (suc (slotAt left c)) p′ (λ j. slotIn (atSlot i (f c p) (node v)) j) (all .1)
+      ∙ ap (gathered left g′ cs) (sym (at-node i (f c p) v))
+      ∙ gathered-from g′ cs (suc (slotAt left c)) p′ (atSlot i (f c p) (node v)) (node v) (all .1) (λ j l. at-others i j (f c p) (node v) (λ e. omega arith)))

@@ -1,0 +1,285 @@
+-- A modify of a table of a sound pool does on lists what the document's loop does on the table's tree, with no more tables than that needs: no split meets a
+-- full pool. Assumes nothing.
+use mathlib.Core.Path.{_≡_, refl, sym, ap, subst, subst₂, _∙_}
+use mathlib.Core.Bool.{true, false}
+use mathlib.Core.List.{List, [], _∷_}
+use mathlib.Core.Logic.{_⊎_, inl, inr, _≢_}
+use Prim.Native.Nat.{ℕ, zero, suc, _+_, _-_, _≤_, _<_}
+use native.Mathlib.Omega.{arith}
+use Rattle.laws.specs.Test.{byBool, eq-or}
+use Rattle.entry.specs.Word.{valid, edited}
+use Rattle.address_slot.specs.Slot.{entryIndex}
+use Rattle.region.specs.Region.{whole}
+use Rattle.region.specs.Chunks.{chunks}
+use Rattle.region.specs.declared.MemoryRegion.{MemoryRegion}
+use Rattle.pool.specs.State.{St, st, wordAt}
+use Rattle.pool.specs.Number.{free}
+use Rattle.pool.specs.declared.Handle.{Handle}
+use Rattle.map_rules.specs.declared.Map.{Map}
+use Rattle.map_count_spec.specs.Needed.{slot-below}
+use Rattle.modify_entry.specs.declared.Edit.{Edit}
+use Rattle.modify_entry.specs.Word.{editWord}
+use Rattle.modify_entry.specs.Each.{eachOf, eachChunk, chunkEdit}
+use Rattle.modify_entry.specs.Own.{Numbered, putNumber, Noted, noted, ownChunk, ownRange, own-same, own-changed}
+use Rattle.modify_range.specs.Range.{Work, work, own, ownWork, modifyRange, own-table, own-leaf, stepAt, modify-pages, modify-open, step-own, step-into}
+use Rattle.theory_forest.specs.Tree.{Tree, leaf}
+use Rattle.theory_forest.specs.Sound.{TableWord}
+use Rattle.theory_forest.specs.Keep.{slot-leaf}
+use Rattle.theory_sound.specs.Clauses.{levelAt}
+use Rattle.theory_sound.specs.Codec.{Placed, codecOf, view, word-in, treeFrom}
+use Rattle.theory_sound.specs.Step.{Stands}
+use Rattle.theory_tree.specs.Page.{child}
+use Rattle.theory_tree.specs.Visit.{opened, splits}
+use Rattle.theory_tree.specs.Fine.{Fine}
+use Rattle.theory_tree.specs.Shown.{FineTree}
+use Rattle.theory_tree.specs.Chunks.{sweep, chunkedTable}
+use Rattle.theory_tree.specs.Needed.{tallied, needed, neededTable}
+use Rattle.theory_tree.specs.DocumentModify.{documentModify}
+use Rattle.theory_map.specs.Leaf.{slot-fine, leaf-from}
+use Rattle.theory_map.specs.Stand.{Piece}
+use Rattle.theory_map.specs.Moves.{slotShows, Ready, Slotted, Worked, kept, stored, worked-ready, worked-twice}
+use Rattle.theory_map.specs.Pieces.{Area, slotAt, pieces}
+use Rattle.theory_map.specs.Down.{Holds, holds-table, holds-leaf, Opens, holds, opens}
+use Rattle.theory_map.specs.Loop.{through, loop}
+use Rattle.theory_modify.specs.Word.{Bits, table-stays, hole-stays, valid-edited, edited-stands}
+use Rattle.theory_modify.specs.Passes.{ownTo, downTo, own-valid, own-hole, own-node, down-whole, down-part, down-into, takes-part, takes-into, pages-pass, two-passes}
+
+-- ---- the document's loop on trees, for an edit of a table's region; p is a frame, which is not read
+
+abbrev pub editTable : Edit → ℕ → ℕ → Tree → Tree
+editTable e left p t = chunkedTable (documentModify (e .set) (e .clear)) left (e .region) p t
+
+abbrev pub editTakes : Edit → ℕ → ℕ → Tree → ℕ
+editTakes e left p t = neededTable (documentModify (e .set) (e .clear)) left (e .region) p t
+
+-- the region of an edit as a map's
+abbrev pub areaOf : Edit → ℕ → Map
+areaOf e p = record { region = e .region; frame = record { 0 = p }; flags = 0; blocks = false }
+
+-- the loop over the chunks
+pub through-of : {S : Type 0} (f : MemoryRegion → S → S) (cs : List MemoryRegion) (p : ℕ) (x : S) → through (λ c y z. f c z) cs p x ≡ eachOf f cs x
+unfolding through eachOf
+through-of f [] p x = refl
+through-of f (c ∷ cs) p x = through-of f cs (p + (c .end .0 - c .start .0)) (f c x)
+
+pub through-chunks : {S : Type 0} (level : ℕ) (f : MemoryRegion → S → S) (r : MemoryRegion) (p : ℕ) (x : S)
+    → through (λ c y z. f c z) (chunks level (r .start .0) (r .end .0)) p x ≡ eachChunk level f r x
+unfolding eachChunk
+through-chunks level f r p x = through-of f (chunks level (r .start .0) (r .end .0)) p x
+
+pub none-taken : (left : ℕ) (cs : List MemoryRegion) (p : ℕ) (t : Tree) → tallied left (λ c y u. 0) cs p t ≡ 0
+unfolding tallied
+none-taken left [] p t = refl
+none-taken left (c ∷ cs) p t = let z = none-taken left cs (p + (c .end .0 - c .start .0)) t in omega arith
+
+module _ {h : Handle} (placed : Placed h) where
+  -- ---- a table's own entries
+
+  module _ (left k : ℕ) (e : Edit) (ledger : List ℕ) (bits : Bits h e) (c : MemoryRegion) (n : Noted) (R : Ready placed (st (n .words) ledger) left k) where
+    abbrev s : St
+    s = st (n .words) ledger
+
+    abbrev i : ℕ
+    i = entryIndex (3 - left) (c .start .0)
+
+    abbrev w : ℕ
+    w = wordAt s k i
+
+    abbrev new : ℕ
+    new = editWord (3 - left) e w
+
+    abbrev t : Tree
+    t = slotShows h s left k i
+
+    abbrev Goal : Type 0
+    Goal = Slotted placed s (st (ownChunk (3 - left) k e c n .words) ledger) left k i (ownTo (e .set) (e .clear) t) 0
+
+    inside : i < 512
+    inside = slot-below (3 - left) (c .start .0)
+
+    stays : new ≡ w → ownTo (e .set) (e .clear) t ≡ t → Goal
+    stays same tree =
+        subst₂ (λ (x : Noted) (u : Tree). Slotted placed s (st (x .words) ledger) left k i u 0) (own-same (3 - left) k e c n refl refl same) (sym tree) (kept placed R i 0)
+
+    -- a leaf
+    module _ (old : ¬ (TableWord (levelAt s k) w)) (shows : t ≡ leaf w) where
+      fine : Fine left w
+      fine = subst (FineTree left) shows (slot-fine placed (R .pool) left k i (R .used) (R .low) inside)
+
+      leaf-edited : valid w ≡ true → Goal
+      leaf-edited v = go (eq-or new w)
+        where
+          is : new ≡ edited (e .set) (e .clear) w
+          is = valid-edited e w left (omega (arith, R .low)) fine v
+
+          tree : ownTo (e .set) (e .clear) t ≡ leaf new
+          tree = ap (ownTo (e .set) (e .clear)) shows ∙ own-valid (e .set) (e .clear) w v ∙ ap leaf (sym is)
+
+          go : (new ≡ w) ⊎ (new ≢ w) → Goal
+          go (inl same) = stays same (tree ∙ ap leaf same ∙ sym shows)
+          go (inr other) =
+              let l : Numbered = putNumber (e .live) _ (n .count) (n .list) in
+              subst₂ (λ (x : Noted) (u : Tree). Slotted placed s (st (x .words) ledger) left k i u 0)
+              (own-changed (3 - left) k e c n refl refl other refl {count = l .count} {list = l .list} refl) (sym tree)
+              (stored placed R i 0 new inside old
+              (subst (Stands h (levelAt s k)) (sym is)
+              (edited-stands e w h left (levelAt s k) bits (R .low) fine (leaf-from (R .pool) k i inside (R .used) old) v)))
+
+      leaf-works : Goal
+      leaf-works = byBool (valid w) leaf-edited
+          (λ v. stays (hole-stays e w (3 - left) v) (ap (ownTo (e .set) (e .clear)) shows ∙ own-hole (e .set) (e .clear) w v ∙ sym shows))
+
+  pub own-works : (left k : ℕ) (e : Edit) (ledger : List ℕ) (bits : Bits h e) (c : MemoryRegion) (n : Noted) (R : Ready placed (st (n .words) ledger) left k)
+      → Goal left k e ledger bits c n R
+  own-works zero k e ledger bits c n R =
+      let old : ¬ (TableWord (levelAt (st (n .words) ledger) k) (w 0 k e ledger bits c n R)) = λ table. omega (arith, R .low, table .0) in
+      leaf-works 0 k e ledger bits c n R old
+      (slot-leaf (codecOf h placed) (view (st (n .words) ledger)) 0 k (i 0 k e ledger bits c n R) (R .low)
+      (word-in (st (n .words) ledger) k (i 0 k e ledger bits c n R) (inside 0 k e ledger bits c n R)) old)
+  own-works (suc left) k e ledger bits c n R = go (holds placed R (i (suc left) k e ledger bits c n R) (inside (suc left) k e ledger bits c n R))
+    where
+      go : Holds placed (st (n .words) ledger) left k (i (suc left) k e ledger bits c n R) → Goal (suc left) k e ledger bits c n R
+      go (holds-table j r both leads shows) =
+          stays (suc left) k e ledger bits c n R (table-stays (3 - suc left) e _ (omega (arith, R .low)) both)
+          (ap (ownTo (e .set) (e .clear)) shows ∙ own-node (e .set) (e .clear) _ ∙ sym shows)
+      go (holds-leaf old other shows) = leaf-works (suc left) k e ledger bits c n R old shows
+
+  own-pass : (left q k p : ℕ) (e : Edit) (w : Work) → left ≤ 3 → Bits h e → Area left q (areaOf e p) → Ready placed (w .state) left k
+      → Worked placed (w .state) (ownWork (3 - left) k e w .state) left k
+      (sweep left (λ c x u. ownTo (e .set) (e .clear) u) (chunks (3 - left) (e .region .start .0) (e .region .end .0)) p (treeFrom h (w .state) left k)) 0
+  unfolding ownWork ownRange
+  own-pass left q k p e w low bits area R =
+      let t : Tree = treeFrom h (w .state) left k in
+      let cs : List MemoryRegion = chunks (3 - left) (e .region .start .0) (e .region .end .0) in
+      let none : tallied left (λ c x u. 0) cs p t ≡ 0 = none-taken left cs p t in
+      let n : Noted = noted (w .state .words) (w .list) (w .count) in
+      let W = loop placed (λ (x : Noted). st (x .words) (w .state .ledger)) (λ c x y. ownChunk (3 - left) k e c y) (λ c x u. ownTo (e .set) (e .clear) u) (λ c x u. 0)
+      left q k (areaOf e p) low (λ c x y piece ready enough. own-works left k e (w .state .ledger) bits c y ready) cs 0 p n (pieces left q (areaOf e p) low p (e .region) area) R
+      (omega arith) in
+      subst₂ (λ (x : Noted) (cost : ℕ). Worked placed (w .state) (st (x .words) (w .state .ledger)) left k (sweep left (λ c y u. ownTo (e .set) (e .clear) u) cs p t) cost)
+      (through-chunks (3 - left) (ownChunk (3 - left) k e) (e .region) p n) none W
+
+  -- ---- the chunks that go down
+
+  -- a modify of a table with `left` levels below its own does on lists what it does on the table's tree
+  abbrev pub Edits : ℕ → Type 0
+  Edits left = (q k p : ℕ) (e : Edit) (w : Work) → Bits h e → Area left q (areaOf e p) → Ready placed (w .state) left k → let t = treeFrom h (w .state) left k in
+      editTakes e left p t ≤ free (w .state .ledger)
+      → Worked placed (w .state) (modifyRange left h k e w .state) left k (editTable e left p t) (editTakes e left p t)
+
+  module _ (left q k : ℕ) (e : Edit) (bits : Bits h e) (edits : Edits left) (c : MemoryRegion) (p : ℕ) (x : Work) (piece : Piece (suc left) q (areaOf (chunkEdit e c) p))
+      (R : Ready placed (x .state) (suc left) k) where
+    abbrev level : ℕ
+    level = 3 - suc left
+
+    abbrev j : ℕ
+    j = entryIndex level (c .start .0)
+
+    abbrev y : ℕ
+    y = wordAt (x .state) k j
+
+    abbrev u : Tree
+    u = slotShows h (x .state) (suc left) k j
+
+    abbrev count : Tree → ℕ
+    count v = needed (documentModify (e .set) (e .clear)) (suc left) c p v
+
+    abbrev Down : Type 0
+    Down = Slotted placed (x .state) (stepAt level h k e c x .state) (suc left) k j (downTo (e .set) (e .clear) left c p u) (count u)
+
+    slot : j < 512
+    slot = slot-below level (c .start .0)
+
+    -- on in the table that is found
+    pub goes-down : (O : Opens placed (x .state) left k j) → own level c y ≡ false
+        → modifyRange left h (O .table) (chunkEdit e c) (work (O .state) (x .list) (x .count)) ≡ stepAt level h k e c x
+    goes-down O goes =
+        let last : 3 - (level + 1) ≡ left = omega (arith, R .low) in
+        ap (λ (d : ℕ). modifyRange d h (O .table) (chunkEdit e c) (work (O .state) (x .list) (x .count))) (sym last)
+        ∙ step-into h level k e c x refl goes (O .found) (O .table) refl
+
+    by-down : count u ≤ free (x .state .ledger) → own level c y ≡ false
+        → downTo (e .set) (e .clear) left c p u ≡ editTable (chunkEdit e c) left p (opened left u) → count u ≡ splits u + editTakes (chunkEdit e c) left p (opened left u) → Down
+    by-down room goes tree all =
+        let O = opens placed R j slot (omega arith) in
+        let fewer = O .room in
+        let w : Work = work (O .state) (x .list) (x .count) in
+        let W = edits q (O .table) p (chunkEdit e c) w (record { set = bits .set; clear = bits .clear }) (record { inside = piece .inside; room = piece .room }) (O .ready)
+        (subst (λ (v : Tree). editTakes (chunkEdit e c) left p v ≤ free (O .state .ledger)) (sym (O .shows)) (omega arith)) in
+        let W′ = subst (λ (v : Tree). Worked placed (O .state) (modifyRange left h (O .table) (chunkEdit e c) w .state) left (O .table)
+        (editTable (chunkEdit e c) left p v) (editTakes (chunkEdit e c) left p v)) (O .shows) W in
+        subst (λ (z : Work). Slotted placed (x .state) (z .state) (suc left) k j (downTo (e .set) (e .clear) left c p u) (count u)) (goes-down O goes)
+        (subst₂ (λ (v : Tree) (n : ℕ). Slotted placed (x .state) (modifyRange left h (O .table) (chunkEdit e c) w .state) (suc left) k j v n) (sym tree) (sym all) (O .back W′))
+
+    pub down-works : count u ≤ free (x .state .ledger) → Down
+    unfolding whole
+    down-works room = go (holds placed R j slot)
+      where
+        set : ℕ
+        set = e .set
+
+        clear : ℕ
+        clear = e .clear
+
+        go : Holds placed (x .state) left k j → Down
+        go (holds-table a r both leads shows) =
+            by-down room (sym (own-table level c y both))
+            (ap (downTo set clear left c p) shows ∙ down-into set clear left c p _ ∙ sym (ap (λ (v : Tree). editTable (chunkEdit e c) left p (opened left v)) shows))
+            (ap count shows ∙ takes-into set clear left c p _ ∙ sym (ap (λ (v : Tree). splits v + editTakes (chunkEdit e c) left p (opened left v)) shows))
+        go (holds-leaf old other shows) = byBool (whole level c)
+            (λ all. subst₂ (λ (z : Work) (v : Tree). Slotted placed (x .state) (z .state) (suc left) k j v (count u))
+            (step-own h level k e c x refl (sym (own-leaf level c y other) ∙ all)) (shows ∙ sym (ap (downTo set clear left c p) shows ∙ down-whole set clear left c p y all))
+            (kept placed R j (count u)))
+            (λ part. by-down room (sym (own-leaf level c y other) ∙ part)
+            (ap (downTo set clear left c p) shows ∙ down-part set clear left c p y part ∙ sym (ap (λ (v : Tree). editTable (chunkEdit e c) left p (opened left v)) shows))
+            (ap count shows ∙ takes-part set clear left c p y part ∙ sym (ap (λ (v : Tree). splits v + editTakes (chunkEdit e c) left p (opened left v)) shows)))
+
+  -- ---- a table
+
+  pub down-pass : (left q k p : ℕ) (e : Edit) (w : Work) → suc left ≤ 3 → Edits left → Bits h e → Area (suc left) q (areaOf e p) → Ready placed (w .state) (suc left) k
+      → let t = treeFrom h (w .state) (suc left) k in let cs = chunks (3 - suc left) (e .region .start .0) (e .region .end .0) in
+      editTakes e (suc left) p t ≤ free (w .state .ledger)
+      → Worked placed (w .state) (eachChunk (3 - suc left) (stepAt (3 - suc left) h k e) (e .region) w .state) (suc left) k
+      (sweep (suc left) (downTo (e .set) (e .clear) left) cs p t) (editTakes e (suc left) p t)
+  unfolding neededTable
+  down-pass left q k p e w low edits bits area R room =
+      let t : Tree = treeFrom h (w .state) (suc left) k in
+      let cs : List MemoryRegion = chunks (3 - suc left) (e .region .start .0) (e .region .end .0) in
+      let W = loop placed (λ (x : Work). x .state) (λ c x y. stepAt (3 - suc left) h k e c y) (downTo (e .set) (e .clear) left)
+      (λ c x v. needed (documentModify (e .set) (e .clear)) (suc left) c x v) (suc left) q k (areaOf e p) low
+      (λ c x y piece ready enough. down-works left (child q (slotAt (suc left) c)) k e bits edits c x y
+      (record { inside = piece .inside; some = piece .some; room = piece .room }) ready enough)
+      cs 0 p w (pieces (suc left) q (areaOf e p) low p (e .region) area) R room in
+      subst (λ (x : Work). Worked placed (w .state) (x .state) (suc left) k (sweep (suc left) (downTo (e .set) (e .clear) left) cs p t) (editTakes e (suc left) p t))
+      (through-chunks (3 - suc left) (stepAt (3 - suc left) h k e) (e .region) p w) W
+
+  edits-pages : Edits 0
+  unfolding neededTable
+  edits-pages q k p e w bits area R room =
+      let t : Tree = treeFrom h (w .state) 0 k in
+      let W = own-pass 0 q k p e w (omega arith) bits area R in
+      let W′ = subst₂ (λ (x : Work) (v : Tree). Worked placed (w .state) (x .state) 0 k v 0) (modify-pages 3 h k e w (omega arith) (omega arith))
+      (pages-pass (e .set) (e .clear) (e .region) p t) W in
+      record { work = W′ .work; same-tables = W′ .same-tables; same-words = W′ .same-words; spare = omega (arith, W′ .spare) }
+
+  edits-up : (left : ℕ) → suc left ≤ 3 → Edits left → Edits (suc left)
+  edits-up left low edits q k p e w bits area R room =
+      let level : ℕ = 3 - suc left in
+      let t : Tree = treeFrom h (w .state) (suc left) k in
+      let mid : Work = eachChunk level (stepAt level h k e) (e .region) w in
+      let D = down-pass left q k p e w low edits bits area R room in
+      let W = own-pass (suc left) q k p e mid low bits area (worked-ready placed R D) in
+      let cs : List MemoryRegion = chunks level (e .region .start .0) (e .region .end .0) in
+      let all = pieces (suc left) q (areaOf e p) low p (e .region) area in
+      let tree = ap (sweep (suc left) (λ c x u. ownTo (e .set) (e .clear) u) cs p) (D .work .tree) ∙ two-passes (e .set) (e .clear) (e .region) p t left q (areaOf e p) low all in
+      let up : 3 - level ≡ suc left = omega arith in
+      let is : ownWork level k e mid ≡ modifyRange (suc left) h k e w = modify-open level h k e w (omega arith) ∙ ap (λ (d : ℕ). modifyRange d h k e w) up in
+      let V′ = worked-twice placed R D W in
+      let cost : editTakes e (suc left) p t + 0 ≡ editTakes e (suc left) p t = omega arith in
+      subst (λ (x : Work). Worked placed (w .state) (x .state) (suc left) k (editTable e (suc left) p t) (editTakes e (suc left) p t)) is
+      (subst₂ (λ (v : Tree) (n : ℕ). Worked placed (w .state) (ownWork level k e mid .state) (suc left) k v n) tree cost V′)
+
+  -- A MODIFY OF A TABLE
+  pub range-edits : (left : ℕ) → left ≤ 3 → Edits left
+  range-edits zero low = edits-pages
+  range-edits (suc left) low = edits-up left low (range-edits left (omega arith))

@@ -1,0 +1,220 @@
+-- The splits that a survey counts are the new tables that the document's modify takes. Assumes nothing.
+use mathlib.Core.Path.{_≡_, refl, sym, ap, _∙_}
+use mathlib.Core.Bool.{true, false}
+use mathlib.Core.List.{List, [], _∷_}
+use Prim.Native.Nat.{ℕ, zero, suc, _+_, _-_, _≤_, _<_}
+use native.Mathlib.Omega.{arith}
+use lib.Dec.{eqb}
+use Rattle.laws.specs.Test.{byBool}
+use Rattle.entry.specs.Word.{kindOf, valid}
+use Rattle.entry.specs.Sub.{subOf, sub-leaf}
+use Rattle.entry.specs.declared.Kind.{Kind}
+use Rattle.entry.specs.declared.Kind.the-variants.{Table as table, Block, Page, Hole}
+use Rattle.entry.specs.declared.Sub.the-variants.{Table, Leaf}
+use Rattle.address_slot.specs.Slot.{entryIndex}
+use Rattle.region.specs.Region.{whole}
+use Rattle.region.specs.Chunks.{chunks}
+use Rattle.region.specs.declared.MemoryRegion.{MemoryRegion}
+use Rattle.pool.specs.State.{St, tables, wordAt}
+use Rattle.pool.specs.declared.Handle.{Handle}
+use Rattle.map_count_spec.specs.Needed.{slot-below}
+use Rattle.modify_entry.specs.declared.Edit.{Edit}
+use Rattle.modify_entry.specs.Word.{editWord}
+use Rattle.modify_entry.specs.Each.{eachOf, eachChunk, chunkEdit}
+use Rattle.modify_survey.specs.declared.Survey.{Survey}
+use Rattle.modify_survey.specs.House.{mayChange}
+use Rattle.modify_survey.specs.Find.{adding, splitsIn, breach, ifBlock, surveyPart, surveyWhole, surveyEntry, surveySub, surveyChunk, surveyRange, entry-whole, entry-part}
+use Rattle.theory_forest.specs.Tree.{Tree, leaf, node, treeAt-node}
+use Rattle.theory_sound.specs.Codec.{Placed, childOf, slotWord, treeFrom}
+use Rattle.theory_tree.specs.Word.{fillWord}
+use Rattle.theory_tree.specs.Visit.{opened, splits, counted, fillTree}
+use Rattle.theory_tree.specs.Needed.{slotIn, tallied, needed, neededTable}
+use Rattle.theory_tree.specs.Modify.{editRule}
+use Rattle.theory_tree.specs.DocumentModify.{documentModify}
+use Rattle.theory_map.specs.Moves.{slotShows, Ready, entered-ready}
+use Rattle.theory_map.specs.Need.{slot-fill}
+use Rattle.theory_map.specs.Down.{Holds, holds-table, holds-leaf, holds}
+use Rattle.theory_map.specs.Loop.{slot-of}
+use Rattle.theory_modify.specs.Passes.{takes-part, takes-into}
+use Rattle.theory_modify.specs.Range.{editTakes}
+
+-- ---- a number that each chunk adds to
+
+-- where each chunk adds what it counts in its slot, the chunks add the tally
+fold-tally : {S : Type 0} (m : S → ℕ) (f : MemoryRegion → S → S) (left : ℕ) (count : MemoryRegion → ℕ → Tree → ℕ) (t : Tree)
+    → ((c : MemoryRegion) (p : ℕ) (x : S) → m (f c x) ≡ m x + count c p (slotIn t (entryIndex (3 - left) (c .start .0))))
+    → (cs : List MemoryRegion) (p : ℕ) (x : S) → m (eachOf f cs x) ≡ m x + tallied left count cs p t
+unfolding eachOf tallied
+fold-tally m f left count t each [] p x = omega arith
+fold-tally m f left count t each (c ∷ cs) p x =
+    let p′ : ℕ = p + (c .end .0 - c .start .0) in
+    let here = each c p x in
+    let rest = fold-tally m f left count t each cs p′ (f c x) in
+    omega arith
+
+pub chunks-tally : {S : Type 0} (m : S → ℕ) (f : MemoryRegion → S → S) (left : ℕ) (count : MemoryRegion → ℕ → Tree → ℕ) (t : Tree)
+    → ((c : MemoryRegion) (p : ℕ) (x : S) → m (f c x) ≡ m x + count c p (slotIn t (entryIndex (3 - left) (c .start .0))))
+    → (r : MemoryRegion) (p : ℕ) (x : S) → m (eachChunk (3 - left) f r x) ≡ m x + tallied left count (chunks (3 - left) (r .start .0) (r .end .0)) p t
+unfolding eachChunk
+chunks-tally m f left count t each r p x = fold-tally m f left count t each (chunks (3 - left) (r .start .0) (r .end .0)) p x
+
+-- ---- an entry that is no table
+
+module _ (set clear : ℕ) where
+  edit-takes : (w n : ℕ) → counted (editRule set clear w) 0 n ≡ 0
+  unfolding editRule counted
+  edit-takes w n = byBool (valid w) (λ e. rw e) (λ e. rw e)
+
+  takes-whole : (left : ℕ) (c : MemoryRegion) (p w : ℕ) → whole (3 - suc left) c ≡ true → needed (documentModify set clear) (suc left) c p (leaf w) ≡ 0
+  unfolding needed documentModify
+  takes-whole left c p w e = rw e (edit-takes w _)
+
+  splits-open : (left : ℕ) (c : MemoryRegion) → whole (3 - suc left) c ≡ false → splitsIn (suc left) c ≡ eachChunk (3 - left) (adding (splitsIn left)) c 1
+  unfolding splitsIn
+  splits-open left c e = rw e
+
+  splits-none : (left : ℕ) (c : MemoryRegion) → whole (3 - suc left) c ≡ true → splitsIn (suc left) c ≡ 0
+  unfolding splitsIn
+  splits-none left c e = rw e
+
+  takes-fill : (left : ℕ) (c : MemoryRegion) (p w : ℕ) → whole (3 - suc left) c ≡ false
+      → needed (documentModify set clear) (suc left) c p (leaf w) ≡ 1 + neededTable (documentModify set clear) left c p (fillTree left w)
+  unfolding splits opened
+  takes-fill left c p w e = takes-part set clear left c p w e
+
+  pub leaf-takes : (left : ℕ) (c : MemoryRegion) (p w : ℕ) → left ≤ 3 → splitsIn left c ≡ needed (documentModify set clear) left c p (leaf w)
+  unfolding splitsIn needed neededTable adding
+  leaf-takes zero c p w low = refl
+  leaf-takes (suc left) c p w low = byBool (whole (3 - suc left) c)
+      (λ e. splits-none left c e ∙ sym (takes-whole left c p w e))
+      (λ e. splits-open left c e
+      ∙ chunks-tally (λ (n : ℕ). n) (adding (splitsIn left)) left (λ d y u. needed (documentModify set clear) left d y u) (fillTree left w)
+      (λ d y n. let i : ℕ = entryIndex (3 - left) (d .start .0) in
+      ap (λ (x : ℕ). n + x) (leaf-takes left d y (fillWord left w i) (omega arith)
+      ∙ ap (needed (documentModify set clear) left d y) (sym (slot-fill left w i (slot-below (3 - left) (d .start .0))))))
+      c p 1
+      ∙ sym (takes-fill left c p w e))
+
+pub takes-enter : (set clear left : ℕ) (c : MemoryRegion) (p : ℕ) (f : ℕ → Tree)
+    → needed (documentModify set clear) (suc left) c p (node f) ≡ neededTable (documentModify set clear) left c p (node f)
+unfolding splits opened
+takes-enter set clear left c p f =
+    let e : needed (documentModify set clear) (suc left) c p (node f) ≡ 0 + neededTable (documentModify set clear) left c p (node f) =
+    takes-into set clear left c p f in omega arith
+
+-- ---- what a survey of an entry adds
+
+breach-splits : (w : ℕ) (v : Survey) → breach w v .splits ≡ v .splits
+unfolding breach
+breach-splits w v = byBool (v .broken) (λ e. rw e) (λ e. rw e)
+
+block-splits : (k : Kind) (v x : Survey) → v .splits ≡ x .splits → ifBlock k v x .splits ≡ x .splits
+unfolding ifBlock
+block-splits table v x e = refl
+block-splits Block v x e = e
+block-splits Page v x e = refl
+block-splits Hole v x e = refl
+
+part-splits : (level : ℕ) (c : MemoryRegion) (w : ℕ) (v : Survey) → surveyPart level c w v .splits ≡ v .splits + splitsIn (3 - level) c
+unfolding surveyPart
+part-splits level c w v = block-splits (kindOf level w) _ _ (breach-splits w _)
+
+whole-splits : (h : Handle) (level : ℕ) (e : Edit) (w : ℕ) (v : Survey) → surveyWhole h level e w v .splits ≡ v .splits
+unfolding surveyWhole
+whole-splits h level e w v =
+    byBool (eqb (editWord level e w) w)
+    (λ a. rw a)
+    (λ a. byBool (mayChange h w (editWord level e w)) (λ b. rw (a, b)) (λ b. rw (a, b) (breach-splits w _)))
+
+page-takes : (set clear : ℕ) (c : MemoryRegion) (p : ℕ) (t : Tree) → needed (documentModify set clear) 0 c p t ≡ 0
+unfolding needed
+page-takes set clear c p t = refl
+
+entry-is-whole : (h : Handle) (level : ℕ) (e : Edit) (w : ℕ) (v : Survey) → whole level (e .region) ≡ true → surveyEntry h level e w v .splits ≡ surveyWhole h level e w v .splits
+entry-is-whole h level e w v q = ap (λ (x : Survey). x .splits) (sym (entry-whole h level e w v q))
+
+entry-is-part : (h : Handle) (level : ℕ) (e : Edit) (w : ℕ) (v : Survey) → whole level (e .region) ≡ false
+    → surveyEntry h level e w v .splits ≡ surveyPart level (e .region) w v .splits
+entry-is-part h level e w v q = ap (λ (x : Survey). x .splits) (sym (entry-part h level e w v q))
+
+entry-splits : (h : Handle) (left : ℕ) (e : Edit) (c : MemoryRegion) (p w : ℕ) (v : Survey) → left ≤ 3
+    → surveyEntry h (3 - left) (chunkEdit e c) w v .splits ≡ v .splits + needed (documentModify (e .set) (e .clear)) left c p (leaf w)
+entry-splits h left e c p w v low = go left low
+  where
+    part : (left : ℕ) → left ≤ 3 → whole (3 - left) c ≡ false
+        → surveyEntry h (3 - left) (chunkEdit e c) w v .splits ≡ v .splits + needed (documentModify (e .set) (e .clear)) left c p (leaf w)
+    part left low q =
+        let same : 3 - (3 - left) ≡ left = omega arith in
+        entry-is-part h (3 - left) (chunkEdit e c) w v q ∙ part-splits (3 - left) c w v
+        ∙ ap (λ (n : ℕ). v .splits + n) (ap (λ (d : ℕ). splitsIn d c) same ∙ leaf-takes (e .set) (e .clear) left c p w low)
+
+    all : (left : ℕ) → left ≤ 3 → whole (3 - left) c ≡ true → needed (documentModify (e .set) (e .clear)) left c p (leaf w) ≡ 0
+    all zero low q = page-takes (e .set) (e .clear) c p (leaf w)
+    all (suc left) low q = takes-whole (e .set) (e .clear) left c p w q
+
+    go : (left : ℕ) → left ≤ 3 → surveyEntry h (3 - left) (chunkEdit e c) w v .splits ≡ v .splits + needed (documentModify (e .set) (e .clear)) left c p (leaf w)
+    go left low = byBool (whole (3 - left) c)
+        (λ q. let z = all left low q in entry-is-whole h (3 - left) (chunkEdit e c) w v q ∙ whole-splits h (3 - left) (chunkEdit e c) w v
+        ∙ (let n : v .splits ≡ v .splits + needed (documentModify (e .set) (e .clear)) left c p (leaf w) = omega arith in n))
+        (part left low)
+
+-- ---- a table of a sound pool
+
+module _ (rec : ℕ → Edit → Survey → Survey) (h : Handle) (s : St) (level k : ℕ) (e : Edit) (c : MemoryRegion) (v : Survey) where
+  abbrev y : ℕ
+  y = wordAt s k (entryIndex level (c .start .0))
+
+  pub chunk-leaf : subOf (h .base .0) (tables s) level y ≡ Leaf → surveyChunk rec h s level k e c v ≡ surveyEntry h level (chunkEdit e c) y v
+  unfolding surveyChunk surveySub
+  chunk-leaf q = rw q
+
+  pub chunk-table : (j : ℕ) → subOf (h .base .0) (tables s) level y ≡ Table j → surveyChunk rec h s level k e c v ≡ rec j (chunkEdit e c) v
+  unfolding surveyChunk surveySub
+  chunk-table j q = rw q
+
+module _ {h : Handle} (placed : Placed h) where
+  abbrev Counts : ℕ → Type 0
+  Counts left = (k p : ℕ) (e : Edit) (s : St) (v : Survey) → Ready placed s left k
+      → surveyRange left h s k e v .splits ≡ v .splits + editTakes e left p (treeFrom h s left k)
+
+  chunk-takes : (left k : ℕ) (e : Edit) (s : St) → Ready placed s (suc left) k → Counts left → (c : MemoryRegion) (p : ℕ) (v : Survey)
+      → surveyChunk (λ j n x. surveyRange left h s j n x) h s (3 - suc left) k e c v .splits
+      ≡ v .splits + needed (documentModify (e .set) (e .clear)) (suc left) c p (slotShows h s (suc left) k (entryIndex (3 - suc left) (c .start .0)))
+  chunk-takes left k e s R counts c p v = go (holds placed R i inside)
+    where
+      i : ℕ
+      i = entryIndex (3 - suc left) (c .start .0)
+
+      inside : i < 512
+      inside = slot-below (3 - suc left) (c .start .0)
+
+      rec : ℕ → Edit → Survey → Survey
+      rec j n x = surveyRange left h s j n x
+
+      count : Tree → ℕ
+      count t = needed (documentModify (e .set) (e .clear)) (suc left) c p t
+
+      go : Holds placed s left k i → surveyChunk rec h s (3 - suc left) k e c v .splits ≡ v .splits + count (slotShows h s (suc left) k i)
+      go (holds-table j r both leads shows) =
+          ap (λ (x : Survey). x .splits) (chunk-table rec h s (3 - suc left) k e c v j leads)
+          ∙ counts j p (chunkEdit e c) s v (entered-ready placed R i inside r)
+          ∙ ap (λ (n : ℕ). v .splits + n) (ap (editTakes (chunkEdit e c) left p) (treeAt-node (childOf (h .base .0)) left (slotWord s) j)
+          ∙ sym (takes-enter (e .set) (e .clear) left c p _) ∙ ap count (sym shows))
+      go (holds-leaf old other shows) =
+          ap (λ (x : Survey). x .splits) (chunk-leaf rec h s (3 - suc left) k e c v (sym (sub-leaf (h .base .0) (tables s) (3 - suc left) _ (λ q. other (q .1)))))
+          ∙ entry-splits h (suc left) e c p _ v (omega (arith, R .low)) ∙ ap (λ (n : ℕ). v .splits + n) (ap count (sym shows))
+
+  -- THE SPLITS
+  pub survey-splits : (left : ℕ) → Counts left
+  unfolding surveyRange neededTable
+  survey-splits zero k p e s v R =
+      chunks-tally (λ (x : Survey). x .splits) _ 0 (λ c y u. needed (documentModify (e .set) (e .clear)) 0 c y u) (treeFrom h s 0 k)
+      (λ c y x. ap (λ (z : Survey). z .splits) (chunk-leaf _ h s 3 k e c x (sym (sub-leaf (h .base .0) (tables s) 3 _ (λ q. omega (arith, q .0)))))
+      ∙ entry-splits h 0 e c y _ x (omega arith)
+      ∙ ap (λ (n : ℕ). x .splits + n) (page-takes (e .set) (e .clear) c y _ ∙ sym (page-takes (e .set) (e .clear) c y _)))
+      (e .region) p v
+  survey-splits (suc left) k p e s v R =
+      chunks-tally (λ (x : Survey). x .splits) _ (suc left) (λ c y u. needed (documentModify (e .set) (e .clear)) (suc left) c y u) (treeFrom h s (suc left) k)
+      (λ c y x. chunk-takes left k e s R (survey-splits left) c y x
+      ∙ ap (λ (t : Tree). x .splits + needed (documentModify (e .set) (e .clear)) (suc left) c y t) (sym (slot-of h s (suc left) k (entryIndex (3 - suc left) (c .start .0)))))
+      (e .region) p v

@@ -1,0 +1,105 @@
+-- A call as document 01 runs it: for each chunk of the region, ascending, a rule; the frame rises by the chunk's length after each; where the rule goes
+-- down, the chunk's own chunks below. Over addresses and the chunks of `region`; `Sweep` proves that this is the
+-- visit of `Visit`. Assumes nothing.
+use mathlib.Core.Path.{_≡_, ap, _∙_}
+use mathlib.Core.Bool.{Bool, cond}
+use mathlib.Core.List.{List, [], _∷_}
+use Prim.Native.Nat.{ℕ, zero, suc, _+_, _*_, _-_, _/_, _%_, _≤_, _<_, min}
+use native.Mathlib.Omega.{arith}
+use lib.Dec.{eqb}
+use Rattle.laws.specs.Size.{sizeAt, down, size-pos}
+use Rattle.address_slot.specs.Slot.{entryLast, entryIndex, chunkEnd}
+use Rattle.region.specs.Chunks.{chunks, chunk-fits}
+use Rattle.region.specs.declared.MemoryRegion.{MemoryRegion}
+use Rattle.theory_forest.specs.Tree.{Tree, leaf, node}
+use Rattle.theory_tree.specs.Page.{span, span-size, entry-number, entry-start, first, child, slotOf, In, in-from, in-of, in-child}
+use Rattle.theory_tree.specs.Visit.{Rule, opened, obey}
+use Rattle.theory_tree.specs.Rules.{Map}
+
+-- ---- the loop
+
+-- slot i of a table changed
+unfoldable pub atSlot : ℕ → (Tree → Tree) → Tree → Tree
+atSlot i h (leaf w) = leaf w
+atSlot i h (node f) = node (λ j. cond (eqb j i) (h (f j)) (f j))
+
+-- `each` does a chunk, with its frame, to the entry; the table's entries have `left` levels below
+unfoldable pub sweep : ℕ → (MemoryRegion → ℕ → Tree → Tree) → List MemoryRegion → ℕ → Tree → Tree
+sweep left each [] frame t = t
+sweep left each (c ∷ cs) frame t =
+    sweep left each cs (frame + (c .end .0 - c .start .0)) (atSlot (entryIndex (3 - left) (c .start .0)) (each c frame) t)
+
+module _ (rules : ℕ → MemoryRegion → ℕ → Tree → Rule) where
+  -- the chunk c, with its frame, of an entry with `left` levels below
+  unfoldable pub chunked : ℕ → MemoryRegion → ℕ → Tree → Tree
+  chunked zero c frame t = obey (rules zero c frame t) t t
+  chunked (suc left) c frame t =
+      let below = sweep left (λ d p u. chunked left d p u) (chunks (3 - left) (c .start .0) (c .end .0)) frame (opened left t) in
+      obey (rules (suc left) c frame t) t below
+
+  -- the region c of a table whose entries have `left` levels below
+  unfoldable pub chunkedTable : ℕ → MemoryRegion → ℕ → Tree → Tree
+  chunkedTable left c frame t = sweep left (λ d p u. chunked left d p u) (chunks (3 - left) (c .start .0) (c .end .0)) frame t
+
+-- ---- in pages
+
+-- addresses as a call in pages
+abbrev pub inPages : ℕ → Bool → ℕ → ℕ → ℕ → Map
+inPages flags blocks start end frame = record { from = start / 4096; upto = end / 4096; frame = frame / 4096; flags = flags; blocks = blocks }
+
+-- whole pages, in a table whose first page is b and that has n pages
+pub record Inside (b n start end frame : ℕ) : Type 0 where
+  pub startPage : start % 4096 ≡ 0
+  pub endPage : end % 4096 ≡ 0
+  pub framePage : frame % 4096 ≡ 0
+  pub low : b ≤ start / 4096
+  pub high : end / 4096 ≤ b + n
+
+-- the slot of an address
+pub index-slot : (left a : ℕ) → left ≤ 3 → entryIndex (3 - left) a ≡ slotOf (a / 4096) left
+unfolding entryIndex slotOf
+index-slot left a h = ap (λ (x : ℕ). x % 512) (entry-number left a h)
+
+-- where the chunk from an address ends
+chunk-end : (left q s e : ℕ) → left ≤ 3 → In left q (s / 4096) → chunkEnd (3 - left) s e ≡ min e ((first left q + span left) * 4096)
+unfolding chunkEnd entryLast down
+chunk-end left q s e h at =
+    let size = span-size left h in
+    let pos = size-pos (3 - left) in
+    let start : s / sizeAt (3 - left) * sizeAt (3 - left) ≡ first left q * 4096 = entry-start left s h ∙ ap (λ (x : ℕ). first left x * 4096) at in
+    let last : s / sizeAt (3 - left) * sizeAt (3 - left) + (sizeAt (3 - left) - 1) + 1 ≡ (first left q + span left) * 4096 = omega arith in
+    ap (min e) last
+
+-- ---- the first chunk of a region in a table
+
+-- the region from s to e of table q starts with the chunk up to z, in slot i
+pub record Cut (left q s e p z i : ℕ) : Type 0 where
+  pub chunk : Inside (first left (child q i)) (span left) s z p
+  pub rest : Inside (first (suc left) q) (span (suc left)) z e (p + (z - s))
+  pub more : s < z
+  pub within : z ≤ e
+  pub ends : z / 4096 ≡ min (e / 4096) (first left (child q i) + span left)
+
+pub cut : (left q s e p : ℕ) → left ≤ 3 → s < e → Inside (first (suc left) q) (span (suc left)) s e p
+    → Cut left q s e p (chunkEnd (3 - left) s e) (slotOf (s / 4096) left)
+cut left q s e p low some I =
+    let r : ℕ = child q (slotOf (s / 4096) left) in
+    let in-table : In (suc left) q (s / 4096) = in-of (suc left) q (s / 4096) (I .low) (omega (arith, I .startPage, I .endPage, I .high)) in
+    let in-entry : In left r (s / 4096) = in-child left q (s / 4096) in-table in
+    let at = in-from left r (s / 4096) in-entry in
+    let end : chunkEnd (3 - left) s e ≡ min e ((first left r + span left) * 4096) = chunk-end left r s e low in-entry in
+    let fits = chunk-fits (3 - left) s e some in
+    let page : chunkEnd (3 - left) s e % 4096 ≡ 0 = omega (arith, I .endPage) in
+    record {
+      chunk = record { startPage = I .startPage; endPage = page; framePage = I .framePage; low = at .0; high = omega arith };
+      rest = record {
+        startPage = page;
+        endPage = I .endPage;
+        framePage = omega (arith, I .framePage, I .startPage);
+        low = omega (arith, I .low, fits .0);
+        high = I .high;
+      };
+      more = fits .0;
+      within = fits .1;
+      ends = omega arith;
+    }

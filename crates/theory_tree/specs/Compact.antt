@@ -1,0 +1,89 @@
+-- Compact on trees: no empty table is left below the root, and the tables that go are counted. Leans on `compactTree` of `theory_forest`. Assumes nothing.
+use mathlib.Core.Path.{_≡_, refl, sym, ap, subst, _∙_}
+use mathlib.Core.Bool.{true, false, true≢false}
+use Prim.Native.Nat.{ℕ, zero, suc, _+_, _<_}
+use native.Mathlib.Omega.{arith}
+use Rattle.laws.specs.Sum.{sum-none, tally}
+use Rattle.laws.specs.Test.{byBool}
+use Rattle.theory_forest.specs.Tree.{Tree, leaf, node, eachSlot}
+use Rattle.theory_forest.specs.Compact.{emptyTree, squash, compactTree}
+use Rattle.theory_forest.specs.CompactWalk.{empty-slot, not-empty, squash-leaf, squash-drops, squash-stays}
+use Rattle.theory_forest.specs.Nodes.{nodes}
+use Rattle.theory_tree.specs.Visit.{total}
+use Rattle.theory_tree.specs.Slots.{each-node, slot-after}
+use Rattle.theory_tree.specs.Count.{nodes-leaf, nodes-node, total-none, table-balance}
+
+-- ---- definitions
+
+-- the tables that go in one slot: those below, and the table itself if that leaves it empty
+unfoldable pub gone : (Tree → ℕ) → (Tree → Tree) → Tree → ℕ
+gone below rec (leaf w) = 0
+gone below rec (node f) = below (node f) + tally (emptyTree (rec (node f)))
+
+-- .. in a table with `left` levels below its own
+unfoldable pub emptied : ℕ → Tree → ℕ
+emptied zero t = 0
+emptied (suc left) t = total (λ i u. gone (λ v. emptied left v) (λ v. compactTree left v) u) t
+
+-- no table below this one is empty
+abbrev pub Tight : ℕ → Tree → Type 0
+Tight zero t = Unit {0}
+Tight (suc left) (leaf w) = Unit {0}
+Tight (suc left) (node f) = (i : ℕ) → i < 512 → (emptyTree (f i) ≡ false) × Tight left (f i)
+
+-- what is done with a slot
+abbrev squashed : ℕ → Tree → Tree
+squashed left u = squash (λ v. compactTree left v) u
+
+-- ---- an empty table
+
+-- it is one table
+empty-nodes : (c : Tree) → emptyTree c ≡ true → nodes c ≡ 1
+empty-nodes (leaf w) e = absurd (true≢false (sym e ∙ not-empty w))
+empty-nodes (node f) e = nodes-node f ∙ ap suc (sum-none 512 (λ i. nodes (f i)) (λ i l. ap nodes (empty-slot f e i l) ∙ nodes-leaf 0))
+
+-- ---- TABLES: as many as before, fewer by those that go
+
+slot-count : (left : ℕ) (u : Tree) → ((f : ℕ → Tree) → nodes (compactTree left (node f)) + emptied left (node f) ≡ nodes (node f))
+    → nodes (squashed left u) + gone (λ v. emptied left v) (λ v. compactTree left v) u ≡ nodes u + 0
+unfolding gone tally
+slot-count left (leaf w) ih = ap (λ (v : Tree). nodes v + 0) (squash-leaf (λ v. compactTree left v) w)
+slot-count left (node f) ih =
+    let b = ih f in
+    byBool (emptyTree (compactTree left (node f)))
+    (λ e. let one = empty-nodes (compactTree left (node f)) e in
+    let zero = ap nodes (squash-drops (λ v. compactTree left v) f e) ∙ nodes-leaf 0 in
+    rw e (omega arith))
+    (λ e. let same = ap nodes (squash-stays (λ v. compactTree left v) f e) in rw e (omega arith))
+
+pub compact-count : (left : ℕ) (t : Tree) → nodes (compactTree left t) + emptied left t ≡ nodes t
+unfolding compactTree emptied
+compact-count zero t = omega arith
+compact-count (suc left) t =
+    let balance : nodes (eachSlot (λ i u. squashed left u) t) + total (λ i u. gone (λ v. emptied left v) (λ v. compactTree left v) u) t ≡ nodes t + total (λ i u. 0) t =
+    table-balance (λ i u. squashed left u) (λ i u. gone (λ v. emptied left v) (λ v. compactTree left v) u) (λ i u. 0)
+    (λ i u. slot-count left u (λ f. compact-count left (node f))) t in
+    let none = total-none (λ i u. 0) (λ i u. refl) t in
+    omega arith
+
+-- ---- NO EMPTY TABLE IS LEFT below this one
+
+tight-leaf : (left w : ℕ) → Tight left (leaf w)
+tight-leaf zero w = tt
+tight-leaf (suc left) w = tt
+
+slot-tight : (left : ℕ) (u : Tree) → ((f : ℕ → Tree) → Tight left (compactTree left (node f))) → (emptyTree (squashed left u) ≡ false) × Tight left (squashed left u)
+slot-tight left (leaf w) ih =
+    (ap emptyTree (squash-leaf (λ v. compactTree left v) w) ∙ not-empty w, subst (Tight left) (sym (squash-leaf (λ v. compactTree left v) w)) (tight-leaf left w))
+slot-tight left (node f) ih = byBool (emptyTree (compactTree left (node f)))
+    (λ e. (ap emptyTree (squash-drops (λ v. compactTree left v) f e) ∙ not-empty 0, subst (Tight left) (sym (squash-drops (λ v. compactTree left v) f e)) (tight-leaf left 0)))
+    (λ e. (ap emptyTree (squash-stays (λ v. compactTree left v) f e) ∙ e, subst (Tight left) (sym (squash-stays (λ v. compactTree left v) f e)) (ih f)))
+
+pub compact-tight : (left : ℕ) (t : Tree) → Tight left (compactTree left t)
+unfolding compactTree eachSlot
+compact-tight zero t = tt
+compact-tight (suc left) (leaf w) = tt
+compact-tight (suc left) (node f) =
+    subst (Tight (suc left)) (sym (each-node (λ i u. squashed left u) f))
+    (λ i l. subst (λ (v : Tree). (emptyTree v ≡ false) × Tight left v) (sym (slot-after (λ i u. squashed left u) f i l))
+    (slot-tight left (f i) (λ g. compact-tight left (node g))))

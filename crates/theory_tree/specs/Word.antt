@@ -1,0 +1,135 @@
+-- Words in the entries of a tree: frame, flags, what a map writes, what a split fills.
+-- Assumes nothing.
+use mathlib.Core.Path.{_≡_, refl, ap, _∙_}
+use mathlib.Core.Bool.{true, false, cond}
+use Prim.Native.Nat.{ℕ, zero, suc, _+_, _*_, _/_, _%_, _^_, _<_}
+use native.Mathlib.Nat.{add-zero}
+use native.Mathlib.Omega.{arith}
+use Rattle.entry.specs.Word.{flagsOf, addressOf, address-back, flags-back, Plain, valid, plainFlags, valid-same, flags-low}
+use Rattle.theory_tree.specs.Page.{span}
+
+-- the frame that a word names: bits 12 to 47, the address / 4096
+unfoldable pub frameOf : ℕ → ℕ
+frameOf w = w / 4096 % 2 ^ 36
+
+-- a page has bit 1, a block hasn't
+unfoldable pub pageBit : ℕ → ℕ
+pageBit zero = 2
+pageBit (suc left) = 0
+
+-- document 01, "Putting down a map", rules 1 and 3: the frame with the flags and, for a page, bit 1; "otherwise the flags alone"
+unfoldable pub leafWord : ℕ → ℕ → ℕ → ℕ
+leafWord left frame flags = cond (valid flags) (frame * 4096 + flags + pageBit left) flags
+
+-- rule 5: what a split of the word w writes in slot i of the new table, whose entries have `left` levels below
+unfoldable pub fillWord : ℕ → ℕ → ℕ → ℕ
+fillWord left w i = leafWord left (frameOf w / span (suc left) * span (suc left) + i * span left) (flagsOf w)
+
+-- ---- frames and flags of a word
+
+pub frame-below : (w : ℕ) → frameOf w < 2 ^ 36
+unfolding frameOf
+frame-below w = omega arith
+
+pub frame-and-flags : (w : ℕ) → frameOf w * 4096 + flagsOf w ≡ w
+unfolding frameOf flagsOf
+frame-and-flags w = omega arith
+
+pub address-frame : (w : ℕ) → addressOf w ≡ frameOf w * 4096
+unfolding addressOf frameOf
+address-frame w = refl
+
+frame-address : (w p : ℕ) → addressOf w ≡ p * 4096 → frameOf w ≡ p
+unfolding addressOf frameOf
+frame-address w p e = omega arith
+
+pub flags-none : flagsOf 0 ≡ 0
+unfolding flagsOf
+flags-none = refl
+
+plain-bit : (w : ℕ) → plainFlags w + w / 2 % 2 * 2 ≡ flagsOf w
+unfolding plainFlags flagsOf
+plain-bit w =
+    let a : w % 4096 ≡ w / 4 % 1024 * 4 + w % 4 = omega arith in
+    let b : w % 4 ≡ w / 2 % 2 * 2 + w % 2 = omega arith in
+    omega arith
+
+pub plain-flags : (w : ℕ) → w / 2 % 2 ≡ 0 → plainFlags w ≡ flagsOf w
+unfolding plainFlags flagsOf
+plain-flags w clear = omega arith
+
+-- flags with bit 1 set are flags still
+flags-page : (f : ℕ) → flagsOf f ≡ f → f / 2 % 2 ≡ 0 → flagsOf (f + 2) ≡ f + 2
+unfolding flagsOf
+flags-page f bits clear =
+    let low : f % 4096 + 2 < 4096 = omega arith in
+    let a : (f + 2) % 4096 ≡ f % 4096 + 2 = omega arith in
+    let b : (f + 2) / 2 ^ 48 ≡ f / 2 ^ 48 = omega arith in
+    omega arith
+
+bit-even : (left : ℕ) → pageBit left / 2 * 2 ≡ pageBit left
+unfolding pageBit
+bit-even zero = refl
+bit-even (suc left) = refl
+
+-- a frame and flags fit a word
+frame-room : (p f : ℕ) → p < 2 ^ 36 → flagsOf f ≡ f → f < 2 ^ 64 → p * 4096 + f < 2 ^ 64
+unfolding flagsOf
+frame-room p f below bits wide = let hi : f / 2 ^ 48 < 2 ^ 16 = omega arith in omega arith
+
+module _ (f : ℕ) (F : Plain f) where
+  pub flags-frame : frameOf f ≡ 0
+  flags-frame = omega (arith, F .bits, frame-and-flags f)
+
+  pub flags-shown : plainFlags f ≡ f
+  flags-shown = plain-flags f (F .clear) ∙ F .bits
+
+  pub leaf-hole : (left p : ℕ) → valid f ≡ false → leafWord left p f ≡ f
+  unfolding leafWord
+  leaf-hole left p v = rw v
+
+  pub leaf-valid : (left p : ℕ) → valid f ≡ true → leafWord left p f ≡ p * 4096 + f + pageBit left
+  unfolding leafWord
+  leaf-valid left p v = rw v
+
+  bit-flags : (left : ℕ) → flagsOf (f + pageBit left) ≡ f + pageBit left
+  unfolding pageBit
+  bit-flags zero = flags-page f (F .bits) (F .clear)
+  bit-flags (suc left) = rw add-zero (F .bits)
+
+  bit-wide : (left : ℕ) → f + pageBit left < 2 ^ 64
+  unfolding pageBit
+  bit-wide zero = omega (arith, F .clear, F .wide)
+  bit-wide (suc left) = omega (arith, F .wide)
+
+  module _ (left p : ℕ) (below : p < 2 ^ 36) (v : valid f ≡ true) where
+    sum-word : leafWord left p f ≡ p * 4096 + (f + pageBit left)
+    sum-word = leaf-valid left p v ∙ (let e : p * 4096 + f + pageBit left ≡ p * 4096 + (f + pageBit left) = omega arith in e)
+
+    pub leaf-frame : frameOf (leafWord left p f) ≡ p
+    leaf-frame =
+        let a = address-back (p * 4096) (f + pageBit left) (omega arith) (omega arith) (bit-flags left) in
+        ap frameOf sum-word ∙ frame-address (p * 4096 + (f + pageBit left)) p a
+
+    pub leaf-flags : flagsOf (leafWord left p f) ≡ f + pageBit left
+    leaf-flags = ap flagsOf sum-word ∙ flags-back (p * 4096) (f + pageBit left) (omega arith) (omega arith) (bit-flags left)
+
+    pub leaf-bit : leafWord left p f / 2 % 2 ≡ pageBit left / 2
+    unfolding pageBit
+    leaf-bit = go left (leafWord left p f) leaf-flags (flags-low (leafWord left p f))
+      where
+        go : (k w : ℕ) → flagsOf w ≡ f + pageBit k → flagsOf w % 4 ≡ w % 4 → w / 2 % 2 ≡ pageBit k / 2
+        go zero w g l = omega (arith, F .clear)
+        go (suc k) w g l = omega (arith, F .clear)
+
+    pub leaf-plain : plainFlags (leafWord left p f) ≡ f
+    leaf-plain = omega (arith, plain-bit (leafWord left p f), leaf-flags, leaf-bit, bit-even left)
+
+    -- it is valid
+    pub leaf-true : valid (leafWord left p f) ≡ true
+    leaf-true =
+        let o : leafWord left p f % 2 ≡ f % 2 = omega (arith, flags-low (leafWord left p f), leaf-flags, bit-even left) in
+        valid-same (leafWord left p f) f o ∙ v
+
+    pub leaf-wide : leafWord left p f < 2 ^ 64
+    leaf-wide = let room = frame-room p (f + pageBit left) below (bit-flags left) (bit-wide left) in let e = sum-word in omega arith

@@ -1,2 +1,0 @@
--- What proofs of `walk` share.
-pub mod Tags

@@ -1,2 +1,0 @@
--- Look up: the whole call.
-pub mod LookUp

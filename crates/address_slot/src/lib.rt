@@ -3,14 +3,14 @@ ghost use mathlib.Core.Path.{_≡_};
 ghost use Rattle.address_slot.specs.Slot.{entryLast, entryIndex, chunkEnd};
 
 // The last address of the entry at this level that holds the address: no sum can pass 2^64.
-pub fn entry_last(va: u64, level: usize) -> u64
+pub fn entry_last(level: usize, va: u64) -> u64
     ensures { λ r. ⌜ r ≡ entryLast level va ⌝ }
 {
     va | (address::granularity_at_level(level) - 1)
 }
 
 // The slot of the entry at this level that holds the address.
-pub fn entry_index(va: u64, level: usize) -> usize
+pub fn entry_index(level: usize, va: u64) -> usize
     ensures { λ r. ⌜ r ≡ entryIndex level va ⌝ }
 {
     match level {
@@ -22,12 +22,12 @@ pub fn entry_index(va: u64, level: usize) -> usize
 }
 
 // Where the chunk that begins at start ends: with its entry, or with the region.
-pub fn chunk_end(start: u64, end: u64, level: usize) -> u64
+pub fn chunk_end(level: usize, start: u64, end: u64) -> u64
     ensures { λ r. ⌜ r ≡ chunkEnd level start end ⌝ }
 {
     if end == 0 {
         return 0;
     }
-    let last = entry_last(start, level);
+    let last = entry_last(level, start);
     if end - 1 <= last { end } else { last + 1 }
 }

@@ -27,39 +27,39 @@ pub record Ended (from level w : ℕ) : Type 0 where
   pub leaf : bits 1 0 w ≡ 3 → level ≡ 3
 
 module _ (base n : ℕ) (words : List ℕ) (va : ℕ) where
-  pub reach-ended : (left k : ℕ) {level w : ℕ} → left ≤ 3 → reachFrom base n words va left k ≡ at level w → Ended (3 - left) level w
+  pub reach-ended : (depth k : ℕ) {level w : ℕ} → depth ≤ 3 → reachFrom base n words va depth k ≡ at level w → Ended (3 - depth) level w
   unfolding reachFrom
   reach-ended zero k {level} h e = let q : 3 ≡ level = cc in record { below = omega arith; above = omega arith; leaf = λ z. omega arith }
-  reach-ended (suc left) k {level} {w} h e =
-      go (eqb-cases (bits 1 0 x) 3) (leb base (tableAddress x) && ltb (tableAddress x) (base + 4096 * n)) (reach-ended left ((tableAddress x - base) / 4096) (omega arith)) e
+  reach-ended (suc depth) k {level} {w} h e =
+      go (eqb-cases (bits 1 0 x) 3) (leb base (tableAddress x) && ltb (tableAddress x) (base + 4096 * n)) (reach-ended depth ((tableAddress x - base) / 4096) (omega arith)) e
     where
       x : ℕ
-      x = fetch words va (2 - left) k
+      x = fetch words va k (2 - depth)
 
       next : Reached
-      next = reachFrom base n words va left ((tableAddress x - base) / 4096)
+      next = reachFrom base n words va depth ((tableAddress x - base) / 4096)
 
       -- the test's value is put in before the case is taken
-      ends : (b c : Bool) → (next ≡ at level w → Ended (3 - left) level w) → (b ≡ false → bits 1 0 x ≢ 3) → cond b (cond c next away) (at (2 - left) x) ≡ at level w
-          → Ended (3 - suc left) level w
+      ends : (b c : Bool) → (next ≡ at level w → Ended (3 - depth) level w) → (b ≡ false → bits 1 0 x ≢ 3) → cond b (cond c next away) (at (2 - depth) x) ≡ at level w
+          → Ended (3 - suc depth) level w
       ends true true ih low q = let r = ih q in record { below = omega (arith, r .below); above = r .above; leaf = r .leaf }
       ends true false ih low q = absurd (let z : _≡_ {A = ℕ} 0 1 = cc in omega arith)
       ends false c ih low q =
-          let l : 2 - left ≡ level = cc in
+          let l : 2 - depth ≡ level = cc in
           let o : x ≡ w = cc in
           record { below = omega arith; above = omega arith; leaf = λ z. absurd (low refl (ap (bits 1 0) o ∙ z)) }
 
       go : ((bits 1 0 x ≡ 3) × (eqb (bits 1 0 x) 3 ≡ true)) ⊎ ((bits 1 0 x ≢ 3) × (eqb (bits 1 0 x) 3 ≡ false))
-          → (c : Bool) → (next ≡ at level w → Ended (3 - left) level w) → cond (eqb (bits 1 0 x) 3) (cond c next away) (at (2 - left) x) ≡ at level w
-          → Ended (3 - suc left) level w
+          → (c : Bool) → (next ≡ at level w → Ended (3 - depth) level w) → cond (eqb (bits 1 0 x) 3) (cond c next away) (at (2 - depth) x) ≡ at level w
+          → Ended (3 - suc depth) level w
       go (inl t) c ih q = ends true c ih (λ f. absurd (let z : _≡_ {A = Bool} true false = f in let y : _≡_ {A = ℕ} 0 1 = cc in omega arith)) (rw (t .1) at q)
       go (inr t) c ih q = ends false c ih (λ f. t .0) (rw (t .1) at q)
 
   -- level 3 leads nowhere
-  reach-away : (left k : ℕ) → reachFrom base n words va left k ≡ away → 0 < left
+  reach-away : (depth k : ℕ) → reachFrom base n words va depth k ≡ away → 0 < depth
   unfolding reachFrom
   reach-away zero k e = absurd (let z : _≡_ {A = ℕ} 0 1 = cc in omega arith)
-  reach-away (suc left) k e = omega arith
+  reach-away (suc depth) k e = omega arith
 
 -- a walk's answer: a hole between the root's level and 3, a block at levels 1 and 2, a page at level 3
 abbrev pub Within : ℕ → Walked → Type 0
@@ -93,36 +93,36 @@ same-above va vb above level h l e =
     ap (λ (s : ℕ). va / s) (larger above level h l) ∙ sym (div-div-eq-div-mul va (sizeAt level) entries) ∙ ap (λ (q : ℕ). q / entries) e
     ∙ div-div-eq-div-mul vb (sizeAt level) entries ∙ ap (λ (s : ℕ). vb / s) (sym (larger above level h l))
 
-pub same-fetch : (words : List ℕ) (va vb above level k : ℕ) → above ≤ level → level ≤ 3 → va / sizeAt level ≡ vb / sizeAt level
-    → fetch words va above k ≡ fetch words vb above k
+pub same-fetch : (words : List ℕ) (va vb above k level : ℕ) → above ≤ level → level ≤ 3 → va / sizeAt level ≡ vb / sizeAt level
+    → fetch words va k above ≡ fetch words vb k above
 unfolding fetch
-same-fetch words va vb above level k h l e =
+same-fetch words va vb above k level h l e =
     ap (λ (i : ℕ). getD words (512 * k + i) 0) (index-is above va ∙ ap (λ (q : ℕ). q % 512) (same-above va vb above level h l e) ∙ sym (index-is above vb))
 
 -- what one address of an entry reaches, each does
 module _ (base n : ℕ) (words : List ℕ) (va vb : ℕ) where
-  pub reach-same : (left k : ℕ) {level w : ℕ} → left ≤ 3 → va / sizeAt level ≡ vb / sizeAt level → reachFrom base n words va left k ≡ at level w
-      → reachFrom base n words vb left k ≡ at level w
+  pub reach-same : (depth k : ℕ) {level w : ℕ} → depth ≤ 3 → va / sizeAt level ≡ vb / sizeAt level → reachFrom base n words va depth k ≡ at level w
+      → reachFrom base n words vb depth k ≡ at level w
   unfolding reachFrom
   reach-same zero k {level} {w} h e q =
       let l : 3 ≡ level = cc in
-      ap (at 3) (sym (same-fetch words va vb 3 level k (omega arith) (omega arith) e)) ∙ q
-  reach-same (suc left) k {level} {w} h e q =
-      let d = reach-ended base n words va (suc left) k h q in
-      let same = same-fetch words va vb (2 - left) level k (omega (arith, d .below)) (d .above) e in
-      sym (ap on same) ∙ go (eqb (bits 1 0 x) 3) (leb base (tableAddress x) && ltb (tableAddress x) (base + 4096 * n)) (reach-same left ((tableAddress x - base) / 4096) (omega arith) e) q
+      ap (at 3) (sym (same-fetch words va vb 3 k level (omega arith) (omega arith) e)) ∙ q
+  reach-same (suc depth) k {level} {w} h e q =
+      let d = reach-ended base n words va (suc depth) k h q in
+      let same = same-fetch words va vb (2 - depth) k level (omega (arith, d .below)) (d .above) e in
+      sym (ap on same) ∙ go (eqb (bits 1 0 x) 3) (leb base (tableAddress x) && ltb (tableAddress x) (base + 4096 * n)) (reach-same depth ((tableAddress x - base) / 4096) (omega arith) e) q
     where
       x : ℕ
-      x = fetch words va (2 - left) k
+      x = fetch words va k (2 - depth)
 
       on : ℕ → Reached
       on y =
-          cond (eqb (bits 1 0 y) 3) (cond (leb base (tableAddress y) && ltb (tableAddress y) (base + 4096 * n)) (reachFrom base n words vb left ((tableAddress y - base) / 4096)) away)
-          (at (2 - left) y)
+          cond (eqb (bits 1 0 y) 3) (cond (leb base (tableAddress y) && ltb (tableAddress y) (base + 4096 * n)) (reachFrom base n words vb depth ((tableAddress y - base) / 4096)) away)
+          (at (2 - depth) y)
 
-      go : (b c : Bool) → (reachFrom base n words va left ((tableAddress x - base) / 4096) ≡ at level w → reachFrom base n words vb left ((tableAddress x - base) / 4096) ≡ at level w)
-          → cond b (cond c (reachFrom base n words va left ((tableAddress x - base) / 4096)) away) (at (2 - left) x) ≡ at level w
-          → cond b (cond c (reachFrom base n words vb left ((tableAddress x - base) / 4096)) away) (at (2 - left) x) ≡ at level w
+      go : (b c : Bool) → (reachFrom base n words va depth ((tableAddress x - base) / 4096) ≡ at level w → reachFrom base n words vb depth ((tableAddress x - base) / 4096) ≡ at level w)
+          → cond b (cond c (reachFrom base n words va depth ((tableAddress x - base) / 4096)) away) (at (2 - depth) x) ≡ at level w
+          → cond b (cond c (reachFrom base n words vb depth ((tableAddress x - base) / 4096)) away) (at (2 - depth) x) ≡ at level w
       go true true ih r = ih r
       go true false ih r = r
       go false c ih r = r

@@ -50,10 +50,10 @@ pub slot-below : (level va : ℕ) → index level va < 512
 slot-below level va = rw (index-is level va) (let h : va / sizeAt level % 512 < 512 = omega arith in h)
 
 -- read off the slots
-pub fetch-is : (words : List ℕ) (va level k : ℕ) {slots : List ℕ} → slots ≡ slotsOf va → level ≤ 3
-    → getD words (512 * k + getD slots level 0) 0 ≡ fetch words va level k
+pub fetch-is : (words : List ℕ) (va k level : ℕ) {slots : List ℕ} → slots ≡ slotsOf va → level ≤ 3
+    → getD words (512 * k + getD slots level 0) 0 ≡ fetch words va k level
 unfolding fetch
-fetch-is words va level k e h = rw (e, slots-at level va h)
+fetch-is words va k level e h = rw (e, slots-at level va h)
 
 pub low-bits : (w : ℕ) → bits 1 0 w ≡ w % 4
 unfolding bits
@@ -123,15 +123,15 @@ module _ (level w va : ℕ) where
 
 -- ---- on from table k, by where its word leads
 
-module _ (base n : ℕ) (words : List ℕ) (va level k : ℕ) (here : level ≤ 3) where
+module _ (base n : ℕ) (words : List ℕ) (va k level : ℕ) (here : level ≤ 3) where
   -- a table leads on; a word that is no table ends the walk
   unfoldable pub follow : Sub → Reached
   follow (Table j) = reachFrom base n words va (3 - (level + 1)) j
   follow Outside = away
-  follow Leaf = at level (fetch words va level k)
+  follow Leaf = at level (fetch words va k level)
 
   -- above the last level
-  reach-open : level < 3 → let w = fetch words va level k in let a = addressOf w in
+  reach-open : level < 3 → let w = fetch words va k level in let a = addressOf w in
       reachFrom base n words va (3 - level) k
       ≡ cond (eqb (w % 4) 3) (cond (leb base a && ltb a (base + 4096 * n)) (reachFrom base n words va (3 - (level + 1)) ((a - base) / 4096)) away) (at level w)
   unfolding reachFrom
@@ -140,16 +140,16 @@ module _ (base n : ℕ) (words : List ℕ) (va level k : ℕ) (here : level ≤ 
       let same : 2 - (3 - (level + 1)) ≡ level = omega arith in
       rw (up, same, low-bits, table-address)
 
-  reach-last : level ≡ 3 → reachFrom base n words va (3 - level) k ≡ at level (fetch words va level k)
+  reach-last : level ≡ 3 → reachFrom base n words va (3 - level) k ≡ at level (fetch words va k level)
   unfolding reachFrom
   reach-last e = rw e
 
-  pub reach-sub : reachFrom base n words va (3 - level) k ≡ follow (subOf base n level (fetch words va level k))
+  pub reach-sub : reachFrom base n words va (3 - level) k ≡ follow (subOf base n level (fetch words va k level))
   unfolding follow
   reach-sub = go (eq-or level 3) (eq-or (w % 4) 3) (le-or base a) (le-or n ((a - base) / 4096))
     where
       w : ℕ
-      w = fetch words va level k
+      w = fetch words va k level
 
       a : ℕ
       a = addressOf w
@@ -166,7 +166,7 @@ module _ (base n : ℕ) (words : List ℕ) (va level k : ℕ) (here : level ≤ 
           reach-open (omega arith)
           ∙ rw (low, le-leb base a from, lt-ltb a (base + 4096 * n) (omega arith)) (ap follow (sub-in base n level w (omega arith) low from to))
 
-  module _ {w : ℕ} (is : w ≡ fetch words va level k) where
+  module _ {w : ℕ} (is : w ≡ fetch words va k level) where
     chosen : (x : Sub) → subOf base n level w ≡ x → reachFrom base n words va (3 - level) k ≡ follow x
     chosen x e = reach-sub ∙ ap follow (ap (subOf base n level) (sym is) ∙ e)
 

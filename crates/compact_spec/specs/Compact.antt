@@ -39,12 +39,12 @@ compactSub rec k i Outside s = s
 compactSub rec k i Leaf s = s
 
 unfoldable pub compactEntry : (ℕ → St → St) → Handle → ℕ → ℕ → ℕ → St → St
-compactEntry rec h level k i s = compactSub rec k i (subOf (h .base .0) (tables s) level (wordAt s k i)) s
+compactEntry rec h k level i s = compactSub rec k i (subOf (h .base .0) (tables s) level (wordAt s k i)) s
 
--- the entries of table k, ascending, with `left` levels below its own
+-- the entries of table k, ascending, with `depth` levels below its own
 unfoldable pub compactTable : ℕ → Handle → ℕ → St → St
 compactTable zero h k s = s
-compactTable (suc left) h k s = iter (compactEntry (λ j t. compactTable left h j t) h (3 - suc left) k) 512 s
+compactTable (suc depth) h k s = iter (compactEntry (λ j t. compactTable depth h j t) h k (3 - suc depth)) 512 s
 
 -- ---- laws: one for each way through the code
 
@@ -69,33 +69,33 @@ module _ (k i j : ℕ) (s : St) where
   unfolding releaseEmpty
   release-freed e = rw e
 
-module _ (rec : ℕ → St → St) (h : Handle) (level k i : ℕ) (s : St) {x : Sub} (is : x ≡ subOf (h .base .0) (tables s) level (wordAt s k i)) where
-  chosen : (y : Sub) → x ≡ y → compactSub rec k i y s ≡ compactEntry rec h level k i s
+module _ (rec : ℕ → St → St) (h : Handle) (k level i : ℕ) (s : St) {x : Sub} (is : x ≡ subOf (h .base .0) (tables s) level (wordAt s k i)) where
+  chosen : (y : Sub) → x ≡ y → compactSub rec k i y s ≡ compactEntry rec h k level i s
   unfolding compactEntry
   chosen y e = ap (λ (z : Sub). compactSub rec k i z s) (sym e ∙ is)
 
-  pub entry-table : (j : ℕ) → x ≡ Table j → releaseEmpty k i j (rec j s) ≡ compactEntry rec h level k i s
+  pub entry-table : (j : ℕ) → x ≡ Table j → releaseEmpty k i j (rec j s) ≡ compactEntry rec h k level i s
   unfolding compactSub
   entry-table j e = chosen (Table j) e
 
-  pub entry-outside : x ≡ Outside → s ≡ compactEntry rec h level k i s
+  pub entry-outside : x ≡ Outside → s ≡ compactEntry rec h k level i s
   unfolding compactSub
   entry-outside e = chosen Outside e
 
-  pub entry-leaf : x ≡ Leaf → s ≡ compactEntry rec h level k i s
+  pub entry-leaf : x ≡ Leaf → s ≡ compactEntry rec h k level i s
   unfolding compactSub
   entry-leaf e = chosen Leaf e
 
-pub compact-down : (level : ℕ) (h : Handle) (k : ℕ) (s : St) → level < 3
-    → iter (compactEntry (λ j t. compactTable (3 - (level + 1)) h j t) h level k) 512 s ≡ compactTable (3 - level) h k s
+pub compact-down : (h : Handle) (k level : ℕ) (s : St) → level < 3
+    → iter (compactEntry (λ j t. compactTable (3 - (level + 1)) h j t) h k level) 512 s ≡ compactTable (3 - level) h k s
 unfolding compactTable
-compact-down level h k s low =
+compact-down h k level s low =
     let e : suc (3 - (level + 1)) ≡ 3 - level = omega arith in
     let q : level ≡ 3 - suc (3 - (level + 1)) = omega arith in
-    ap (λ (l : ℕ). iter (compactEntry (λ j t. compactTable (3 - (level + 1)) h j t) h l k) 512 s) q ∙ ap (λ (d : ℕ). compactTable d h k s) e
+    ap (λ (l : ℕ). iter (compactEntry (λ j t. compactTable (3 - (level + 1)) h j t) h k l) 512 s) q ∙ ap (λ (d : ℕ). compactTable d h k s) e
 
-pub compact-last : (level : ℕ) (h : Handle) (k : ℕ) (s : St) → 3 ≤ level → s ≡ compactTable (3 - level) h k s
+pub compact-last : (h : Handle) (k level : ℕ) (s : St) → 3 ≤ level → s ≡ compactTable (3 - level) h k s
 unfolding compactTable
-compact-last level h k s high =
+compact-last h k level s high =
     let e : 0 ≡ 3 - level = omega arith in
     ap (λ (d : ℕ). compactTable d h k s) e

@@ -102,9 +102,9 @@ pub sub-below : (base n level w k : ℕ) → subOf base n level w ≡ Table k �
 sub-below base n level w k e = sub-found base n level w k e .below
 
 -- the link of a table of the pool leads to it
-pub sub-link : (base n level k : ℕ) → level < 3 → base % 4096 ≡ 0 → base + 4096 * n ≤ 2 ^ 48 → k < n → subOf base n level (linkOf base k) ≡ Table k
+pub sub-link : (base n k level : ℕ) → level < 3 → base % 4096 ≡ 0 → base + 4096 * n ≤ 2 ^ 48 → k < n → subOf base n level (linkOf base k) ≡ Table k
 unfolding linkOf
-sub-link base n level k h pages below l =
+sub-link base n k level h pages below l =
     let a = link-address base k pages (omega arith) in
     let place : (addressOf (linkOf base k) - base) / 4096 ≡ k = omega arith in
     sym (sub-in base n level (linkOf base k) h (link-low base k pages (omega arith)) (omega arith) (omega arith)) ∙ ap Table place

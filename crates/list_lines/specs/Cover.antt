@@ -56,59 +56,59 @@ in-entry level s a l u =
 
 module _ (base n : ℕ) (words : List ℕ) where
   -- the line lies in one entry of its level, and at every address of it the walk ends in its word, at its level, unless it leaves the pool
-  pub record Meets (left k : ℕ) (l : Line) : Type 0 where
+  pub record Meets (depth k : ℕ) (l : Line) : Type 0 where
     pub entry : (a : ℕ) → l .start ≤ a → a < l .end → a / sizeAt (l .level) ≡ l .start / sizeAt (l .level)
-    pub meets : (a : ℕ) → l .start ≤ a → a < l .end → reachFrom base n words a left k ≢ away → reachFrom base n words a left k ≡ at (l .level) (l .word)
+    pub meets : (a : ℕ) → l .start ≤ a → a < l .end → reachFrom base n words a depth k ≢ away → reachFrom base n words a depth k ≡ at (l .level) (l .word)
 
   -- one chunk of table k
-  module _ (level k : ℕ) (here : level ≤ 3)
+  module _ (k level : ℕ) (here : level ≤ 3)
       (below : (j : ℕ) (r : MemoryRegion) → level < 3 → r .start .0 ≤ r .end .0
       → Covers (Meets (3 - (level + 1)) j) (r .end .0) (r .start .0) (linesFrom base n words (3 - (level + 1)) j r))
       (r : MemoryRegion) (some : r .start .0 < r .end .0) (within : r .end .0 ≤ entryLast level (r .start .0) + 1) where
     abbrev w : ℕ
-    w = fetch words (r .start .0) level k
+    w = fetch words (r .start .0) k level
 
-    same : (a : ℕ) → r .start .0 ≤ a → a < r .end .0 → w ≡ fetch words a level k
-    same a l u = same-fetch words (r .start .0) a level level k (omega arith) here (sym (in-entry level (r .start .0) a l (omega arith)))
+    same : (a : ℕ) → r .start .0 ≤ a → a < r .end .0 → w ≡ fetch words a k level
+    same a l u = same-fetch words (r .start .0) a level k level (omega arith) here (sym (in-entry level (r .start .0) a l (omega arith)))
 
     one : ((a : ℕ) → r .start .0 ≤ a → a < r .end .0 → reachFrom base n words a (3 - level) k ≢ away → reachFrom base n words a (3 - level) k ≡ at level w)
         → Covers (Meets (3 - level) k) (r .end .0) (r .start .0) (line r w level ∷ [])
     one h = next refl some (omega arith) (record { entry = λ a l u. in-entry level (r .start .0) a l (omega arith); meets = h }) (done refl)
 
-    chunk-covers : (x : Sub) → subOf base n level w ≡ x → Covers (Meets (3 - level) k) (r .end .0) (r .start .0) (linesAt base n words level k r)
+    chunk-covers : (x : Sub) → subOf base n level w ≡ x → Covers (Meets (3 - level) k) (r .end .0) (r .start .0) (linesAt base n words k level r)
     chunk-covers (Table j) e =
-        rw (lines-table base n words level k r refl refl j e)
+        rw (lines-table base n words k level r refl refl j e)
         (covers-map {from = r .start .0} (omega arith) (λ l from to p. record {
           entry = p .entry;
           meets = λ a s u stays.
-              let on = reach-table base n words a level k here (same a (omega arith) (omega arith)) j e in
+              let on = reach-table base n words a k level here (same a (omega arith) (omega arith)) j e in
               on ∙ p .meets a s u (λ q. stays (on ∙ q));
         })
         (below j r (sub-found base n level w j e .high) (omega arith)))
     chunk-covers Outside e =
-        rw (lines-other base n words level k r refl refl (inl e))
-        (one (λ a l u stays. absurd (stays (reach-outside base n words a level k here (same a l u) e))))
+        rw (lines-other base n words k level r refl refl (inl e))
+        (one (λ a l u stays. absurd (stays (reach-outside base n words a k level here (same a l u) e))))
     chunk-covers Leaf e =
-        rw (lines-other base n words level k r refl refl (inr e))
-        (one (λ a l u stays. reach-leaf base n words a level k here (same a l u) e))
+        rw (lines-other base n words k level r refl refl (inr e))
+        (one (λ a l u stays. reach-leaf base n words a k level here (same a l u) e))
 
-  region-covers : (level k : ℕ) (here : level ≤ 3)
+  region-covers : (k level : ℕ) (here : level ≤ 3)
       → ((j : ℕ) (r : MemoryRegion) → level < 3 → r .start .0 ≤ r .end .0
       → Covers (Meets (3 - (level + 1)) j) (r .end .0) (r .start .0) (linesFrom base n words (3 - (level + 1)) j r))
       → (r : MemoryRegion) → r .start .0 ≤ r .end .0 → Covers (Meets (3 - level) k) (r .end .0) (r .start .0) (linesFrom base n words (3 - level) k r)
-  region-covers level k here below r l =
-      rw (lines-each base n words level k r here)
-      (each-covers (linesAt base n words level k)
-      (λ q some within. chunk-covers level k here below q some within (subOf base n level (fetch words (q .start .0) level k)) refl) l (chunks-tile level (r .start .0) (r .end .0)))
+  region-covers k level here below r l =
+      rw (lines-each base n words k level r here)
+      (each-covers (linesAt base n words k level)
+      (λ q some within. chunk-covers k level here below q some within (subOf base n level (fetch words (q .start .0) k level)) refl) l (chunks-tile level (r .start .0) (r .end .0)))
 
   -- the lines of a region in table k, for any words
-  pub lines-cover : (left k : ℕ) (r : MemoryRegion) → left ≤ 3 → r .start .0 ≤ r .end .0
-      → Covers (Meets left k) (r .end .0) (r .start .0) (linesFrom base n words left k r)
-  lines-cover zero k r h l = region-covers 3 k (omega arith) (λ j q low m. absurd (omega arith)) r l
-  lines-cover (suc left) k r h l =
-      let same : 3 - (2 - left) ≡ suc left = omega arith in
-      let one : 3 - (2 - left + 1) ≡ left = omega arith in
-      rw same at (region-covers (2 - left) k (omega arith) (λ j q low m. rw one (lines-cover left j q (omega arith) m)) r l)
+  pub lines-cover : (depth k : ℕ) (r : MemoryRegion) → depth ≤ 3 → r .start .0 ≤ r .end .0
+      → Covers (Meets depth k) (r .end .0) (r .start .0) (linesFrom base n words depth k r)
+  lines-cover zero k r h l = region-covers k 3 (omega arith) (λ j q low m. absurd (omega arith)) r l
+  lines-cover (suc depth) k r h l =
+      let same : 3 - (2 - depth) ≡ suc depth = omega arith in
+      let one : 3 - (2 - depth + 1) ≡ depth = omega arith in
+      rw same at (region-covers k (2 - depth) (omega arith) (λ j q low m. rw one (lines-cover depth j q (omega arith) m)) r l)
 
 -- the lines that `list` gives
 pub list-covers : (h : Handle) (s : St) (r : MemoryRegion) → h .level ≤ 3 → r .start .0 ≤ r .end .0

@@ -56,42 +56,42 @@ subLines Leaf below l = l ∷ []
 module _ (base n : ℕ) (words : List ℕ) where
   -- the lines of one chunk in table k, which stands at this level; `below` are those of a table one level down
   unfoldable pub chunkLines : (ℕ → MemoryRegion → List Line) → ℕ → ℕ → MemoryRegion → List Line
-  chunkLines below level k r =
-      let w = fetch words (r .start .0) level k in
+  chunkLines below k level r =
+      let w = fetch words (r .start .0) k level in
       subLines (subOf base n level w) (λ j. below j r) (line r w level)
 
   -- the lines of the region r in table k, with so many levels below its own: its chunks, ascending. At level 3 each entry is one line.
   unfoldable pub linesFrom : ℕ → ℕ → MemoryRegion → List Line
-  linesFrom zero k r = each (λ q. line q (fetch words (q .start .0) 3 k) 3 ∷ []) (chunks 3 (r .start .0) (r .end .0))
-  linesFrom (suc left) k r = each (chunkLines (λ j q. linesFrom left j q) (2 - left) k) (chunks (2 - left) (r .start .0) (r .end .0))
+  linesFrom zero k r = each (λ q. line q (fetch words (q .start .0) k 3) 3 ∷ []) (chunks 3 (r .start .0) (r .end .0))
+  linesFrom (suc depth) k r = each (chunkLines (λ j q. linesFrom depth j q) k (2 - depth)) (chunks (2 - depth) (r .start .0) (r .end .0))
 
   -- ---- laws
 
   -- the lines of one chunk, as the code finds them
   unfoldable pub linesAt : ℕ → ℕ → MemoryRegion → List Line
-  linesAt level k r = chunkLines (λ j q. linesFrom (3 - (level + 1)) j q) level k r
+  linesAt k level r = chunkLines (λ j q. linesFrom (3 - (level + 1)) j q) k level r
 
-  module _ (level k : ℕ) (r : MemoryRegion) {w : ℕ} (is : w ≡ fetch words (r .start .0) level k) {x : Sub} (sub : x ≡ subOf base n level w) where
-    found : (y : Sub) → x ≡ y → linesAt level k r ≡ subLines y (λ j. linesFrom (3 - (level + 1)) j r) (line r w level)
+  module _ (k level : ℕ) (r : MemoryRegion) {w : ℕ} (is : w ≡ fetch words (r .start .0) k level) {x : Sub} (sub : x ≡ subOf base n level w) where
+    found : (y : Sub) → x ≡ y → linesAt k level r ≡ subLines y (λ j. linesFrom (3 - (level + 1)) j r) (line r w level)
     unfolding linesAt chunkLines
     found y e = rw (← is, ← sub, e)
 
-    pub lines-table : (j : ℕ) → x ≡ Table j → linesAt level k r ≡ linesFrom (3 - (level + 1)) j r
+    pub lines-table : (j : ℕ) → x ≡ Table j → linesAt k level r ≡ linesFrom (3 - (level + 1)) j r
     unfolding subLines
     lines-table j e = found (Table j) e
 
-    pub lines-other : (x ≡ Outside) ⊎ (x ≡ Leaf) → linesAt level k r ≡ line r w level ∷ []
+    pub lines-other : (x ≡ Outside) ⊎ (x ≡ Leaf) → linesAt k level r ≡ line r w level ∷ []
     unfolding subLines
     lines-other (inl e) = found Outside e
     lines-other (inr e) = found Leaf e
 
   -- the whole region: the lines of its chunks
-  pub lines-each : (level k : ℕ) (r : MemoryRegion) → level ≤ 3 → linesFrom (3 - level) k r ≡ each (linesAt level k) (chunks level (r .start .0) (r .end .0))
+  pub lines-each : (k level : ℕ) (r : MemoryRegion) → level ≤ 3 → linesFrom (3 - level) k r ≡ each (linesAt k level) (chunks level (r .start .0) (r .end .0))
   unfolding linesFrom linesAt
-  lines-each level k r h = go (eq-or level 3)
+  lines-each k level r h = go (eq-or level 3)
     where
-      go : (level ≡ 3) ⊎ (level ≢ 3) → linesFrom (3 - level) k r ≡ each (linesAt level k) (chunks level (r .start .0) (r .end .0))
-      go (inl e) = rw e (each-same _ _ (λ q. sym (lines-other 3 k q refl (sub-leaf base n 3 (fetch words (q .start .0) 3 k) (λ p. omega (arith, p .0))) (inr refl))) _)
+      go : (level ≡ 3) ⊎ (level ≢ 3) → linesFrom (3 - level) k r ≡ each (linesAt k level) (chunks level (r .start .0) (r .end .0))
+      go (inl e) = rw e (each-same _ _ (λ q. sym (lines-other k 3 q refl (sub-leaf base n 3 (fetch words (q .start .0) k 3) (λ p. omega (arith, p .0))) (inr refl))) _)
       go (inr m) =
           let up : 3 - level ≡ suc (3 - (level + 1)) = omega arith in
           let same : 2 - (3 - (level + 1)) ≡ level = omega arith in
@@ -220,12 +220,12 @@ unfolding each
 each-one g [] = refl
 each-one g (r ∷ rs) = ap suc (each-one g rs)
 
-pub lines-pages : (base n : ℕ) (words : List ℕ) (level k : ℕ) (r : MemoryRegion) → 3 ≤ level
+pub lines-pages : (base n : ℕ) (words : List ℕ) (k level : ℕ) (r : MemoryRegion) → 3 ≤ level
     → met 3 (r .start .0) (r .end .0) ≡ length (linesFrom base n words (3 - level) k r)
 unfolding linesFrom
-lines-pages base n words level k r h =
+lines-pages base n words k level r h =
     let last : 3 - level ≡ 0 = omega arith in
-    rw last (sym (each-one (λ q. line q (fetch words (q .start .0) 3 k) 3) (chunks 3 (r .start .0) (r .end .0)) ∙ length-chunks (met 3 (r .start .0) (r .end .0)) 3 (r .start .0) (r .end .0) refl))
+    rw last (sym (each-one (λ q. line q (fetch words (q .start .0) k 3) 3) (chunks 3 (r .start .0) (r .end .0)) ∙ length-chunks (met 3 (r .start .0) (r .end .0)) 3 (r .start .0) (r .end .0) refl))
 
 -- ---- no more lines than bytes
 
@@ -239,15 +239,15 @@ each-bound f h (more {s = s} {m = m} {l = rest} a b c t) =
     let both = length-append (f (region s m)) (each f rest) in
     omega arith
 
-pub lines-bound : (base n : ℕ) (words : List ℕ) (left k : ℕ) (r : MemoryRegion) → length (linesFrom base n words left k r) ≤ r .end .0 - r .start .0
+pub lines-bound : (base n : ℕ) (words : List ℕ) (depth k : ℕ) (r : MemoryRegion) → length (linesFrom base n words depth k r) ≤ r .end .0 - r .start .0
 unfolding linesFrom chunkLines subLines
 lines-bound base n words zero k r = each-bound _ (λ q h. omega arith) (chunks-tile 3 (r .start .0) (r .end .0))
-lines-bound base n words (suc left) k r =
-    each-bound (chunkLines base n words (λ j q. linesFrom base n words left j q) (2 - left) k)
-    (λ q h. go q h (subOf base n (2 - left) (fetch words (q .start .0) (2 - left) k)) (λ j. lines-bound base n words left j q)) (chunks-tile (2 - left) (r .start .0) (r .end .0))
+lines-bound base n words (suc depth) k r =
+    each-bound (chunkLines base n words (λ j q. linesFrom base n words depth j q) k (2 - depth))
+    (λ q h. go q h (subOf base n (2 - depth) (fetch words (q .start .0) k (2 - depth))) (λ j. lines-bound base n words depth j q)) (chunks-tile (2 - depth) (r .start .0) (r .end .0))
   where
-    go : (q : MemoryRegion) → q .start .0 < q .end .0 → (x : Sub) → ((j : ℕ) → length (linesFrom base n words left j q) ≤ q .end .0 - q .start .0)
-        → length (subLines x (λ j. linesFrom base n words left j q) (line q (fetch words (q .start .0) (2 - left) k) (2 - left))) ≤ q .end .0 - q .start .0
+    go : (q : MemoryRegion) → q .start .0 < q .end .0 → (x : Sub) → ((j : ℕ) → length (linesFrom base n words depth j q) ≤ q .end .0 - q .start .0)
+        → length (subLines x (λ j. linesFrom base n words depth j q) (line q (fetch words (q .start .0) k (2 - depth)) (2 - depth))) ≤ q .end .0 - q .start .0
     go q h (Table j) ih = ih j
     go q h Outside ih = omega arith
     go q h Leaf ih = omega arith

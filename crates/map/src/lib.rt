@@ -1,5 +1,4 @@
 // The call that puts down a map: map_range of paging.rs (aarch64-paging 0.12.3), on a pool of tables.
-// The crate's two constraints; only the first is read.
 use address::PhysicalAddress;
 use address::VirtualAddress;
 use map_rules::Map;
@@ -13,6 +12,7 @@ ghost use Rattle.pool.specs.State.{st};
 ghost use Rattle.pool.specs.Refuse.{out};
 ghost use Rattle.map_spec.specs.Call.{mapCall};
 
+// The crate's two constraints; only the first is read.
 pub struct Constraints(pub u64);
 
 // Puts a map down: each page of the region to its frame, ascending, with these flags.

@@ -46,25 +46,25 @@ over-within room need e l = ⊎-elim (λ h. h) (λ h. let z = over-some room nee
 -- ---- count_new
 
 -- one chunk of table k
-unfoldable pub countAt : ℕ → Handle → St → ℕ → Map → ℕ
-countAt level h s k = needChunk (λ j n. closed (3 - (level + 1)) h s j n) (closedLeaf (3 - level)) h s level k
+unfoldable pub countAt : Handle → St → ℕ → ℕ → Map → ℕ
+countAt h s k level = needChunk (λ j n. closed (3 - (level + 1)) h s j n) (closedLeaf (3 - level)) h s k level
 
-pub closed-done : (level : ℕ) (h : Handle) (s : St) (k : ℕ) (m : Map) → 3 ≤ level → 0 ≡ closed (3 - level) h s k m
+pub closed-done : (h : Handle) (s : St) (k level : ℕ) (m : Map) → 3 ≤ level → 0 ≡ closed (3 - level) h s k m
 unfolding closed needTable
-closed-done level h s k m l = let e : 0 ≡ 3 - level = omega arith in ap (λ (x : ℕ). closed x h s k m) e
+closed-done h s k level m l = let e : 0 ≡ 3 - level = omega arith in ap (λ (x : ℕ). closed x h s k m) e
 
-pub closed-open : (level : ℕ) (h : Handle) (s : St) (k : ℕ) (m : Map) → level < 3 → sumChunks level (countAt level h s k) m ≡ closed (3 - level) h s k m
+pub closed-open : (h : Handle) (s : St) (k level : ℕ) (m : Map) → level < 3 → sumChunks level (countAt h s k level) m ≡ closed (3 - level) h s k m
 unfolding countAt closed needTable
-closed-open level h s k m l =
+closed-open h s k level m l =
     let e : suc (3 - (level + 1)) ≡ 3 - level = omega arith in
     let q : level ≡ 3 - suc (3 - (level + 1)) = omega arith in
-    ap (λ (x : ℕ). sumChunks level (needChunk (λ j n. needTable closedLeaf (3 - (level + 1)) h s j n) (closedLeaf x) h s level k) m) (sym e)
-    ∙ ap (λ (x : ℕ). sumChunks x (needChunk (λ j n. needTable closedLeaf (3 - (level + 1)) h s j n) (closedLeaf (suc (3 - (level + 1)))) h s x k) m) q
+    ap (λ (x : ℕ). sumChunks level (needChunk (λ j n. needTable closedLeaf (3 - (level + 1)) h s j n) (closedLeaf x) h s k level) m) (sym e)
+    ∙ ap (λ (x : ℕ). sumChunks x (needChunk (λ j n. needTable closedLeaf (3 - (level + 1)) h s j n) (closedLeaf (suc (3 - (level + 1)))) h s k x) m) q
     ∙ ap (λ (x : ℕ). needTable closedLeaf x h s k m) e
 
-pub count-fit : (level : ℕ) (h : Handle) (s : St) (k : ℕ) (m : Map) → level < 3 → sumChunks level (countAt level h s k) m ≤ 3 * (endOf m - startOf m)
-count-fit level h s k m l =
-    let o = closed-open level h s k m l in
+pub count-fit : (h : Handle) (s : St) (k level : ℕ) (m : Map) → level < 3 → sumChunks level (countAt h s k level) m ≤ 3 * (endOf m - startOf m)
+count-fit h s k level m l =
+    let o = closed-open h s k level m l in
     let r = closed-most (3 - level) h s k m (omega arith) in
     let t : (3 - level) * (endOf m - startOf m) ≤ 3 * (endOf m - startOf m) = mul-le-mul-right (endOf m - startOf m) (omega arith) in
     omega arith
@@ -83,42 +83,42 @@ down-twice Keep n = refl
 down-twice (Drop x) n = refl
 down-twice Down n = refl
 
-module _ (h : Handle) (s : St) (level k : ℕ) (c : Map) {i : ℕ} (index : i ≡ entryIndex level (startOf c)) where
+module _ (h : Handle) (s : St) (k level : ℕ) (c : Map) {i : ℕ} (index : i ≡ entryIndex level (startOf c)) where
   -- where what the slot leads to is known
   entry-sub : (x : Sub) → x ≡ subOf (h .base .0) (tables s) level (wordAt s k i)
-      → countAt level h s k c ≡ ifDown (ruleOf level c (wordAt s k i)) (needBelow (λ j. closed (3 - (level + 1)) h s j c) (λ w. closedLeaf (3 - level) c w) (wordAt s k i) x)
+      → countAt h s k level c ≡ ifDown (ruleOf level c (wordAt s k i)) (needBelow (λ j. closed (3 - (level + 1)) h s j c) (λ w. closedLeaf (3 - level) c w) (wordAt s k i) x)
   unfolding countAt needChunk
   entry-sub x e =
       ap (λ (y : ℕ). ifDown (ruleOf level c (wordAt s k y)) (needBelow (λ j. closed (3 - (level + 1)) h s j c) (λ w. closedLeaf (3 - level) c w) (wordAt s k y) (subOf (h .base .0) (tables s) level (wordAt s k y)))) (sym index)
       ∙ ap (λ (y : Sub). ifDown (ruleOf level c (wordAt s k i)) (needBelow (λ j. closed (3 - (level + 1)) h s j c) (λ w. closedLeaf (3 - level) c w) (wordAt s k i) y)) (sym e)
 
-  pub entry-outside : {x : Sub} → x ≡ subOf (h .base .0) (tables s) level (wordAt s k i) → x ≡ Outside → countAt level h s k c ≡ 0
+  pub entry-outside : {x : Sub} → x ≡ subOf (h .base .0) (tables s) level (wordAt s k i) → x ≡ Outside → countAt h s k level c ≡ 0
   unfolding needBelow
   entry-outside e q = entry-sub Outside (sym q ∙ e) ∙ down-none (ruleOf level c (wordAt s k i))
 
-  pub entry-leaf : {x : Sub} → x ≡ subOf (h .base .0) (tables s) level (wordAt s k i) → x ≡ Leaf → level < 3 → countAt level h s k c ≡ closedLeaf (3 - level) c (wordAt s k i)
+  pub entry-leaf : {x : Sub} → x ≡ subOf (h .base .0) (tables s) level (wordAt s k i) → x ≡ Leaf → level < 3 → countAt h s k level c ≡ closedLeaf (3 - level) c (wordAt s k i)
   unfolding needBelow
   entry-leaf e q l =
       let o = leaf-open level c (wordAt s k i) l in
       entry-sub Leaf (sym q ∙ e) ∙ ap (λ (n : ℕ). ifDown (ruleOf level c (wordAt s k i)) n) o ∙ down-twice (ruleOf level c (wordAt s k i)) _ ∙ sym o
 
   module _ {x : Sub} (e : x ≡ subOf (h .base .0) (tables s) level (wordAt s k i)) {r : Rule} (is : r ≡ ruleOf level c (wordAt s k i)) where
-    pub entry-none : Other r → countAt level h s k c ≡ 0
+    pub entry-none : Other r → countAt h s k level c ≡ 0
     entry-none o = entry-sub x e ∙ none (sym is) _
       where
         none : {q : Rule} → q ≡ r → (n : ℕ) → ifDown q n ≡ 0
         none p n = ap (λ (q : Rule). ifDown q n) p ∙ o .none n
 
-    pub entry-table : (j : ℕ) → x ≡ Table j → r ≡ Down → countAt level h s k c ≡ closed (3 - (level + 1)) h s j c
+    pub entry-table : (j : ℕ) → x ≡ Table j → r ≡ Down → countAt h s k level c ≡ closed (3 - (level + 1)) h s j c
     unfolding needBelow
     entry-table j q d = entry-sub (Table j) (sym q ∙ e) ∙ is-down (ruleOf level c (wordAt s k i)) _ (sym is ∙ d)
 
 -- ---- count_last: level 2, where a table has no table below it
 
 module _ (h : Handle) (s : St) (k : ℕ) (c : Map) {i : ℕ} (index : i ≡ entryIndex 2 (startOf c)) {x : Sub} (e : x ≡ subOf (h .base .0) (tables s) 2 (wordAt s k i)) where
-  pub last-table : (x ≡ Leaf → ⊥) → countAt 2 h s k c ≡ 0
+  pub last-table : (x ≡ Leaf → ⊥) → countAt h s k 2 c ≡ 0
   unfolding needBelow closed needTable
-  last-table other = entry-sub h s 2 k c index x e ∙ ap (ifDown (ruleOf 2 c (wordAt s k i))) (none x other) ∙ down-none (ruleOf 2 c (wordAt s k i))
+  last-table other = entry-sub h s k 2 c index x e ∙ ap (ifDown (ruleOf 2 c (wordAt s k i))) (none x other) ∙ down-none (ruleOf 2 c (wordAt s k i))
     where
       none : (y : Sub) → (y ≡ Leaf → ⊥) → needBelow (λ j. closed 0 h s j c) (λ w. closedLeaf 1 c w) (wordAt s k i) y ≡ 0
       none (Table j) n = refl
@@ -126,8 +126,8 @@ module _ (h : Handle) (s : St) (k : ℕ) (c : Map) {i : ℕ} (index : i ≡ entr
       none Leaf n = absurd (n refl)
 
   module _ (plain : x ≡ Leaf) {r : Rule} (is : r ≡ ruleOf 2 c (wordAt s k i)) where
-    pub last-none : Other r → countAt 2 h s k c ≡ 0
-    last-none o = entry-leaf h s 2 k c index e plain (omega arith) ∙ sym (leaf-none 2 c (wordAt s k i) is o)
+    pub last-none : Other r → countAt h s k 2 c ≡ 0
+    last-none o = entry-leaf h s k 2 c index e plain (omega arith) ∙ sym (leaf-none 2 c (wordAt s k i) is o)
 
-    pub last-down : r ≡ Down → countAt 2 h s k c ≡ 1
-    last-down d = entry-leaf h s 2 k c index e plain (omega arith) ∙ sym (leaf-low 2 c (wordAt s k i) is d (omega arith) (omega arith))
+    pub last-down : r ≡ Down → countAt h s k 2 c ≡ 1
+    last-down d = entry-leaf h s k 2 c index e plain (omega arith) ∙ sym (leaf-low 2 c (wordAt s k i) is d (omega arith) (omega arith))

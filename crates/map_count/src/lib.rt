@@ -23,8 +23,8 @@ fn count_last(words: &[u64], ledger: &[u32], handle: Handle, k: usize, map: Map)
     let mut frame = map.frame.0;
     let mut count = 0;
     while at < end {
-        let stop = address_slot::chunk_end(at, end, 2);
-        let i = address_slot::entry_index(at, 2);
+        let stop = address_slot::chunk_end(2, at, end);
+        let i = address_slot::entry_index(2, at);
         let start = VirtualAddress(at);
         let chunk = map_rules::chunk_of(map, start, VirtualAddress(stop), PhysicalAddress(frame));
         frame += stop - at;
@@ -59,8 +59,8 @@ fn count_new(words: &[u64], ledger: &[u32], handle: Handle, k: usize, level: usi
     let mut frame = map.frame.0;
     let mut count = 0;
     while at < end {
-        let stop = address_slot::chunk_end(at, end, level);
-        let i = address_slot::entry_index(at, level);
+        let stop = address_slot::chunk_end(level, at, end);
+        let i = address_slot::entry_index(level, at);
         let start = VirtualAddress(at);
         let first = PhysicalAddress(frame);
         frame += stop - at;
@@ -96,7 +96,7 @@ pub fn count_over(words: &[u64], ledger: &[u32], handle: Handle, map: Map, free:
     requires { ⌜ (length (now words) ≡ 512 * length (now ledger)) × (0 < length (now ledger)) × (handle .level ≤ 3) × Fit map ⌝ }
     ensures { λ r. ⌜ r ≡ over free (closed (3 - handle .level) handle (st (now (words .entry)) (now (ledger .entry))) 0 map) ⌝ }
 {
-    if map_count_leaf::count_most(map.region.start.0, map.region.end.0, handle.level) <= free {
+    if map_count_leaf::count_most(handle.level, map.region.start.0, map.region.end.0) <= free {
         return 0;
     }
     let needed = count_new(words, ledger, handle, 0, handle.level, map);

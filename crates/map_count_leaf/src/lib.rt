@@ -16,7 +16,7 @@ ghost use Rattle.map_count_spec.specs.Needed.{childWord};
 ghost use Rattle.map_count_spec.specs.Count.{Chunk};
 
 // The number of the entry at this level that holds the address.
-fn entry_number(va: u64, level: usize) -> u64
+fn entry_number(level: usize, va: u64) -> u64
     ensures { λ r. ⌜ r ≡ va / sizeAt level ⌝ }
 {
     match level {
@@ -28,24 +28,24 @@ fn entry_number(va: u64, level: usize) -> u64
 }
 
 // The entries of this level that the region meets.
-fn entries_met(start: u64, end: u64, level: usize) -> u64
+fn entries_met(level: usize, start: u64, end: u64) -> u64
     ensures { λ r. ⌜ r ≡ met level start end ⌝ }
 {
     if end <= start {
         return 0;
     }
-    entry_number(end - 1, level) - entry_number(start, level) + 1
+    entry_number(level, end - 1) - entry_number(level, start) + 1
 }
 
 // The entries of this level, and of those below down to level 2, that the region meets: no map of it needs more tables.
-pub fn count_most(start: u64, end: u64, level: usize) -> u64
+pub fn count_most(level: usize, start: u64, end: u64) -> u64
     requires { ⌜ end - start ≤ 2 ^ 48 ⌝ }
     ensures { λ r. ⌜ r ≡ mets (3 - level) start end ⌝ }
 {
     let mut count = 0;
     let mut below = level;
     while below < address::LEAF_LEVEL {
-        count += entries_met(start, end, below);
+        count += entries_met(below, start, end);
         below += 1;
     }
     count
@@ -58,11 +58,11 @@ fn count_at(level: usize, map: Map) -> u64
     let start = map.region.start.0;
     let end = map.region.end.0;
     if !map.blocks {
-        return entries_met(start, end, level);
+        return entries_met(level, start, end);
     }
     let last = address::granularity_at_level(level) - 1;
     if map.frame.0 & last != 0 {
-        return entries_met(start, end, level);
+        return entries_met(level, start, end);
     }
     if end <= start {
         return 0;
@@ -120,7 +120,7 @@ fn part_of(level: usize, word: u64, va: u64) -> u64
         return flags;
     }
     let address = (word & entry::ADDRESS_BITS) & !(address::granularity_at_level(level) - 1);
-    let i = address_slot::entry_index(va, level + 1);
+    let i = address_slot::entry_index(level + 1, va);
     address + (i as u64) * address::granularity_at_level(level + 1) + flags
 }
 
@@ -139,7 +139,7 @@ fn count_leaf(level: usize, map: Map, word: u64) -> u64
     let start = map.region.start.0;
     let end = map.region.end.0;
     let frame = map.frame.0;
-    let stop = address_slot::chunk_end(start, end, level + 1);
+    let stop = address_slot::chunk_end(level + 1, start, end);
     let first = map_rules::chunk_of(
         map,
         VirtualAddress(start),

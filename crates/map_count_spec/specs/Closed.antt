@@ -42,26 +42,26 @@ lastPart level s e = cond (ltb s e && not (eqb (e % sizeAt level) 0)) 1 0
 unfoldable pub restAt : ℕ → Map → ℕ
 restAt level m = cond (m .blocks && eqb (frameOf m % sizeAt level) 0) (lastPart level (startOf m) (endOf m)) (met level (startOf m) (endOf m))
 
--- .. of all levels from the one with `left` levels below on
+-- .. of all levels from the one with `depth` levels below on
 unfoldable pub rests : ℕ → Map → ℕ
 rests zero m = 0
-rests (suc left) m = restAt (3 - suc left) m + rests left m
+rests (suc depth) m = restAt (3 - suc depth) m + rests depth m
 
 -- the entries of those levels that a region meets: no map of it needs more tables
 unfoldable pub mets : ℕ → ℕ → ℕ → ℕ
 mets zero s e = 0
-mets (suc left) s e = met (3 - suc left) s e + mets left s e
+mets (suc depth) s e = met (3 - suc depth) s e + mets depth s e
 
 -- as `neededLeaf`, but only the first of the chunks below is looked into: in the others rule 2 fits nothing
 unfoldable pub closedLeaf : ℕ → Map → ℕ → ℕ
 closedLeaf zero m w = 0
-closedLeaf (suc left) m w =
-    let level = 3 - suc left in
-    let more = 1 + closedLeaf left (firstChunk (3 - left) m) (childWord level w (startOf m)) + rests left (afterFirst (3 - left) m) in
+closedLeaf (suc depth) m w =
+    let level = 3 - suc depth in
+    let more = 1 + closedLeaf depth (firstChunk (3 - depth) m) (childWord level w (startOf m)) + rests depth (afterFirst (3 - depth) m) in
     ifDown (ruleOf level m w) more
 
 unfoldable pub closed : ℕ → Handle → St → ℕ → Map → ℕ
-closed left h s k m = needTable closedLeaf left h s k m
+closed depth h s k m = needTable closedLeaf depth h s k m
 
 -- ---- the part at the end
 
@@ -179,70 +179,70 @@ rest-cut level m x h z (inr c) = rest-inside level m x h z (c .0) (c .1)
 
 -- ---- all levels from one on
 
--- the level with `left` levels below its table's, and the next
-pub level-next : (left : ℕ) → suc left ≤ 3 → 3 - suc left + 1 ≡ 3 - left
-level-next left h = omega arith
+-- the level with `depth` levels below its table's, and the next
+pub level-next : (depth : ℕ) → suc depth ≤ 3 → 3 - suc depth + 1 ≡ 3 - depth
+level-next depth h = omega arith
 
 -- a multiple at the level is one at the next
-pub left-next : (left x : ℕ) → suc left ≤ 3 → x % sizeAt (3 - suc left) ≡ 0 → x % sizeAt (3 - left) ≡ 0
-left-next left x h z = ap (λ (l : ℕ). x % sizeAt l) (sym (level-next left h)) ∙ size-next (3 - suc left) x (omega arith) z
+pub left-next : (depth x : ℕ) → suc depth ≤ 3 → x % sizeAt (3 - suc depth) ≡ 0 → x % sizeAt (3 - depth) ≡ 0
+left-next depth x h z = ap (λ (l : ℕ). x % sizeAt l) (sym (level-next depth h)) ∙ size-next (3 - suc depth) x (omega arith) z
 
-pub rests-none : (left : ℕ) (m : Map) → endOf m ≤ startOf m → rests left m ≡ 0
+pub rests-none : (depth : ℕ) (m : Map) → endOf m ≤ startOf m → rests depth m ≡ 0
 unfolding rests
 rests-none zero m h = refl
-rests-none (suc left) m h = let a = rest-none (3 - suc left) m h in let b = rests-none left m h in omega arith
+rests-none (suc depth) m h = let a = rest-none (3 - suc depth) m h in let b = rests-none depth m h in omega arith
 
-pub rests-blocks : (left : ℕ) (m : Map) → left ≤ 3 → m .blocks ≡ true → frameOf m % sizeAt (3 - left) ≡ 0 → endOf m % sizeAt (3 - left) ≡ 0 → rests left m ≡ 0
+pub rests-blocks : (depth : ℕ) (m : Map) → depth ≤ 3 → m .blocks ≡ true → frameOf m % sizeAt (3 - depth) ≡ 0 → endOf m % sizeAt (3 - depth) ≡ 0 → rests depth m ≡ 0
 unfolding rests
 rests-blocks zero m l b p e = refl
-rests-blocks (suc left) m l b p e =
-    let a = rest-blocks (3 - suc left) m b p e in
-    let r = rests-blocks left m (omega arith) b (left-next left (frameOf m) l p) (left-next left (endOf m) l e) in
+rests-blocks (suc depth) m l b p e =
+    let a = rest-blocks (3 - suc depth) m b p e in
+    let r = rests-blocks depth m (omega arith) b (left-next depth (frameOf m) l p) (left-next depth (endOf m) l e) in
     omega arith
 
-pub rests-cut : (left : ℕ) (m : Map) (x : ℕ) → left ≤ 3 → startOf m < x → startOf m % sizeAt (3 - left) ≡ 0 → Cut (3 - left) m x
-    → rests left m ≡ rests left (upTo m x) + rests left (onFrom m x)
+pub rests-cut : (depth : ℕ) (m : Map) (x : ℕ) → depth ≤ 3 → startOf m < x → startOf m % sizeAt (3 - depth) ≡ 0 → Cut (3 - depth) m x
+    → rests depth m ≡ rests depth (upTo m x) + rests depth (onFrom m x)
 unfolding rests
 rests-cut zero m x l h z c = refl
-rests-cut (suc left) m x l h z c =
-    let a = rest-cut (3 - suc left) m x h z c in
-    let b = rests-cut left m x (omega arith) h (left-next left (startOf m) l z) (deeper c) in
+rests-cut (suc depth) m x l h z c =
+    let a = rest-cut (3 - suc depth) m x h z c in
+    let b = rests-cut depth m x (omega arith) h (left-next depth (startOf m) l z) (deeper c) in
     omega arith
   where
-    deeper : Cut (3 - suc left) m x → Cut (3 - left) m x
+    deeper : Cut (3 - suc depth) m x → Cut (3 - depth) m x
     deeper (inl e) = inl e
-    deeper (inr d) = inr (d .0, left-next left x l (d .1))
+    deeper (inr d) = inr (d .0, left-next depth x l (d .1))
 
 -- ---- no more tables than entries met
 
-mets-none : (left s e : ℕ) → e ≤ s → mets left s e ≡ 0
+mets-none : (depth s e : ℕ) → e ≤ s → mets depth s e ≡ 0
 unfolding mets
 mets-none zero s e h = refl
-mets-none (suc left) s e h = let a = met-none (3 - suc left) s e h in let b = mets-none left s e h in omega arith
+mets-none (suc depth) s e h = let a = met-none (3 - suc depth) s e h in let b = mets-none depth s e h in omega arith
 
 -- cut where the region ends, or where an entry begins
-mets-cut : (left s x e : ℕ) → left ≤ 3 → s < x → (x ≡ e) ⊎ ((x < e) × (x % sizeAt (3 - left) ≡ 0)) → mets left s e ≡ mets left s x + mets left x e
+mets-cut : (depth s x e : ℕ) → depth ≤ 3 → s < x → (x ≡ e) ⊎ ((x < e) × (x % sizeAt (3 - depth) ≡ 0)) → mets depth s e ≡ mets depth s x + mets depth x e
 unfolding mets
-mets-cut left s x e l h (inl q) = let z = mets-none left x e (omega arith) in let r : mets left s x ≡ mets left s e = ap (λ (y : ℕ). mets left s y) q in omega arith
+mets-cut depth s x e l h (inl q) = let z = mets-none depth x e (omega arith) in let r : mets depth s x ≡ mets depth s e = ap (λ (y : ℕ). mets depth s y) q in omega arith
 mets-cut zero s x e l h (inr c) = refl
-mets-cut (suc left) s x e l h (inr c) =
-    let a = met-split (3 - suc left) s x e h (c .0) (c .1) in
-    let b = mets-cut left s x e (omega arith) h (inr (c .0, left-next left x l (c .1))) in
+mets-cut (suc depth) s x e l h (inr c) =
+    let a = met-split (3 - suc depth) s x e h (c .0) (c .1) in
+    let b = mets-cut depth s x e (omega arith) h (inr (c .0, left-next depth x l (c .1))) in
     omega arith
 
 -- no more than levels times addresses, so that the count fits 64 bits
-pub mets-most : (left s e : ℕ) → mets left s e ≤ left * (e - s)
+pub mets-most : (depth s e : ℕ) → mets depth s e ≤ depth * (e - s)
 unfolding mets
 mets-most zero s e = omega arith
-mets-most (suc left) s e = let a = met-most (3 - suc left) s e in let b = mets-most left s e in let c = suc-mul left (e - s) in omega arith
+mets-most (suc depth) s e = let a = met-most (3 - suc depth) s e in let b = mets-most depth s e in let c = suc-mul depth (e - s) in omega arith
 
-rests-met : (left : ℕ) (m : Map) → rests left m ≤ mets left (startOf m) (endOf m)
+rests-met : (depth : ℕ) (m : Map) → rests depth m ≤ mets depth (startOf m) (endOf m)
 unfolding rests mets
 rests-met zero m = omega arith
-rests-met (suc left) m = let a = rest-met (3 - suc left) m in let b = rests-met left m in omega arith
+rests-met (suc depth) m = let a = rest-met (3 - suc depth) m in let b = rests-met depth m in omega arith
 
-pub rests-most : (left : ℕ) (m : Map) → rests left m ≤ left * (endOf m - startOf m)
-rests-most left m = let a = rests-met left m in let b = mets-most left (startOf m) (endOf m) in omega arith
+pub rests-most : (depth : ℕ) (m : Map) → rests depth m ≤ depth * (endOf m - startOf m)
+rests-most depth m = let a = rests-met depth m in let b = mets-most depth (startOf m) (endOf m) in omega arith
 
 down-most : (r : Rule) (n : ℕ) → ifDown r n ≤ n
 unfolding ifDown
@@ -251,56 +251,56 @@ down-most Keep n = omega arith
 down-most (Drop x) n = omega arith
 down-most Down n = omega arith
 
-leaf-met : (left : ℕ) (m : Map) (w : ℕ) → left ≤ 3 → startOf m < endOf m → closedLeaf left m w ≤ mets left (startOf m) (endOf m)
+leaf-met : (depth : ℕ) (m : Map) (w : ℕ) → depth ≤ 3 → startOf m < endOf m → closedLeaf depth m w ≤ mets depth (startOf m) (endOf m)
 unfolding closedLeaf mets
 leaf-met zero m w l h = omega arith
-leaf-met (suc left) m w l h =
-    let f = chunk-fits (3 - left) (startOf m) (endOf m) h in
-    let stop = chunkEnd (3 - left) (startOf m) (endOf m) in
-    let a = leaf-met left (firstChunk (3 - left) m) (childWord (3 - suc left) w (startOf m)) (omega arith) (f .0) in
-    let b = rests-met left (afterFirst (3 - left) m) in
-    let t = mets-cut left (startOf m) stop (endOf m) (omega arith) (f .0) (chunk-stops (3 - left) (startOf m) (endOf m)) in
-    let d = down-most (ruleOf (3 - suc left) m w) (1 + closedLeaf left (firstChunk (3 - left) m) (childWord (3 - suc left) w (startOf m)) + rests left (afterFirst (3 - left) m)) in
-    let c = met-step (3 - suc left) (startOf m) (endOf m) h in
+leaf-met (suc depth) m w l h =
+    let f = chunk-fits (3 - depth) (startOf m) (endOf m) h in
+    let stop = chunkEnd (3 - depth) (startOf m) (endOf m) in
+    let a = leaf-met depth (firstChunk (3 - depth) m) (childWord (3 - suc depth) w (startOf m)) (omega arith) (f .0) in
+    let b = rests-met depth (afterFirst (3 - depth) m) in
+    let t = mets-cut depth (startOf m) stop (endOf m) (omega arith) (f .0) (chunk-stops (3 - depth) (startOf m) (endOf m)) in
+    let d = down-most (ruleOf (3 - suc depth) m w) (1 + closedLeaf depth (firstChunk (3 - depth) m) (childWord (3 - suc depth) w (startOf m)) + rests depth (afterFirst (3 - depth) m)) in
+    let c = met-step (3 - suc depth) (startOf m) (endOf m) h in
     omega arith
 
-pub leaf-most : (left : ℕ) (m : Map) (w : ℕ) → left ≤ 3 → startOf m < endOf m → closedLeaf left m w ≤ left * (endOf m - startOf m)
-leaf-most left m w l h = let a = leaf-met left m w l h in let b = mets-most left (startOf m) (endOf m) in omega arith
+pub leaf-most : (depth : ℕ) (m : Map) (w : ℕ) → depth ≤ 3 → startOf m < endOf m → closedLeaf depth m w ≤ depth * (endOf m - startOf m)
+leaf-most depth m w l h = let a = leaf-met depth m w l h in let b = mets-most depth (startOf m) (endOf m) in omega arith
 
 -- a sum over chunks, where no summand passes what its chunk meets
-sum-met : (left : ℕ) (f : Map → ℕ) → left ≤ 3 → ((c : Map) → startOf c < endOf c → f c ≤ mets left (startOf c) (endOf c)) → (m : Map)
-    → sumChunks (3 - left) f m ≤ mets left (startOf m) (endOf m)
-sum-met left f l each m = go (met (3 - left) (startOf m) (endOf m)) m refl
+sum-met : (depth : ℕ) (f : Map → ℕ) → depth ≤ 3 → ((c : Map) → startOf c < endOf c → f c ≤ mets depth (startOf c) (endOf c)) → (m : Map)
+    → sumChunks (3 - depth) f m ≤ mets depth (startOf m) (endOf m)
+sum-met depth f l each m = go (met (3 - depth) (startOf m) (endOf m)) m refl
   where
-    none : (m : Map) → endOf m ≤ startOf m → sumChunks (3 - left) f m ≤ mets left (startOf m) (endOf m)
-    none m h = let z = sum-none (3 - left) f m h in omega arith
+    none : (m : Map) → endOf m ≤ startOf m → sumChunks (3 - depth) f m ≤ mets depth (startOf m) (endOf m)
+    none m h = let z = sum-none (3 - depth) f m h in omega arith
 
-    go : (n : ℕ) (m : Map) → met (3 - left) (startOf m) (endOf m) ≡ n → sumChunks (3 - left) f m ≤ mets left (startOf m) (endOf m)
+    go : (n : ℕ) (m : Map) → met (3 - depth) (startOf m) (endOf m) ≡ n → sumChunks (3 - depth) f m ≤ mets depth (startOf m) (endOf m)
     go zero m e = first (le-or (endOf m) (startOf m))
       where
-        first : (endOf m ≤ startOf m) ⊎ (startOf m < endOf m) → sumChunks (3 - left) f m ≤ mets left (startOf m) (endOf m)
+        first : (endOf m ≤ startOf m) ⊎ (startOf m < endOf m) → sumChunks (3 - depth) f m ≤ mets depth (startOf m) (endOf m)
         first (inl h) = none m h
-        first (inr h) = absurd (let k = met-step (3 - left) (startOf m) (endOf m) h in omega arith)
-    go (suc n) m e = more (le-or (endOf m) (startOf m)) (go n (afterFirst (3 - left) m))
+        first (inr h) = absurd (let k = met-step (3 - depth) (startOf m) (endOf m) h in omega arith)
+    go (suc n) m e = more (le-or (endOf m) (startOf m)) (go n (afterFirst (3 - depth) m))
       where
         more : (endOf m ≤ startOf m) ⊎ (startOf m < endOf m)
-            → (met (3 - left) (startOf (afterFirst (3 - left) m)) (endOf m) ≡ n → sumChunks (3 - left) f (afterFirst (3 - left) m) ≤ mets left (startOf (afterFirst (3 - left) m)) (endOf m))
-            → sumChunks (3 - left) f m ≤ mets left (startOf m) (endOf m)
+            → (met (3 - depth) (startOf (afterFirst (3 - depth) m)) (endOf m) ≡ n → sumChunks (3 - depth) f (afterFirst (3 - depth) m) ≤ mets depth (startOf (afterFirst (3 - depth) m)) (endOf m))
+            → sumChunks (3 - depth) f m ≤ mets depth (startOf m) (endOf m)
         more (inl h) ih = none m h
         more (inr h) ih =
-            let s = chunk-fits (3 - left) (startOf m) (endOf m) h in
-            let stop = chunkEnd (3 - left) (startOf m) (endOf m) in
-            let k = met-step (3 - left) (startOf m) (endOf m) h in
-            let a = each (firstChunk (3 - left) m) (s .0) in
+            let s = chunk-fits (3 - depth) (startOf m) (endOf m) h in
+            let stop = chunkEnd (3 - depth) (startOf m) (endOf m) in
+            let k = met-step (3 - depth) (startOf m) (endOf m) h in
+            let a = each (firstChunk (3 - depth) m) (s .0) in
             let b = ih (omega arith) in
-            let t = mets-cut left (startOf m) stop (endOf m) l (s .0) (chunk-stops (3 - left) (startOf m) (endOf m)) in
-            let e = sum-first (3 - left) f m h in
+            let t = mets-cut depth (startOf m) stop (endOf m) l (s .0) (chunk-stops (3 - depth) (startOf m) (endOf m)) in
+            let e = sum-first (3 - depth) f m h in
             omega arith
 
-chunk-met : (most : ℕ) (rec : ℕ → Map → ℕ) (leaf : Map → ℕ → ℕ) (h : Handle) (s : St) (level k : ℕ) (c : Map)
-    → ((j : ℕ) → rec j c ≤ most) → ((w : ℕ) → leaf c w ≤ most) → needChunk rec leaf h s level k c ≤ most
+chunk-met : (most : ℕ) (rec : ℕ → Map → ℕ) (leaf : Map → ℕ → ℕ) (h : Handle) (s : St) (k level : ℕ) (c : Map)
+    → ((j : ℕ) → rec j c ≤ most) → ((w : ℕ) → leaf c w ≤ most) → needChunk rec leaf h s k level c ≤ most
 unfolding needChunk needBelow
-chunk-met most rec leaf h s level k c table plain =
+chunk-met most rec leaf h s k level c table plain =
     let d = down-most (ruleOf level c w) (needBelow (λ j. rec j c) (λ v. leaf c v) w (subOf (h .base .0) (tables s) level w)) in
     let r = go (subOf (h .base .0) (tables s) level w) in
     omega arith
@@ -313,14 +313,14 @@ chunk-met most rec leaf h s level k c table plain =
     go Outside = omega arith
     go Leaf = plain w
 
-pub closed-met : (left : ℕ) (h : Handle) (s : St) (k : ℕ) (m : Map) → left ≤ 3 → closed left h s k m ≤ mets left (startOf m) (endOf m)
+pub closed-met : (depth : ℕ) (h : Handle) (s : St) (k : ℕ) (m : Map) → depth ≤ 3 → closed depth h s k m ≤ mets depth (startOf m) (endOf m)
 unfolding closed needTable mets
 closed-met zero h s k m l = omega arith
-closed-met (suc left) h s k m l =
-    sum-met (suc left) (λ c. needChunk (λ j n. needTable closedLeaf left h s j n) (closedLeaf (suc left)) h s (3 - suc left) k c) l
+closed-met (suc depth) h s k m l =
+    sum-met (suc depth) (λ c. needChunk (λ j n. needTable closedLeaf depth h s j n) (closedLeaf (suc depth)) h s k (3 - suc depth) c) l
     (λ c some.
-    chunk-met (mets (suc left) (startOf c) (endOf c)) (λ j n. needTable closedLeaf left h s j n) (closedLeaf (suc left)) h s (3 - suc left) k c
-    (λ j. let r = closed-met left h s j c (omega arith) in omega arith) (λ w. leaf-met (suc left) c w l some)) m
+    chunk-met (mets (suc depth) (startOf c) (endOf c)) (λ j n. needTable closedLeaf depth h s j n) (closedLeaf (suc depth)) h s k (3 - suc depth) c
+    (λ j. let r = closed-met depth h s j c (omega arith) in omega arith) (λ w. leaf-met (suc depth) c w l some)) m
 
-pub closed-most : (left : ℕ) (h : Handle) (s : St) (k : ℕ) (m : Map) → left ≤ 3 → closed left h s k m ≤ left * (endOf m - startOf m)
-closed-most left h s k m l = let a = closed-met left h s k m l in let b = mets-most left (startOf m) (endOf m) in omega arith
+pub closed-most : (depth : ℕ) (h : Handle) (s : St) (k : ℕ) (m : Map) → depth ≤ 3 → closed depth h s k m ≤ depth * (endOf m - startOf m)
+closed-most depth h s k m l = let a = closed-met depth h s k m l in let b = mets-most depth (startOf m) (endOf m) in omega arith

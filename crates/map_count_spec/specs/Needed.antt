@@ -45,13 +45,13 @@ sumChunks level f m = sumOf (λ c frame. f (chunkMap m c frame)) (chunks level (
 unfoldable pub childWord : ℕ → ℕ → ℕ → ℕ
 childWord level w a = getD (fillOf level w) (entryIndex (level + 1) a) 0
 
--- for a chunk of an entry that is no table, with the word w and `left` levels below its table's: none unless rule 5 fits; else the split's table, and what the
+-- for a chunk of an entry that is no table, with the word w and `depth` levels below its table's: none unless rule 5 fits; else the split's table, and what the
 -- entries of that table need
 unfoldable pub neededLeaf : ℕ → Map → ℕ → ℕ
 neededLeaf zero m w = 0
-neededLeaf (suc left) m w =
-    let level = 3 - suc left in
-    let more = 1 + sumChunks (3 - left) (λ c. neededLeaf left c (childWord level w (c .region .start .0))) m in
+neededLeaf (suc depth) m w =
+    let level = 3 - suc depth in
+    let more = 1 + sumChunks (3 - depth) (λ c. neededLeaf depth c (childWord level w (c .region .start .0))) m in
     ifDown (ruleOf level m w) more
 
 -- for a chunk of an entry where rule 5 fits: below the table that is there, or as for no table
@@ -61,19 +61,19 @@ needBelow rec leaf w Outside = 0
 needBelow rec leaf w Leaf = leaf w
 
 unfoldable pub needChunk : (ℕ → Map → ℕ) → (Map → ℕ → ℕ) → Handle → St → ℕ → ℕ → Map → ℕ
-needChunk rec leaf h s level k m =
+needChunk rec leaf h s k level m =
     let w = wordAt s k (entryIndex level (m .region .start .0)) in
     let below = needBelow (λ j. rec j m) (λ x. leaf m x) w (subOf (h .base .0) (tables s) level w) in
     ifDown (ruleOf level m w) below
 
--- for a map of table k with `left` levels below its own, where `leaf` counts for the entries that are no table
+-- for a map of table k with `depth` levels below its own, where `leaf` counts for the entries that are no table
 unfoldable pub needTable : (ℕ → Map → ℕ → ℕ) → ℕ → Handle → St → ℕ → Map → ℕ
 needTable leaf zero h s k m = 0
-needTable leaf (suc left) h s k m = sumChunks (3 - suc left) (λ c. needChunk (λ j n. needTable leaf left h s j n) (leaf (suc left)) h s (3 - suc left) k c) m
+needTable leaf (suc depth) h s k m = sumChunks (3 - suc depth) (λ c. needChunk (λ j n. needTable leaf depth h s j n) (leaf (suc depth)) h s k (3 - suc depth) c) m
 
 -- "new tables needed"
 unfoldable pub needed : ℕ → Handle → St → ℕ → Map → ℕ
-needed left h s k m = needTable neededLeaf left h s k m
+needed depth h s k m = needTable neededLeaf depth h s k m
 
 -- ---- the sum over chunks, from the front
 

@@ -41,26 +41,26 @@ fits-lawful (suc (suc zero)) w h t = low 2 t
 fits-lawful (suc (suc (suc l))) w h t = absurd (omega arith)
 
 -- table k is in use, and stands at this level
-record UsedAt (s : St) (level k : ℕ) : Type 0 where
+record UsedAt (s : St) (k level : ℕ) : Type 0 where
   inside : k < tables s
   used : numberAt s k ≡ 0 → ⊥
   at : levelOf (numberAt s k) ≡ level
 
 module _ (h : Handle) (s : St) (shape : Shaped h s) (sound : T (soundb h s)) where
   -- the word of a used table, past the test for a free one
-  used-slot : (level k i : ℕ) → UsedAt s level k → i < 512
+  used-slot : (k level i : ℕ) → UsedAt s k level → i < 512
       → T (cond (refersb (numberAt s k) (wordAt s k i)) (linkb (h .base .0) s k i (wordAt s k i)) (leafb (flagSet h) (levelOf (numberAt s k)) (wordAt s k i)))
   unfolding slotb
-  used-slot level k i u b =
+  used-slot k level i u b =
       cond-false (eqb (numberAt s k) 0) (eqb (wordAt s k i) 0) _ (λ t. u .used (eqb→eq (numberAt s k) 0 t)) (sound-slot h s sound (shape .sized) k i (u .inside) b)
 
   -- a leaf is lawful
-  leaf-lawful : (level k i : ℕ) → level < 3 → UsedAt s level k → i < 512 → (wordAt s k i % 4 ≡ 3 → ⊥) → Lawful level (wordAt s k i)
+  leaf-lawful : (k level i : ℕ) → level < 3 → UsedAt s k level → i < 512 → (wordAt s k i % 4 ≡ 3 → ⊥) → Lawful level (wordAt s k i)
   unfolding refersb leafb
-  leaf-lawful level k i l u b plain =
+  leaf-lawful k level i l u b plain =
       let w = wordAt s k i in
       let t = cond-false (refersb (numberAt s k) w) (linkb (h .base .0) s k i w) (leafb (flagSet h) (levelOf (numberAt s k)) w)
-      (λ r. plain (eqb→eq (w % 4) 3 (and-r (ltb (levelOf (numberAt s k)) 3) (eqb (w % 4) 3) r))) (used-slot level k i u b) in
+      (λ r. plain (eqb→eq (w % 4) 3 (and-r (ltb (levelOf (numberAt s k)) 3) (eqb (w % 4) 3) r))) (used-slot k level i u b) in
       fits-lawful level w l (subst (λ (n : ℕ). T (fits n w)) (u .at) (and-r (only (flagSet h) (plainFlags w)) (fits (levelOf (numberAt s k)) w) t))
 
   -- a table word names a table whose number names its slot
@@ -69,15 +69,15 @@ module _ (h : Handle) (s : St) (shape : Shaped h s) (sound : T (soundb h s)) whe
     some : 1 ≤ numberAt s j / 8
     parent : parentOf (numberAt s j) ≡ k
 
-  link-named : (level k i j : ℕ) → UsedAt s level k → i < 512 → subOf (h .base .0) (tables s) level (wordAt s k i) ≡ Table j → Named k j
+  link-named : (k level i j : ℕ) → UsedAt s k level → i < 512 → subOf (h .base .0) (tables s) level (wordAt s k i) ≡ Table j → Named k j
   unfolding refersb linkb namesb
-  link-named level k i j u b e =
+  link-named k level i j u b e =
       let w = wordAt s k i in
       let f = sub-found (h .base .0) (tables s) level w j e in
       let y = numberAt s k in
       let high : T (ltb (levelOf y) 3) = lt→ltb (levelOf y) 3 (omega (arith, u .at, f .high)) in
       let t = cond-true (refersb y w) (linkb (h .base .0) s k i w) (leafb (flagSet h) (levelOf y) w)
-      (and-i (ltb (levelOf y) 3) (eqb (w % 4) 3) high (eq→eqb (w % 4) 3 (f .low))) (used-slot level k i u b) in
+      (and-i (ltb (levelOf y) 3) (eqb (w % 4) 3) high (eq→eqb (w % 4) 3 (f .low))) (used-slot k level i u b) in
       go ((addressOf w - h .base .0) / 4096) (f .place) t
     where
       go : (c : ℕ) → c ≡ j
@@ -99,13 +99,13 @@ module _ (h : Handle) (s : St) (shape : Shaped h s) (sound : T (soundb h s)) whe
           })
 
   -- .. and that table is in use, one level down
-  named-used : (level k j : ℕ) → UsedAt s level k → j < tables s → Named k j → T (tableb h s j) → UsedAt s (level + 1) j
+  named-used : (k level j : ℕ) → UsedAt s k level → j < tables s → Named k j → T (tableb h s j) → UsedAt s j (level + 1)
   unfolding tableb rootNumber hangsb
-  named-used level k zero u l n t =
+  named-used k level zero u l n t =
       absurd (let e = eqb→eq (numberAt s 0) (4 + h .level) t in omega (arith, n .some, shape .level))
-  named-used level k (suc j) u l n t = go (or-e (eqb (numberAt s (suc j)) 0) (hangsb (h .base .0) s (suc j)) t)
+  named-used k level (suc j) u l n t = go (or-e (eqb (numberAt s (suc j)) 0) (hangsb (h .base .0) s (suc j)) t)
     where
-      go : T (eqb (numberAt s (suc j)) 0) ⊎ T (hangsb (h .base .0) s (suc j)) → UsedAt s (level + 1) (suc j)
+      go : T (eqb (numberAt s (suc j)) 0) ⊎ T (hangsb (h .base .0) s (suc j)) → UsedAt s (suc j) (level + 1)
       go (inl z) = absurd (let e = eqb→eq (numberAt s (suc j)) 0 z in omega (arith, n .low))
       go (inr g) =
           let y = numberAt s (parentOf (numberAt s (suc j))) in
@@ -114,17 +114,17 @@ module _ (h : Handle) (s : St) (shape : Shaped h s) (sound : T (soundb h s)) whe
           let up : levelOf y ≡ level = ap (λ (p : ℕ). levelOf (numberAt s p)) (n .parent) ∙ u .at in
           record { inside = l; used = (λ z. omega (arith, n .low)); at = omega arith }
 
-  lawful-from : (left k : ℕ) → left ≤ 3 → UsedAt s (3 - left) k → LawfulTable left h s k
+  lawful-from : (depth k : ℕ) → depth ≤ 3 → UsedAt s k (3 - depth) → LawfulTable depth h s k
   unfolding LawfulTable
   lawful-from zero k l u = 0
-  lawful-from (suc left) k l u = λ i b.
-      let low : 3 - suc left < 3 = omega arith in (
-        (λ e. leaf-lawful (3 - suc left) k i low u b (λ q. sub-some (h .base .0) (tables s) (3 - suc left) (wordAt s k i) low q e)),
+  lawful-from (suc depth) k l u = λ i b.
+      let low : 3 - suc depth < 3 = omega arith in (
+        (λ e. leaf-lawful k (3 - suc depth) i low u b (λ q. sub-some (h .base .0) (tables s) (3 - suc depth) (wordAt s k i) low q e)),
         (λ j e.
-            let f = sub-found (h .base .0) (tables s) (3 - suc left) (wordAt s k i) j e in
-            let next : 3 - suc left + 1 ≡ 3 - left = omega arith in
-            lawful-from left j (omega arith)
-            (subst (λ (n : ℕ). UsedAt s n j) next (named-used (3 - suc left) k j u (f .below) (link-named (3 - suc left) k i j u b e) (sound-table h s sound j (f .below))))),
+            let f = sub-found (h .base .0) (tables s) (3 - suc depth) (wordAt s k i) j e in
+            let next : 3 - suc depth + 1 ≡ 3 - depth = omega arith in
+            lawful-from depth j (omega arith)
+            (subst (λ (n : ℕ). UsedAt s j n) next (named-used k (3 - suc depth) j u (f .below) (link-named k (3 - suc depth) i j u b e) (sound-table h s sound j (f .below))))),
       )
 
   -- the root and all below it

@@ -24,62 +24,62 @@ pub record Stays (level : ℕ) (r : Rule) : Type 0 where
   pub here : r ≡ Down → ⊥
   pub high : (x : ℕ) → r ≡ Drop x → level < 3
 
-module _ (rec : ℕ → St → St) (h : Handle) (level k i : ℕ) (s : St) {r : Rule} where
-  ruled : (q : Rule) → r ≡ q → byRule rec h level k i q s ≡ byRule rec h level k i r s
-  ruled q e = ap (λ (x : Rule). byRule rec h level k i x s) (sym e)
+module _ (rec : ℕ → St → St) (h : Handle) (k level i : ℕ) (s : St) {r : Rule} where
+  ruled : (q : Rule) → r ≡ q → byRule rec h k level i q s ≡ byRule rec h k level i r s
+  ruled q e = ap (λ (x : Rule). byRule rec h k level i x s) (sym e)
 
-  pub put-write : (x : ℕ) → r ≡ Write x → storeAt k i x s ≡ byRule rec h level k i r s
+  pub put-write : (x : ℕ) → r ≡ Write x → storeAt k i x s ≡ byRule rec h k level i r s
   unfolding byRule
   put-write x e = ruled (Write x) e
 
-  pub put-keep : r ≡ Keep → s ≡ byRule rec h level k i r s
+  pub put-keep : r ≡ Keep → s ≡ byRule rec h k level i r s
   unfolding byRule
   put-keep e = ruled Keep e
 
-  pub put-drop : (x : ℕ) → r ≡ Drop x → dropEntry h level (wordAt s k i) (storeAt k i x s) ≡ byRule rec h level k i r s
+  pub put-drop : (x : ℕ) → r ≡ Drop x → dropEntry h level (wordAt s k i) (storeAt k i x s) ≡ byRule rec h k level i r s
   unfolding byRule
   put-drop x e = ruled (Drop x) e
 
 -- whatever would be done below
-pub put-here : (rec other : ℕ → St → St) (h : Handle) (level k i : ℕ) (s : St) (r : Rule) → (r ≡ Down → ⊥) → byRule rec h level k i r s ≡ byRule other h level k i r s
+pub put-here : (rec other : ℕ → St → St) (h : Handle) (k level i : ℕ) (s : St) (r : Rule) → (r ≡ Down → ⊥) → byRule rec h k level i r s ≡ byRule other h k level i r s
 unfolding byRule
-put-here rec other h level k i s (Write x) n = refl
-put-here rec other h level k i s Keep n = refl
-put-here rec other h level k i s (Drop x) n = refl
-put-here rec other h level k i s Down n = absurd (n refl)
+put-here rec other h k level i s (Write x) n = refl
+put-here rec other h k level i s Keep n = refl
+put-here rec other h k level i s (Drop x) n = refl
+put-here rec other h k level i s Down n = absurd (n refl)
 
 -- ---- what leaves the ledger
 
 -- a table that is there, or none
-sub-kept : (h : Handle) (level k i : ℕ) (s : St) (x : Sub) → (x ≡ Leaf → ⊥) → belowOf h level k i s x .state ≡ s
+sub-kept : (h : Handle) (k level i : ℕ) (s : St) (x : Sub) → (x ≡ Leaf → ⊥) → belowOf h k level i s x .state ≡ s
 unfolding belowOf
-sub-kept h level k i s (Table j) n = refl
-sub-kept h level k i s Outside n = refl
-sub-kept h level k i s Leaf n = absurd (n refl)
+sub-kept h k level i s (Table j) n = refl
+sub-kept h k level i s Outside n = refl
+sub-kept h k level i s Leaf n = absurd (n refl)
 
-pub below-kept : (h : Handle) (level k i : ℕ) (s : St) {f : Found} {t : St} → taken f t ≡ below h level k i s → level < 3 → wordAt s k i % 4 ≡ 3 → t ≡ s
+pub below-kept : (h : Handle) (k level i : ℕ) (s : St) {f : Found} {t : St} → taken f t ≡ below h k level i s → level < 3 → wordAt s k i % 4 ≡ 3 → t ≡ s
 unfolding below
-below-kept h level k i s e l w =
+below-kept h k level i s e l w =
     ap (λ (x : Taken). x .state) e
-    ∙ sub-kept h level k i s (subOf (h .base .0) (tables s) level (wordAt s k i)) (sub-some (h .base .0) (tables s) level (wordAt s k i) l w)
+    ∙ sub-kept h k level i s (subOf (h .base .0) (tables s) level (wordAt s k i)) (sub-some (h .base .0) (tables s) level (wordAt s k i) l w)
 
 -- nothing taken
-take-nothing : (h : Handle) (level p i : ℕ) (l : List ℕ) (s : St) (f : Found) → takeFound h level p i l s f .table ≡ Nothing → takeFound h level p i l s f .state ≡ s
+take-nothing : (h : Handle) (p level i : ℕ) (l : List ℕ) (s : St) (f : Found) → takeFound h p level i l s f .table ≡ Nothing → takeFound h p level i l s f .state ≡ s
 unfolding takeFound
-take-nothing h level p i l s (At j) e = let z : _≡_ {A = ℕ} 0 1 = cc in absurd (omega arith)
-take-nothing h level p i l s Nothing e = refl
+take-nothing h p level i l s (At j) e = let z : _≡_ {A = ℕ} 0 1 = cc in absurd (omega arith)
+take-nothing h p level i l s Nothing e = refl
 
-sub-nothing : (h : Handle) (level k i : ℕ) (s : St) (x : Sub) → belowOf h level k i s x .table ≡ Nothing → belowOf h level k i s x .state ≡ s
+sub-nothing : (h : Handle) (k level i : ℕ) (s : St) (x : Sub) → belowOf h k level i s x .table ≡ Nothing → belowOf h k level i s x .state ≡ s
 unfolding belowOf splitEntry takeTable
-sub-nothing h level k i s (Table j) e = refl
-sub-nothing h level k i s Outside e = refl
-sub-nothing h level k i s Leaf e = take-nothing h (level + 1) k i (fillOf level (wordAt s k i)) s (lowestFree (s .ledger)) e
+sub-nothing h k level i s (Table j) e = refl
+sub-nothing h k level i s Outside e = refl
+sub-nothing h k level i s Leaf e = take-nothing h k (level + 1) i (fillOf level (wordAt s k i)) s (lowestFree (s .ledger)) e
 
-pub below-nothing : (h : Handle) (level k i : ℕ) (s : St) {f : Found} {t : St} → taken f t ≡ below h level k i s → f ≡ Nothing → t ≡ s
+pub below-nothing : (h : Handle) (k level i : ℕ) (s : St) {f : Found} {t : St} → taken f t ≡ below h k level i s → f ≡ Nothing → t ≡ s
 unfolding below
-below-nothing h level k i s e q =
+below-nothing h k level i s e q =
     ap (λ (x : Taken). x .state) e
-    ∙ sub-nothing h level k i s (subOf (h .base .0) (tables s) level (wordAt s k i)) (sym (ap (λ (x : Taken). x .table) e) ∙ q)
+    ∙ sub-nothing h k level i s (subOf (h .base .0) (tables s) level (wordAt s k i)) (sym (ap (λ (x : Taken). x .table) e) ∙ q)
 
 -- ---- a subtree dropped
 

@@ -20,16 +20,16 @@ dropEntry h level w s = freeSub (λ j t. freeTree (3 - (level + 1)) h j t) (subO
 
 -- a rule carried out on slot i of table k; `rec` goes on one level down
 unfoldable pub byRule : (ℕ → St → St) → Handle → ℕ → ℕ → ℕ → Rule → St → St
-byRule rec h level k i (Write x) s = storeAt k i x s
-byRule rec h level k i Keep s = s
-byRule rec h level k i (Drop x) s = dropEntry h level (wordAt s k i) (storeAt k i x s)
-byRule rec h level k i Down s = into rec (below h level k i s)
+byRule rec h k level i (Write x) s = storeAt k i x s
+byRule rec h k level i Keep s = s
+byRule rec h k level i (Drop x) s = dropEntry h level (wordAt s k i) (storeAt k i x s)
+byRule rec h k level i Down s = into rec (below h k level i s)
 
 -- one chunk of table k
 unfoldable pub mapChunk : (ℕ → Map → St → St) → Handle → ℕ → ℕ → Map → St → St
-mapChunk rec h level k m s =
+mapChunk rec h k level m s =
     let i = entryIndex level (m .region .start .0) in
-    byRule (λ j t. rec j m t) h level k i (ruleOf level m (wordAt s k i)) s
+    byRule (λ j t. rec j m t) h k level i (ruleOf level m (wordAt s k i)) s
 
 -- "for each chunk, ascending .. the frame rises by the chunk's length after each"
 unfoldable pub eachOf : (MemoryRegion → ℕ → St → St) → List MemoryRegion → ℕ → St → St
@@ -39,7 +39,7 @@ eachOf f (c ∷ cs) frame s = eachOf f cs (frame + (c .end .0 - c .start .0)) (f
 unfoldable pub eachChunk : ℕ → (Map → St → St) → Map → St → St
 eachChunk level f m s = eachOf (λ c frame t. f (chunkMap m c frame) t) (chunks level (m .region .start .0) (m .region .end .0)) (m .frame .0) s
 
--- a map of table k with `left` levels below its own
+-- a map of table k with `depth` levels below its own
 unfoldable pub mapRange : ℕ → Handle → ℕ → Map → St → St
-mapRange zero h k m s = eachChunk 3 (mapChunk (λ j n t. t) h 3 k) m s
-mapRange (suc left) h k m s = eachChunk (3 - suc left) (mapChunk (λ j n t. mapRange left h j n t) h (3 - suc left) k) m s
+mapRange zero h k m s = eachChunk 3 (mapChunk (λ j n t. t) h k 3) m s
+mapRange (suc depth) h k m s = eachChunk (3 - suc depth) (mapChunk (λ j n t. mapRange depth h j n t) h k (3 - suc depth)) m s

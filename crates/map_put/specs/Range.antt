@@ -26,28 +26,28 @@ use Rattle.map_put.specs.Laws.{put-here}
 -- ---- one level down
 
 -- at level 3 there is nothing below
-unfoldable pub recAt : ℕ → Handle → ℕ → Map → St → St
-recAt level h = cond (ltb level 3) (λ j n t. mapRange (3 - (level + 1)) h j n t) (λ j n t. t)
+unfoldable pub recAt : Handle → ℕ → ℕ → Map → St → St
+recAt h level = cond (ltb level 3) (λ j n t. mapRange (3 - (level + 1)) h j n t) (λ j n t. t)
 
-pub rec-down : (level : ℕ) (h : Handle) (j : ℕ) (n : Map) (t : St) → level < 3 → mapRange (3 - (level + 1)) h j n t ≡ recAt level h j n t
+pub rec-down : (h : Handle) (j level : ℕ) (n : Map) (t : St) → level < 3 → mapRange (3 - (level + 1)) h j n t ≡ recAt h level j n t
 unfolding recAt
-rec-down level h j n t l = rw (lt-ltb level 3 l)
+rec-down h j level n t l = rw (lt-ltb level 3 l)
 
 -- one chunk of table k
-unfoldable pub stepAt : ℕ → Handle → ℕ → Map → St → St
-stepAt level h k = mapChunk (recAt level h) h level k
+unfoldable pub stepAt : Handle → ℕ → ℕ → Map → St → St
+stepAt h k level = mapChunk (recAt h level) h k level
 
-pub map-open : (level : ℕ) (h : Handle) (k : ℕ) (m : Map) (s : St) → level ≤ 3 → eachChunk level (stepAt level h k) m s ≡ mapRange (3 - level) h k m s
+pub map-open : (h : Handle) (k level : ℕ) (m : Map) (s : St) → level ≤ 3 → eachChunk level (stepAt h k level) m s ≡ mapRange (3 - level) h k m s
 unfolding stepAt recAt mapRange
-map-open level h k m s l = ⊎-elim
+map-open h k level m s l = ⊎-elim
     (λ ge.
     let e : 3 ≡ level = omega arith in
-    ap (λ (x : ℕ). eachChunk x (mapChunk (cond (ltb x 3) (λ j n t. mapRange (3 - (x + 1)) h j n t) (λ j n t. t)) h x k) m s) (sym e) ∙ ap (λ (x : ℕ). mapRange (3 - x) h k m s) e)
+    ap (λ (x : ℕ). eachChunk x (mapChunk (cond (ltb x 3) (λ j n t. mapRange (3 - (x + 1)) h j n t) (λ j n t. t)) h k x) m s) (sym e) ∙ ap (λ (x : ℕ). mapRange (3 - x) h k m s) e)
     (λ lt.
     let e : suc (3 - (level + 1)) ≡ 3 - level = omega arith in
     let q : level ≡ 3 - suc (3 - (level + 1)) = omega arith in
     rw (lt-ltb level 3 lt)
-    (ap (λ (x : ℕ). eachChunk x (mapChunk (λ j n t. mapRange (3 - (level + 1)) h j n t) h x k) m s) q ∙ ap (λ (x : ℕ). mapRange x h k m s) e))
+    (ap (λ (x : ℕ). eachChunk x (mapChunk (λ j n t. mapRange (3 - (level + 1)) h j n t) h k x) m s) q ∙ ap (λ (x : ℕ). mapRange x h k m s) e))
     (le-or 3 level)
 
 -- ---- the loop
@@ -65,38 +65,38 @@ module _ (level : ℕ) (f : Map → St → St) (m : Map) (at end frame : ℕ) (s
 
 -- ---- one chunk, by its rule
 
-module _ (h : Handle) (level k : ℕ) (m : Map) (s : St) {i : ℕ} (index : i ≡ entryIndex level (m .region .start .0)) {r : Rule} (is : r ≡ ruleOf level m (wordAt s k i)) where
-  chosen : (q : Rule) → r ≡ q → byRule (λ j t. recAt level h j m t) h level k i q s ≡ stepAt level h k m s
+module _ (h : Handle) (k level : ℕ) (m : Map) (s : St) {i : ℕ} (index : i ≡ entryIndex level (m .region .start .0)) {r : Rule} (is : r ≡ ruleOf level m (wordAt s k i)) where
+  chosen : (q : Rule) → r ≡ q → byRule (λ j t. recAt h level j m t) h k level i q s ≡ stepAt h k level m s
   unfolding stepAt mapChunk
   chosen q e =
-      ap (λ (x : Rule). byRule (λ j t. recAt level h j m t) h level k i x s) (sym e ∙ is)
-      ∙ ap (λ (x : ℕ). byRule (λ j t. recAt level h j m t) h level k x (ruleOf level m (wordAt s k x)) s) index
+      ap (λ (x : Rule). byRule (λ j t. recAt h level j m t) h k level i x s) (sym e ∙ is)
+      ∙ ap (λ (x : ℕ). byRule (λ j t. recAt h level j m t) h k level x (ruleOf level m (wordAt s k x)) s) index
 
-  pub chunk-write : (x : ℕ) → r ≡ Write x → storeAt k i x s ≡ stepAt level h k m s
+  pub chunk-write : (x : ℕ) → r ≡ Write x → storeAt k i x s ≡ stepAt h k level m s
   unfolding byRule
   chunk-write x e = chosen (Write x) e
 
-  pub chunk-keep : r ≡ Keep → s ≡ stepAt level h k m s
+  pub chunk-keep : r ≡ Keep → s ≡ stepAt h k level m s
   unfolding byRule
   chunk-keep e = chosen Keep e
 
-  pub chunk-drop : (x : ℕ) → r ≡ Drop x → dropEntry h level (wordAt s k i) (storeAt k i x s) ≡ stepAt level h k m s
+  pub chunk-drop : (x : ℕ) → r ≡ Drop x → dropEntry h level (wordAt s k i) (storeAt k i x s) ≡ stepAt h k level m s
   unfolding byRule
   chunk-drop x e = chosen (Drop x) e
 
   -- any rule that goes no lower
-  pub chunk-here : (r ≡ Down → ⊥) → byRule (λ j t. t) h level k i r s ≡ stepAt level h k m s
-  chunk-here n = put-here (λ j t. t) (λ j t. recAt level h j m t) h level k i s r n ∙ chosen r refl
+  pub chunk-here : (r ≡ Down → ⊥) → byRule (λ j t. t) h k level i r s ≡ stepAt h k level m s
+  chunk-here n = put-here (λ j t. t) (λ j t. recAt h level j m t) h k level i s r n ∙ chosen r refl
 
-  module _ (e : r ≡ Down) {f : Found} {t : St} (found : taken f t ≡ below h level k i s) where
-    gone-down : inFound (λ j u. recAt level h j m u) f t ≡ stepAt level h k m s
+  module _ (e : r ≡ Down) {f : Found} {t : St} (found : taken f t ≡ below h k level i s) where
+    gone-down : inFound (λ j u. recAt h level j m u) f t ≡ stepAt h k level m s
     unfolding byRule into
-    gone-down = ap (λ (x : Taken). inFound (λ j u. recAt level h j m u) (x .table) (x .state)) found ∙ chosen Down e
+    gone-down = ap (λ (x : Taken). inFound (λ j u. recAt h level j m u) (x .table) (x .state)) found ∙ chosen Down e
 
-    pub chunk-none : f ≡ Nothing → t ≡ stepAt level h k m s
+    pub chunk-none : f ≡ Nothing → t ≡ stepAt h k level m s
     unfolding inFound
-    chunk-none q = ap (λ (x : Found). inFound (λ j u. recAt level h j m u) x t) (sym q) ∙ gone-down
+    chunk-none q = ap (λ (x : Found). inFound (λ j u. recAt h level j m u) x t) (sym q) ∙ gone-down
 
-    pub chunk-into : (j : ℕ) → f ≡ At j → level < 3 → mapRange (3 - (level + 1)) h j m t ≡ stepAt level h k m s
+    pub chunk-into : (j : ℕ) → f ≡ At j → level < 3 → mapRange (3 - (level + 1)) h j m t ≡ stepAt h k level m s
     unfolding inFound
-    chunk-into j q l = rec-down level h j m t l ∙ ap (λ (x : Found). inFound (λ j u. recAt level h j m u) x t) (sym q) ∙ gone-down
+    chunk-into j q l = rec-down h j level m t l ∙ ap (λ (x : Found). inFound (λ j u. recAt h level j m u) x t) (sym q) ∙ gone-down

@@ -28,14 +28,14 @@ pub fn put_entry(
     words: &mut [u64],
     ledger: &mut [u32],
     handle: Handle,
-    level: usize,
     k: usize,
+    level: usize,
     i: usize,
     rule: Rule,
     changed: bool,
 ) -> bool
     requires { ⌜ Shaped handle (st (now words) (now ledger)) × (k < length (now ledger)) × (i < 512) × Stays level rule ⌝ }
-    ensures { λ r. ⌜ (st (now (words .exit)) (now (ledger .exit)) ≡ byRule (λ j t. t) handle level k i rule (st (now (words .entry)) (now (ledger .entry))))
+    ensures { λ r. ⌜ (st (now (words .exit)) (now (ledger .exit)) ≡ byRule (λ j t. t) handle k level i rule (st (now (words .entry)) (now (ledger .entry))))
         × (r ≡ false → (changed ≡ false) × (now (ledger .exit) ≡ now (ledger .entry))) ⌝ }
 {
     match rule {

@@ -32,8 +32,8 @@ pub fn map_range(
     let mut frame = map.frame.0;
     let mut changed = false;
     while at < end {
-        let stop = address_slot::chunk_end(at, end, level);
-        let i = address_slot::entry_index(at, level);
+        let stop = address_slot::chunk_end(level, at, end);
+        let i = address_slot::entry_index(level, at);
         let start = VirtualAddress(at);
         let chunk = map_rules::chunk_of(map, start, VirtualAddress(stop), PhysicalAddress(frame));
         frame += stop - at;
@@ -41,10 +41,10 @@ pub fn map_range(
         let word = words[512 * k + i];
         let rule = map_rules::rule_of(level, chunk, word);
         let Rule::Down = rule else {
-            changed = map_put::put_entry(words, ledger, handle, level, k, i, rule, changed);
+            changed = map_put::put_entry(words, ledger, handle, k, level, i, rule, changed);
             continue;
         };
-        let under = map_split::descend(words, ledger, handle, level, k, i);
+        let under = map_split::descend(words, ledger, handle, k, level, i);
         let Found::At(j) = under else {
             continue;
         };

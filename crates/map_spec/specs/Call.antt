@@ -53,14 +53,14 @@ module _ (h : Handle) (m : Map) (s : St) where
   unfolding mapSound
   sound-not e = rw e
 
-  module _ (sound : soundb h s ≡ true) {need room : ℕ} (counts : need ≡ needed (3 - h .level) h s 0 m) (left : room ≡ free (s .ledger)) where
+  module _ (sound : soundb h s ≡ true) {need room : ℕ} (counts : need ≡ needed (3 - h .level) h s 0 m) (spare : room ≡ free (s .ledger)) where
     pub sound-full : room < need → refused (WantOfRoom need room) s ≡ mapSound h m s
     unfolding mapSound
-    sound-full l = rw (sound, sym counts, sym left, lt-ltb room need l)
+    sound-full l = rw (sound, sym counts, sym spare, lt-ltb room need l)
 
     pub sound-mapped : need ≤ room → putDown h m s ≡ mapSound h m s
     unfolding mapSound
-    sound-mapped l = rw (sound, sym counts, sym left, le-ltb room need l)
+    sound-mapped l = rw (sound, sym counts, sym spare, le-ltb room need l)
 
   pub put-down : {t : St} {count : ℕ} → t ≡ mapRange (3 - h .level) h 0 m s → count ≡ used (t .ledger) → out (counted.Tables count) t ≡ putDown h m s
   unfolding putDown

@@ -16,22 +16,22 @@ pub fn split_entry(
     words: &mut [u64],
     ledger: &mut [u32],
     handle: Handle,
-    level: usize,
     k: usize,
+    level: usize,
     i: usize,
 ) -> Found
     requires { ⌜ Shaped handle (st (now words) (now ledger)) × (level < 3) × (k < length (now ledger)) × (i < 512) × (getD (now words) (512 * k + i) 0 % 4 ≡ 3 → ⊥) ⌝ }
-    ensures { λ r. ⌜ taken r (st (now (words .exit)) (now (ledger .exit))) ≡ splitEntry handle level k i (st (now (words .entry)) (now (ledger .entry))) ⌝ }
+    ensures { λ r. ⌜ taken r (st (now (words .exit)) (now (ledger .exit))) ≡ splitEntry handle k level i (st (now (words .entry)) (now (ledger .entry))) ⌝ }
 {
     let word = words[512 * k + i];
     let flags = entry::flags(word);
     if word % 2 != 1 {
-        return pool_take::take_table(words, ledger, handle, level + 1, k, i, flags, 0);
+        return pool_take::take_table(words, ledger, handle, k, level + 1, i, flags, 0);
     }
     let address = (word & entry::ADDRESS_BITS) & !(address::granularity_at_level(level) - 1);
     let first = map_rules::leaf_word(level + 1, PhysicalAddress(address), flags);
     let step = address::granularity_at_level(level + 1);
-    pool_take::take_table(words, ledger, handle, level + 1, k, i, first, step)
+    pool_take::take_table(words, ledger, handle, k, level + 1, i, first, step)
 }
 
 // The table below a slot: the one that is there, or a new one.
@@ -39,12 +39,12 @@ pub fn descend(
     words: &mut [u64],
     ledger: &mut [u32],
     handle: Handle,
-    level: usize,
     k: usize,
+    level: usize,
     i: usize,
 ) -> Found
     requires { ⌜ Shaped handle (st (now words) (now ledger)) × (level < 3) × (k < length (now ledger)) × (i < 512) ⌝ }
-    ensures { λ r. ⌜ taken r (st (now (words .exit)) (now (ledger .exit))) ≡ below handle level k i (st (now (words .entry)) (now (ledger .entry))) ⌝ }
+    ensures { λ r. ⌜ taken r (st (now (words .exit)) (now (ledger .exit))) ≡ below handle k level i (st (now (words .entry)) (now (ledger .entry))) ⌝ }
 {
     let word = words[512 * k + i];
     let kind = entry::subtable(handle.base, ledger.len(), level, word);
@@ -52,7 +52,7 @@ pub fn descend(
         let Sub::Leaf = kind else {
             return Found::Nothing;
         };
-        return split_entry(words, ledger, handle, level, k, i);
+        return split_entry(words, ledger, handle, k, level, i);
     };
     Found::At(j)
 }

@@ -25,7 +25,7 @@ Serves h m s k level = (mapRange (3 - level) h k m s ≡ mapRange (3 - h .level)
 
 -- a table below table k in which the map does what it does in table k
 abbrev pub LeadsTo : Handle → ℕ → ℕ → Map → St → Found → Type 0
-LeadsTo h level k m s f = (j : ℕ) → f ≡ At j → (mapRange (3 - (level + 1)) h j m s ≡ mapRange (3 - level) h k m s) × (j < tables s)
+LeadsTo h k level m s f = (j : ℕ) → f ≡ At j → (mapRange (3 - (level + 1)) h j m s ≡ mapRange (3 - level) h k m s) × (j < tables s)
 
 -- a region in one entry is one chunk
 one-chunk : (level : ℕ) (f : Map → St → St) (m : Map) (s : St) → m .region .start .0 < m .region .end .0
@@ -38,19 +38,19 @@ one-chunk level f m s some one =
     ∙ ap (λ (x : ℕ). eachChunk level f (chunkMap m (region x end) (frame + (x - at))) (f (chunkMap m (region at x) frame) s)) one
     ∙ each-done level f m end end (frame + (end - at)) (f (chunkMap m (region at end) frame) s) (omega arith)
 
-module _ (h : Handle) (level k : ℕ) (m : Map) (s : St) where
+module _ (h : Handle) (k level : ℕ) (m : Map) (s : St) where
   pub map-below : level < 3 → m .region .start .0 < m .region .end .0 → chunkEnd level (m .region .start .0) (m .region .end .0) ≡ m .region .end .0
       → {i : ℕ} → i ≡ entryIndex level (m .region .start .0)
       → {r : Rule} → r ≡ ruleOf level m (wordAt s k i) → r ≡ Down
       → {x : Sub} → x ≡ subOf (h .base .0) (tables s) level (wordAt s k i) → (j : ℕ) → x ≡ Table j
       → mapRange (3 - (level + 1)) h j m s ≡ mapRange (3 - level) h k m s
   map-below low some one {i} index is down kind j table =
-      chunk-into h level k m s index is down (below-table h level k i s kind j table) j refl low
-      ∙ sym (one-chunk level (stepAt level h k) m s some one)
-      ∙ map-open level h k m s (omega arith)
+      chunk-into h k level m s index is down (below-table h k level i s kind j table) j refl low
+      ∙ sym (one-chunk level (stepAt h k level) m s some one)
+      ∙ map-open h k level m s (omega arith)
 
-  pub none-leads : LeadsTo h level k m s Nothing
+  pub none-leads : LeadsTo h k level m s Nothing
   none-leads j e = let z : _≡_ {A = ℕ} 0 1 = cc in absurd (omega arith)
 
-  pub some-leads : {j : ℕ} → mapRange (3 - (level + 1)) h j m s ≡ mapRange (3 - level) h k m s → j < tables s → LeadsTo h level k m s (At j)
+  pub some-leads : {j : ℕ} → mapRange (3 - (level + 1)) h j m s ≡ mapRange (3 - level) h k m s → j < tables s → LeadsTo h k level m s (At j)
   some-leads {j} same below i e = let q : j ≡ i = cc in (ap (λ (x : ℕ). mapRange (3 - (level + 1)) h x m s) (sym q) ∙ same, omega arith)

@@ -22,23 +22,23 @@ fn next_table(
     words: &[u64],
     ledger: &[u32],
     handle: Handle,
-    level: usize,
     k: usize,
+    level: usize,
     map: Map,
 ) -> Found
     requires { ⌜ Shaped handle (st (now words) (now ledger)) × (k < length (now ledger)) × (level < 3) × Fit map ⌝ }
-    ensures { λ r. ⌜ LeadsTo handle level k map (st (now (words .entry)) (now (ledger .entry))) r ⌝ }
+    ensures { λ r. ⌜ LeadsTo handle k level map (st (now (words .entry)) (now (ledger .entry))) r ⌝ }
 {
     let start = map.region.start.0;
     let end = map.region.end.0;
     if end <= start {
         return Found::Nothing;
     }
-    let stop = address_slot::chunk_end(start, end, level);
+    let stop = address_slot::chunk_end(level, start, end);
     if stop != end {
         return Found::Nothing;
     }
-    let i = address_slot::entry_index(start, level);
+    let i = address_slot::entry_index(level, start);
     let word = words[512 * k + i];
     let kind = entry::subtable(handle.base, ledger.len(), level, word);
     let Sub::Table(j) = kind else {
@@ -59,7 +59,7 @@ pub fn lowest_table(words: &[u64], ledger: &[u32], handle: Handle, map: Map) -> 
     let mut k = 0;
     let mut level = handle.level;
     while level < address::LEAF_LEVEL {
-        let next = next_table(words, ledger, handle, level, k, map);
+        let next = next_table(words, ledger, handle, k, level, map);
         let Found::At(j) = next else {
             return Place { table: k, level };
         };

@@ -87,9 +87,9 @@ module _ (h : Handle) (e : Edit) (s : St) (list : List ℕ) where
   unfolding modifySound
   sound-not q = rw q
 
-  module _ (sound : soundb h s ≡ true) {room : ℕ} (left : room ≡ free (s .ledger)) {v : Survey} (found : v ≡ surveyOf h e s) {x : Outcome} (is : x ≡ verifySurvey room (length list) (e .live) v) where
+  module _ (sound : soundb h s ≡ true) {room : ℕ} (spare : room ≡ free (s .ledger)) {v : Survey} (found : v ≡ surveyOf h e s) {x : Outcome} (is : x ≡ verifySurvey room (length list) (e .live) v) where
     surveyed : x ≡ verifySurvey (free (s .ledger)) (length list) (e .live) (surveyOf h e s)
-    surveyed = is ∙ rw (left, found)
+    surveyed = is ∙ rw (spare, found)
 
     by-survey : (y : Outcome) → x ≡ y → orElse y (editTables h e s list) s list ≡ modifySound h e s list
     unfolding modifySound

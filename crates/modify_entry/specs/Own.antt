@@ -36,7 +36,7 @@ noted w l n = record { words = w; list = l; count = n }
 
 -- "the page number (address / 4096 mod 2^44) of each valid entry whose word changed"
 unfoldable pub ownChunk : ℕ → ℕ → Edit → MemoryRegion → Noted → Noted
-ownChunk level k e c n =
+ownChunk k level e c n =
     let x = 512 * k + entryIndex level (c .start .0) in
     let w = getD (n .words) x 0 in
     let new = editWord level e w in
@@ -45,7 +45,7 @@ ownChunk level k e c n =
 
 -- "ascending". A table's word is no leaf and stays; a chunk that is part of an entry has had a table since the entry was split.
 unfoldable pub ownRange : ℕ → ℕ → Edit → Noted → Noted
-ownRange level k e n = eachChunk level (ownChunk level k e) (e .region) n
+ownRange k level e n = eachChunk level (ownChunk k level e) (e .region) n
 
 -- ---- laws: one for each way through the code
 
@@ -62,20 +62,20 @@ module _ (number count : ℕ) (list : List ℕ) where
   unfolding putNumber
   number-put live e h = rw (e, lt-ltb count (length list) h)
 
-module _ (level k : ℕ) (e : Edit) (c : MemoryRegion) (n : Noted) {i : ℕ} (index : i ≡ entryIndex level (c .start .0))
+module _ (k level : ℕ) (e : Edit) (c : MemoryRegion) (n : Noted) {i : ℕ} (index : i ≡ entryIndex level (c .start .0))
     {new : ℕ} (is : new ≡ editWord level e (getD (n .words) (512 * k + i) 0)) where
-  pub own-same : new ≡ getD (n .words) (512 * k + i) 0 → n ≡ ownChunk level k e c n
+  pub own-same : new ≡ getD (n .words) (512 * k + i) 0 → n ≡ ownChunk k level e c n
   unfolding ownChunk
   own-same q = rw (← index, ← is, eq-eqb new (getD (n .words) (512 * k + i) 0) q)
 
   pub own-changed : (new ≡ getD (n .words) (512 * k + i) 0 → ⊥) → {number : ℕ} → number ≡ c .start .0 / 4096 % 2 ^ 44
       → {count : ℕ} {list : List ℕ} → numbered count list ≡ putNumber (e .live) number (n .count) (n .list)
-      → noted (set (n .words) (512 * k + i) new) list count ≡ ownChunk level k e c n
+      → noted (set (n .words) (512 * k + i) new) list count ≡ ownChunk k level e c n
   unfolding ownChunk
   own-changed q at put =
       rw (← index, ← is, ne-eqb new (getD (n .words) (512 * k + i) 0) q, ← at)
       (ap (λ (l : Numbered). noted (set (n .words) (512 * k + i) new) (l .list) (l .count)) put)
 
-pub own-all : (level k : ℕ) (e : Edit) (n : Noted) → eachChunk level (ownChunk level k e) (e .region) n ≡ ownRange level k e n
+pub own-all : (k level : ℕ) (e : Edit) (n : Noted) → eachChunk level (ownChunk k level e) (e .region) n ≡ ownRange k level e n
 unfolding ownRange
-own-all level k e n = refl
+own-all k level e n = refl

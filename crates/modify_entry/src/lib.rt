@@ -68,14 +68,14 @@ pub fn edit_own(
     before: usize,
 ) -> usize
     requires { ⌜ 512 * k + 512 ≤ length (now words) ⌝ }
-    ensures { λ r. ⌜ noted (now (words .exit)) (now (list .exit)) r ≡ ownRange level k edit (noted (now (words .entry)) (now (list .entry)) before) ⌝ }
+    ensures { λ r. ⌜ noted (now (words .exit)) (now (list .exit)) r ≡ ownRange k level edit (noted (now (words .entry)) (now (list .entry)) before) ⌝ }
 {
     let end = edit.region.end.0;
     let mut at = edit.region.start.0;
     let mut count = before;
     while at < end {
-        let stop = address_slot::chunk_end(at, end, level);
-        let i = address_slot::entry_index(at, level);
+        let stop = address_slot::chunk_end(level, at, end);
+        let i = address_slot::entry_index(level, at);
         let number = address::tlbi_address(VirtualAddress(at));
         at = stop;
         let word = words[512 * k + i];

@@ -39,25 +39,25 @@ onward rec Nothing w = w
 
 -- a chunk of table k that goes down: to the table that is there, or to a new one ("a partly covered entry is split first, hole or not")
 unfoldable pub downChunk : (ℕ → MemoryRegion → Work → Work) → Handle → ℕ → ℕ → MemoryRegion → Work → Work
-downChunk rec h level k c w =
+downChunk rec h k level c w =
     let i = entryIndex level (c .start .0) in
-    let t = below h level k i (w .state) in
+    let t = below h k level i (w .state) in
     let done = onward (λ j. rec j c) (t .table) (work (t .state) (w .list) (w .count)) in
     cond (own level c (wordAt (w .state) k i)) w done
 
 -- a table's own entries
 unfoldable pub ownWork : ℕ → ℕ → Edit → Work → Work
-ownWork level k e w =
-    let n = ownRange level k e (noted (w .state .words) (w .list) (w .count)) in
+ownWork k level e w =
+    let n = ownRange k level e (noted (w .state .words) (w .list) (w .count)) in
     work (st (n .words) (w .state .ledger)) (n .list) (n .count)
 
--- an edit of table k with `left` levels below its own: "a lower table's numbers when that table is finished, a table's own last", so first the chunks that
+-- an edit of table k with `depth` levels below its own: "a lower table's numbers when that table is finished, a table's own last", so first the chunks that
 -- go down, then the table's own entries
 unfoldable pub modifyRange : ℕ → Handle → ℕ → Edit → Work → Work
-modifyRange zero h k e w = ownWork 3 k e w
-modifyRange (suc left) h k e w =
-    let lower = eachChunk (3 - suc left) (downChunk (λ j c. modifyRange left h j (chunkEdit e c)) h (3 - suc left) k) (e .region) w in
-    ownWork (3 - suc left) k e lower
+modifyRange zero h k e w = ownWork k 3 e w
+modifyRange (suc depth) h k e w =
+    let lower = eachChunk (3 - suc depth) (downChunk (λ j c. modifyRange depth h j (chunkEdit e c)) h k (3 - suc depth)) (e .region) w in
+    ownWork k (3 - suc depth) e lower
 
 -- ---- laws: one for each way through the code
 
@@ -69,46 +69,46 @@ pub own-leaf : (level : ℕ) (c : MemoryRegion) (w : ℕ) → (w % 4 ≡ 3 → �
 unfolding own tableWord
 own-leaf level c w n = rw (ne-eqb (w % 4) 3 n)
 
-pub own-done : (level k : ℕ) (e : Edit) (w : Work) {words list : List ℕ} {count : ℕ}
-    → noted words list count ≡ ownRange level k e (noted (w .state .words) (w .list) (w .count)) → work (st words (w .state .ledger)) list count ≡ ownWork level k e w
+pub own-done : (k level : ℕ) (e : Edit) (w : Work) {words list : List ℕ} {count : ℕ}
+    → noted words list count ≡ ownRange k level e (noted (w .state .words) (w .list) (w .count)) → work (st words (w .state .ledger)) list count ≡ ownWork k level e w
 unfolding ownWork
-own-done level k e w q = ap (λ (n : Noted). work (st (n .words) (w .state .ledger)) (n .list) (n .count)) q
+own-done k level e w q = ap (λ (n : Noted). work (st (n .words) (w .state .ledger)) (n .list) (n .count)) q
 
 -- one chunk that goes down
-unfoldable pub stepAt : ℕ → Handle → ℕ → Edit → MemoryRegion → Work → Work
-stepAt level h k e = downChunk (λ j c. modifyRange (3 - (level + 1)) h j (chunkEdit e c)) h level k
+unfoldable pub stepAt : Handle → ℕ → ℕ → Edit → MemoryRegion → Work → Work
+stepAt h k level e = downChunk (λ j c. modifyRange (3 - (level + 1)) h j (chunkEdit e c)) h k level
 
-pub modify-pages : (level : ℕ) (h : Handle) (k : ℕ) (e : Edit) (w : Work) → level ≤ 3 → 3 ≤ level → ownWork level k e w ≡ modifyRange (3 - level) h k e w
+pub modify-pages : (h : Handle) (k level : ℕ) (e : Edit) (w : Work) → level ≤ 3 → 3 ≤ level → ownWork k level e w ≡ modifyRange (3 - level) h k e w
 unfolding modifyRange
-modify-pages level h k e w l m =
+modify-pages h k level e w l m =
     let q : level ≡ 3 = omega arith in
-    ap (λ (x : ℕ). ownWork x k e w) q ∙ ap (λ (x : ℕ). modifyRange (3 - x) h k e w) (sym q)
+    ap (λ (x : ℕ). ownWork k x e w) q ∙ ap (λ (x : ℕ). modifyRange (3 - x) h k e w) (sym q)
 
-pub modify-open : (level : ℕ) (h : Handle) (k : ℕ) (e : Edit) (w : Work) → level < 3
-    → ownWork level k e (eachChunk level (stepAt level h k e) (e .region) w) ≡ modifyRange (3 - level) h k e w
+pub modify-open : (h : Handle) (k level : ℕ) (e : Edit) (w : Work) → level < 3
+    → ownWork k level e (eachChunk level (stepAt h k level e) (e .region) w) ≡ modifyRange (3 - level) h k e w
 unfolding modifyRange stepAt
-modify-open level h k e w l =
+modify-open h k level e w l =
     let p : suc (3 - (level + 1)) ≡ 3 - level = omega arith in
     let q : level ≡ 3 - suc (3 - (level + 1)) = omega arith in
-    ap (λ (x : ℕ). ownWork x k e (eachChunk x (downChunk (λ j c. modifyRange (3 - (level + 1)) h j (chunkEdit e c)) h x k) (e .region) w)) q
+    ap (λ (x : ℕ). ownWork k x e (eachChunk x (downChunk (λ j c. modifyRange (3 - (level + 1)) h j (chunkEdit e c)) h k x) (e .region) w)) q
     ∙ ap (λ (x : ℕ). modifyRange x h k e w) p
 
-module _ (h : Handle) (level k : ℕ) (e : Edit) (c : MemoryRegion) (w : Work) {i : ℕ} (index : i ≡ entryIndex level (c .start .0)) where
-  pub step-own : own level c (wordAt (w .state) k i) ≡ true → w ≡ stepAt level h k e c w
+module _ (h : Handle) (k level : ℕ) (e : Edit) (c : MemoryRegion) (w : Work) {i : ℕ} (index : i ≡ entryIndex level (c .start .0)) where
+  pub step-own : own level c (wordAt (w .state) k i) ≡ true → w ≡ stepAt h k level e c w
   unfolding stepAt downChunk
   step-own q = rw (← index, q)
 
-  module _ (q : own level c (wordAt (w .state) k i) ≡ false) {f : Found} {t : St} (found : taken f t ≡ below h level k i (w .state)) where
-    gone-down : onward (λ j. modifyRange (3 - (level + 1)) h j (chunkEdit e c)) f (work t (w .list) (w .count)) ≡ stepAt level h k e c w
+  module _ (q : own level c (wordAt (w .state) k i) ≡ false) {f : Found} {t : St} (found : taken f t ≡ below h k level i (w .state)) where
+    gone-down : onward (λ j. modifyRange (3 - (level + 1)) h j (chunkEdit e c)) f (work t (w .list) (w .count)) ≡ stepAt h k level e c w
     unfolding stepAt downChunk
     gone-down =
         rw (← index, q)
         (ap (λ (x : Taken). onward (λ j. modifyRange (3 - (level + 1)) h j (chunkEdit e c)) (x .table) (work (x .state) (w .list) (w .count))) found)
 
-    pub step-none : f ≡ Nothing → work t (w .list) (w .count) ≡ stepAt level h k e c w
+    pub step-none : f ≡ Nothing → work t (w .list) (w .count) ≡ stepAt h k level e c w
     unfolding onward
     step-none z = rw (← gone-down, z)
 
-    pub step-into : (j : ℕ) → f ≡ At j → modifyRange (3 - (level + 1)) h j (chunkEdit e c) (work t (w .list) (w .count)) ≡ stepAt level h k e c w
+    pub step-into : (j : ℕ) → f ≡ At j → modifyRange (3 - (level + 1)) h j (chunkEdit e c) (work t (w .list) (w .count)) ≡ stepAt h k level e c w
     unfolding onward
     step-into j z = rw (← gone-down, z)

@@ -43,14 +43,14 @@ pub fn modify_range(
     let mut at = edit.region.start.0;
     let mut count = before;
     while at < end {
-        let stop = address_slot::chunk_end(at, end, level);
-        let i = address_slot::entry_index(at, level);
+        let stop = address_slot::chunk_end(level, at, end);
+        let i = address_slot::entry_index(level, at);
         let part = modify_entry::chunk_edit(edit, VirtualAddress(at), VirtualAddress(stop));
         at = stop;
         if is_own(level, part.region, words[512 * k + i]) {
             continue;
         }
-        let under = map_split::descend(words, ledger, handle, level, k, i);
+        let under = map_split::descend(words, ledger, handle, k, level, i);
         let Found::At(j) = under else {
             continue;
         };

@@ -24,14 +24,14 @@ use Rattle.modify_entry.specs.Each.{eachChunk, chunkEdit}
 use Rattle.modify_survey.specs.declared.Survey.{Survey}
 use Rattle.modify_survey.specs.House.{mayChange}
 
--- the splits for a chunk of an entry that is no table, with `left` levels below the entry's: none if it is the whole entry; else the entry's own, and those of
+-- the splits for a chunk of an entry that is no table, with `depth` levels below the entry's: none if it is the whole entry; else the entry's own, and those of
 -- the chunks in the new table
 unfoldable pub adding : (MemoryRegion → ℕ) → MemoryRegion → ℕ → ℕ
 adding f c n = n + f c
 
 unfoldable pub splitsIn : ℕ → MemoryRegion → ℕ
 splitsIn zero r = 0
-splitsIn (suc left) r = let more = eachChunk (3 - left) (adding (λ c. splitsIn left c)) r 1 in cond (whole (3 - suc left) r) 0 more
+splitsIn (suc depth) r = let more = eachChunk (3 - depth) (adding (λ c. splitsIn depth c)) r 1 in cond (whole (3 - suc depth) r) 0 more
 
 -- refusal 10: "live house rule broken; lowest address" carries the old word, so the first one stays
 unfoldable pub breach : ℕ → Survey → Survey
@@ -67,14 +67,14 @@ surveySub Outside rec x v = v
 surveySub Leaf rec x v = x
 
 unfoldable pub surveyChunk : (ℕ → Edit → Survey → Survey) → Handle → St → ℕ → ℕ → Edit → MemoryRegion → Survey → Survey
-surveyChunk rec h s level k e c v =
+surveyChunk rec h s k level e c v =
     let w = wordAt s k (entryIndex level (c .start .0)) in
     surveySub (subOf (h .base .0) (tables s) level w) (λ j. rec j (chunkEdit e c) v) (surveyEntry h level (chunkEdit e c) w v) v
 
--- an edit of table k with `left` levels below its own
+-- an edit of table k with `depth` levels below its own
 unfoldable pub surveyRange : ℕ → Handle → St → ℕ → Edit → Survey → Survey
-surveyRange zero h s k e v = eachChunk 3 (surveyChunk (λ j n x. x) h s 3 k e) (e .region) v
-surveyRange (suc left) h s k e v = eachChunk (3 - suc left) (surveyChunk (λ j n x. surveyRange left h s j n x) h s (3 - suc left) k e) (e .region) v
+surveyRange zero h s k e v = eachChunk 3 (surveyChunk (λ j n x. x) h s k 3 e) (e .region) v
+surveyRange (suc depth) h s k e v = eachChunk (3 - suc depth) (surveyChunk (λ j n x. surveyRange depth h s j n x) h s k (3 - suc depth) e) (e .region) v
 
 -- ---- laws: one for each way through the code
 
@@ -153,42 +153,42 @@ module _ (h : Handle) (level : ℕ) (e : Edit) (w : ℕ) (v : Survey) where
   entry-part q = rw q
 
 -- at level 3 there is nothing below
-unfoldable pub recAt : ℕ → Handle → St → ℕ → Edit → Survey → Survey
-recAt level h s = cond (ltb level 3) (λ j n x. surveyRange (3 - (level + 1)) h s j n x) (λ j n x. x)
+unfoldable pub recAt : Handle → St → ℕ → ℕ → Edit → Survey → Survey
+recAt h s level = cond (ltb level 3) (λ j n x. surveyRange (3 - (level + 1)) h s j n x) (λ j n x. x)
 
 -- one chunk of table k
-unfoldable pub stepAt : ℕ → Handle → St → ℕ → Edit → MemoryRegion → Survey → Survey
-stepAt level h s k e = surveyChunk (recAt level h s) h s level k e
+unfoldable pub stepAt : Handle → St → ℕ → ℕ → Edit → MemoryRegion → Survey → Survey
+stepAt h s k level e = surveyChunk (recAt h s level) h s k level e
 
-pub survey-open : (level : ℕ) (h : Handle) (s : St) (k : ℕ) (e : Edit) (v : Survey) → level ≤ 3
-    → eachChunk level (stepAt level h s k e) (e .region) v ≡ surveyRange (3 - level) h s k e v
+pub survey-open : (h : Handle) (s : St) (k level : ℕ) (e : Edit) (v : Survey) → level ≤ 3
+    → eachChunk level (stepAt h s k level e) (e .region) v ≡ surveyRange (3 - level) h s k e v
 unfolding stepAt recAt surveyRange
-survey-open level h s k e v l = ⊎-elim
+survey-open h s k level e v l = ⊎-elim
     (λ ge.
     let q : 3 ≡ level = omega arith in
-    ap (λ (x : ℕ). eachChunk x (surveyChunk (cond (ltb x 3) (λ j n y. surveyRange (3 - (x + 1)) h s j n y) (λ j n y. y)) h s x k e) (e .region) v) (sym q)
+    ap (λ (x : ℕ). eachChunk x (surveyChunk (cond (ltb x 3) (λ j n y. surveyRange (3 - (x + 1)) h s j n y) (λ j n y. y)) h s k x e) (e .region) v) (sym q)
     ∙ ap (λ (x : ℕ). surveyRange (3 - x) h s k e v) q)
     (λ lt.
     let p : suc (3 - (level + 1)) ≡ 3 - level = omega arith in
     let q : level ≡ 3 - suc (3 - (level + 1)) = omega arith in
     rw (lt-ltb level 3 lt)
-    (ap (λ (x : ℕ). eachChunk x (surveyChunk (λ j n y. surveyRange (3 - (level + 1)) h s j n y) h s x k e) (e .region) v) q ∙ ap (λ (x : ℕ). surveyRange x h s k e v) p))
+    (ap (λ (x : ℕ). eachChunk x (surveyChunk (λ j n y. surveyRange (3 - (level + 1)) h s j n y) h s k x e) (e .region) v) q ∙ ap (λ (x : ℕ). surveyRange x h s k e v) p))
     (le-or 3 level)
 
-module _ (h : Handle) (s : St) (level k : ℕ) (e : Edit) (c : MemoryRegion) (v : Survey) {i : ℕ} (index : i ≡ entryIndex level (c .start .0))
+module _ (h : Handle) (s : St) (k level : ℕ) (e : Edit) (c : MemoryRegion) (v : Survey) {i : ℕ} (index : i ≡ entryIndex level (c .start .0))
     {x : Sub} (is : x ≡ subOf (h .base .0) (tables s) level (wordAt s k i)) where
-  found : (y : Sub) → x ≡ y → surveySub y (λ j. recAt level h s j (chunkEdit e c) v) (surveyEntry h level (chunkEdit e c) (wordAt s k i) v) v ≡ stepAt level h s k e c v
+  found : (y : Sub) → x ≡ y → surveySub y (λ j. recAt h s level j (chunkEdit e c) v) (surveyEntry h level (chunkEdit e c) (wordAt s k i) v) v ≡ stepAt h s k level e c v
   unfolding stepAt surveyChunk
   found y q = rw (← index, ← is, q)
 
-  pub step-table : (j : ℕ) → x ≡ Table j → level < 3 → surveyRange (3 - (level + 1)) h s j (chunkEdit e c) v ≡ stepAt level h s k e c v
+  pub step-table : (j : ℕ) → x ≡ Table j → level < 3 → surveyRange (3 - (level + 1)) h s j (chunkEdit e c) v ≡ stepAt h s k level e c v
   unfolding surveySub recAt
   step-table j q l = rw (← found (Table j) q, lt-ltb level 3 l)
 
-  pub step-entry : x ≡ Leaf → surveyEntry h level (chunkEdit e c) (wordAt s k i) v ≡ stepAt level h s k e c v
+  pub step-entry : x ≡ Leaf → surveyEntry h level (chunkEdit e c) (wordAt s k i) v ≡ stepAt h s k level e c v
   unfolding surveySub
   step-entry q = found Leaf q
 
-  pub step-outside : x ≡ Outside → v ≡ stepAt level h s k e c v
+  pub step-outside : x ≡ Outside → v ≡ stepAt h s k level e c v
   unfolding surveySub
   step-outside q = found Outside q

@@ -35,13 +35,13 @@ either : (b : Bool) (x y n : ℕ) → x ≤ n → y ≤ n → cond b x y ≤ n
 either true x y n h k = h
 either false x y n h k = k
 
-splits-levels : (left : ℕ) (r : MemoryRegion) → r .start .0 < r .end .0 → splitsIn left r ≤ lengthOf r * left
+splits-levels : (depth : ℕ) (r : MemoryRegion) → r .start .0 < r .end .0 → splitsIn depth r ≤ lengthOf r * depth
 unfolding splitsIn adding
 splits-levels zero r h = omega arith
-splits-levels (suc left) r h =
-    let most = each-most (λ (n : ℕ). n) left (3 - left) (adding (λ c. splitsIn left c)) (λ c n l. omega (arith, splits-levels left c l)) r 1 in
-    let e = mul-suc (lengthOf r) left in
-    either (whole (3 - suc left) r) 0 _ _ (omega arith) (omega arith)
+splits-levels (suc depth) r h =
+    let most = each-most (λ (n : ℕ). n) depth (3 - depth) (adding (λ c. splitsIn depth c)) (λ c n l. omega (arith, splits-levels depth c l)) r 1 in
+    let e = mul-suc (lengthOf r) depth in
+    either (whole (3 - suc depth) r) 0 _ _ (omega arith) (omega arith)
 
 pub splits-most : (level : ℕ) (r : MemoryRegion) → r .start .0 < r .end .0 → splitsIn (3 - level) r ≤ lengthOf r * 3
 splits-most level r h =
@@ -100,9 +100,9 @@ unfolding surveyEntry
 entry-adds h level e w v l = choose (whole level (e .region)) (whole-adds h level e w v l) (part-adds level (e .region) w v l)
 
 chunk-adds : (rec : ℕ → Edit → Survey → Survey) → ((j : ℕ) (n : Edit) (x : Survey) → Adds (n .region) x (rec j n x))
-    → (h : Handle) (s : St) (level k : ℕ) (e : Edit) (c : MemoryRegion) (v : Survey) → c .start .0 < c .end .0 → Adds c v (surveyChunk rec h s level k e c v)
+    → (h : Handle) (s : St) (k level : ℕ) (e : Edit) (c : MemoryRegion) (v : Survey) → c .start .0 < c .end .0 → Adds c v (surveyChunk rec h s k level e c v)
 unfolding surveyChunk
-chunk-adds rec a h s level k e c v l =
+chunk-adds rec a h s k level e c v l =
     let w = wordAt s k (entryIndex level (c .start .0)) in
     below (subOf (h .base .0) (tables s) level w) (λ j. a j (chunkEdit e c) v) (entry-adds h level (chunkEdit e c) w v l)
 
@@ -113,10 +113,10 @@ each-adds level f a r v = record {
   numbers = each-most (λ (x : Survey). x .numbers) 3 level f (λ c x l. a c x l .numbers) r v;
 }
 
-pub range-adds : (left : ℕ) (h : Handle) (s : St) (k : ℕ) (e : Edit) (v : Survey) → Adds (e .region) v (surveyRange left h s k e v)
+pub range-adds : (depth : ℕ) (h : Handle) (s : St) (k : ℕ) (e : Edit) (v : Survey) → Adds (e .region) v (surveyRange depth h s k e v)
 unfolding surveyRange
-range-adds zero h s k e v = each-adds 3 _ (λ c x l. chunk-adds _ (λ j n y. same) h s 3 k e c x l) (e .region) v
-range-adds (suc left) h s k e v = each-adds (3 - suc left) _ (λ c x l. chunk-adds _ (λ j n y. range-adds left h s j n y) h s (3 - suc left) k e c x l) (e .region) v
+range-adds zero h s k e v = each-adds 3 _ (λ c x l. chunk-adds _ (λ j n y. same) h s k 3 e c x l) (e .region) v
+range-adds (suc depth) h s k e v = each-adds (3 - suc depth) _ (λ c x l. chunk-adds _ (λ j n y. range-adds depth h s j n y) h s k (3 - suc depth) e c x l) (e .region) v
 
 -- ---- room for a chunk, and for what remains after it
 

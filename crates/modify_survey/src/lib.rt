@@ -53,7 +53,7 @@ fn count_splits(level: usize, region: MemoryRegion) -> u64
     let mut at = region.start.0;
     let mut count = 1;
     while at < end {
-        let stop = address_slot::chunk_end(at, end, level + 1);
+        let stop = address_slot::chunk_end(level + 1, at, end);
         let chunk = MemoryRegion {
             start: VirtualAddress(at),
             end: VirtualAddress(stop),
@@ -147,8 +147,8 @@ pub fn survey_range(
     let mut at = edit.region.start.0;
     let mut seen = before;
     while at < end {
-        let stop = address_slot::chunk_end(at, end, level);
-        let i = address_slot::entry_index(at, level);
+        let stop = address_slot::chunk_end(level, at, end);
+        let i = address_slot::entry_index(level, at);
         let part = modify_entry::chunk_edit(edit, VirtualAddress(at), VirtualAddress(stop));
         at = stop;
         let word = words[512 * k + i];

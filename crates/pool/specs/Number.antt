@@ -15,7 +15,7 @@ rootNumber level = 4 + level
 
 -- .. any other table 4 + level + 8·(512·p + i + 1), where slot i of table p refers to it
 unfoldable pub numberOf : ℕ → ℕ → ℕ → ℕ
-numberOf level p i = 4 + level + 8 * (512 * p + i + 1)
+numberOf p level i = 4 + level + 8 * (512 * p + i + 1)
 
 -- and read back: the level, the table and the slot that the number names
 abbrev pub levelOf : ℕ → ℕ
@@ -32,25 +32,25 @@ pub record Names (x : ℕ) : Type 0 where
   pub kind : 4 ≤ x % 8
   pub some : 1 ≤ x / 8
 
-pub level-back : (level p i : ℕ) → level < 4 → levelOf (numberOf level p i) ≡ level
+pub level-back : (p level i : ℕ) → level < 4 → levelOf (numberOf p level i) ≡ level
 unfolding numberOf
-level-back level p i low = omega arith
+level-back p level i low = omega arith
 
-module _ (level p i : ℕ) (low : level < 4) (slot : i < 512) where
-  pub parent-back : parentOf (numberOf level p i) ≡ p
+module _ (p level i : ℕ) (low : level < 4) (slot : i < 512) where
+  pub parent-back : parentOf (numberOf p level i) ≡ p
   unfolding numberOf
   parent-back = omega arith
 
-  pub slot-back : slotOf (numberOf level p i) ≡ i
+  pub slot-back : slotOf (numberOf p level i) ≡ i
   unfolding numberOf
   slot-back = omega arith
 
-  pub number-names : Names (numberOf level p i)
+  pub number-names : Names (numberOf p level i)
   unfolding numberOf
   number-names = omega arith
 
 -- a number that names a slot is that slot's number
-pub number-whole : (x : ℕ) → Names x → x ≡ numberOf (levelOf x) (parentOf x) (slotOf x)
+pub number-whole : (x : ℕ) → Names x → x ≡ numberOf (parentOf x) (levelOf x) (slotOf x)
 unfolding numberOf
 number-whole x names = omega arith
 

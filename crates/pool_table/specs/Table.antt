@@ -38,8 +38,8 @@ rising (suc n) first step = first ∷ rising n (first + step) step
 
 -- table j taken for slot i of table p, at this level: filled with t, entered, then linked
 unfoldable pub takeAt : Handle → ℕ → ℕ → ℕ → List ℕ → ℕ → St → St
-takeAt h level p i t j s =
-    st (set (putTable j t (s .words)) (512 * p + i) (linkOf (h .base .0) j)) (set (s .ledger) j (numberOf level p i))
+takeAt h p level i t j s =
+    st (set (putTable j t (s .words)) (512 * p + i) (linkOf (h .base .0) j)) (set (s .ledger) j (numberOf p level i))
 
 -- "a new table is always the lowest free number at that moment"
 pub record Taken : Type 0 where
@@ -50,11 +50,11 @@ abbrev pub taken : Found → St → Taken
 taken f s = record { table = f; state = s }
 
 unfoldable pub takeFound : Handle → ℕ → ℕ → ℕ → List ℕ → St → Found → Taken
-takeFound h level p i t s (At j) = taken (At j) (takeAt h level p i t j s)
-takeFound h level p i t s Nothing = taken Nothing s
+takeFound h p level i t s (At j) = taken (At j) (takeAt h p level i t j s)
+takeFound h p level i t s Nothing = taken Nothing s
 
 unfoldable pub takeTable : Handle → ℕ → ℕ → ℕ → List ℕ → St → Taken
-takeTable h level p i t s = takeFound h level p i t s (lowestFree (s .ledger))
+takeTable h p level i t s = takeFound h p level i t s (lowestFree (s .ledger))
 
 -- ---- a whole subtree: what its slots lead to, one level down, and then the table itself
 
@@ -65,12 +65,12 @@ freeSub rec Outside s = s
 freeSub rec Leaf s = s
 
 unfoldable pub freeSlot : (ℕ → St → St) → Handle → ℕ → ℕ → ℕ → St → St
-freeSlot rec h level k i s = freeSub rec (subOf (h .base .0) (tables s) level (wordAt s k i)) s
+freeSlot rec h k level i s = freeSub rec (subOf (h .base .0) (tables s) level (wordAt s k i)) s
 
--- table k with `left` levels below its own
+-- table k with `depth` levels below its own
 unfoldable pub freeTree : ℕ → Handle → ℕ → St → St
 freeTree zero h k s = clear k s
-freeTree (suc left) h k s = clear k (iter (freeSlot (λ j t. freeTree left h j t) h (3 - suc left) k) 512 s)
+freeTree (suc depth) h k s = clear k (iter (freeSlot (λ j t. freeTree depth h j t) h k (3 - suc depth)) 512 s)
 
 -- ---- laws: one for each way through the code
 
@@ -78,44 +78,44 @@ pub clear-is : (k : ℕ) (s : St) → st (putTable k zeros (s .words)) (set (s .
 unfolding clear
 clear-is k s = refl
 
-pub take-none : (h : Handle) (level p i : ℕ) (t : List ℕ) (s : St) {f : Found} → f ≡ lowestFree (s .ledger) → f ≡ Nothing
-    → taken Nothing s ≡ takeTable h level p i t s
+pub take-none : (h : Handle) (p level i : ℕ) (t : List ℕ) (s : St) {f : Found} → f ≡ lowestFree (s .ledger) → f ≡ Nothing
+    → taken Nothing s ≡ takeTable h p level i t s
 unfolding takeTable takeFound
-take-none h level p i t s e q = ap (takeFound h level p i t s) (sym q ∙ e)
+take-none h p level i t s e q = ap (takeFound h p level i t s) (sym q ∙ e)
 
-pub take-some : (h : Handle) (level p i : ℕ) (t : List ℕ) (s : St) {f : Found} (j : ℕ) → f ≡ lowestFree (s .ledger) → f ≡ At j
-    → taken (At j) (takeAt h level p i t j s) ≡ takeTable h level p i t s
+pub take-some : (h : Handle) (p level i : ℕ) (t : List ℕ) (s : St) {f : Found} (j : ℕ) → f ≡ lowestFree (s .ledger) → f ≡ At j
+    → taken (At j) (takeAt h p level i t j s) ≡ takeTable h p level i t s
 unfolding takeTable takeFound
-take-some h level p i t s j e q = ap (takeFound h level p i t s) (sym q ∙ e)
+take-some h p level i t s j e q = ap (takeFound h p level i t s) (sym q ∙ e)
 
-module _ (rec : ℕ → St → St) (h : Handle) (level k i : ℕ) (s : St) {x : Sub} (is : x ≡ subOf (h .base .0) (tables s) level (wordAt s k i)) where
-  chosen : (y : Sub) → x ≡ y → freeSub rec y s ≡ freeSlot rec h level k i s
+module _ (rec : ℕ → St → St) (h : Handle) (k level i : ℕ) (s : St) {x : Sub} (is : x ≡ subOf (h .base .0) (tables s) level (wordAt s k i)) where
+  chosen : (y : Sub) → x ≡ y → freeSub rec y s ≡ freeSlot rec h k level i s
   unfolding freeSlot
   chosen y e = ap (λ (z : Sub). freeSub rec z s) (sym e ∙ is)
 
-  pub slot-table : (j : ℕ) → x ≡ Table j → rec j s ≡ freeSlot rec h level k i s
+  pub slot-table : (j : ℕ) → x ≡ Table j → rec j s ≡ freeSlot rec h k level i s
   unfolding freeSub
   slot-table j e = chosen (Table j) e
 
-  pub slot-outside : x ≡ Outside → s ≡ freeSlot rec h level k i s
+  pub slot-outside : x ≡ Outside → s ≡ freeSlot rec h k level i s
   unfolding freeSub
   slot-outside e = chosen Outside e
 
-  pub slot-leaf : x ≡ Leaf → s ≡ freeSlot rec h level k i s
+  pub slot-leaf : x ≡ Leaf → s ≡ freeSlot rec h k level i s
   unfolding freeSub
   slot-leaf e = chosen Leaf e
 
-pub free-down : (level : ℕ) (h : Handle) (k : ℕ) (s : St) → level < 3
-    → clear k (iter (freeSlot (λ j t. freeTree (3 - (level + 1)) h j t) h level k) 512 s) ≡ freeTree (3 - level) h k s
+pub free-down : (h : Handle) (k level : ℕ) (s : St) → level < 3
+    → clear k (iter (freeSlot (λ j t. freeTree (3 - (level + 1)) h j t) h k level) 512 s) ≡ freeTree (3 - level) h k s
 unfolding freeTree
-free-down level h k s low =
+free-down h k level s low =
     let e : suc (3 - (level + 1)) ≡ 3 - level = omega arith in
     let q : level ≡ 3 - suc (3 - (level + 1)) = omega arith in
-    ap (λ (l : ℕ). clear k (iter (freeSlot (λ j t. freeTree (3 - (level + 1)) h j t) h l k) 512 s)) q ∙ ap (λ (d : ℕ). freeTree d h k s) e
+    ap (λ (l : ℕ). clear k (iter (freeSlot (λ j t. freeTree (3 - (level + 1)) h j t) h k l) 512 s)) q ∙ ap (λ (d : ℕ). freeTree d h k s) e
 
-pub free-last : (level : ℕ) (h : Handle) (k : ℕ) (s : St) → 3 ≤ level → clear k s ≡ freeTree (3 - level) h k s
+pub free-last : (h : Handle) (k level : ℕ) (s : St) → 3 ≤ level → clear k s ≡ freeTree (3 - level) h k s
 unfolding freeTree
-free-last level h k s high =
+free-last h k level s high =
     let e : 0 ≡ 3 - level = omega arith in
     ap (λ (d : ℕ). freeTree d h k s) e
 

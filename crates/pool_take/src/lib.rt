@@ -28,14 +28,14 @@ pub fn take_table(
     words: &mut [u64],
     ledger: &mut [u32],
     handle: Handle,
-    level: usize,
     p: usize,
+    level: usize,
     i: usize,
     first: u64,
     step: u64,
 ) -> Found
     requires { ⌜ Shaped handle (st (now words) (now ledger)) × (level ≤ 3) × (p < length (now ledger)) × (i < 512) × (first + 511 * step < 2 ^ 64) ⌝ }
-    ensures { λ r. ⌜ taken r (st (now (words .exit)) (now (ledger .exit))) ≡ takeTable handle level p i (rising 512 first step) (st (now (words .entry)) (now (ledger .entry))) ⌝ }
+    ensures { λ r. ⌜ taken r (st (now (words .exit)) (now (ledger .exit))) ≡ takeTable handle p level i (rising 512 first step) (st (now (words .entry)) (now (ledger .entry))) ⌝ }
 {
     let free = pool_ledger::lowest_free(ledger);
     let Found::At(j) = free else {

@@ -69,7 +69,7 @@ impl ChunkedIterator {
         if end <= start {
             return NextChunk::Done;
         }
-        let stop = address_slot::chunk_end(start, end, level);
+        let stop = address_slot::chunk_end(level, start, end);
         NextChunk::Chunk(
             MemoryRegion {
                 start: VirtualAddress(start),

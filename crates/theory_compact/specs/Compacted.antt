@@ -33,13 +33,13 @@ use Rattle.theory_compact.specs.Run.{Ready, Worked, pool-again, shaped-a
 use Rattle.theory_compact.specs.Tight.{NoneEmpty, tight-none, table-same}
 
 -- a word of 0 shows the same at every level
-zero-shows : (va left : ℕ) → shown (says va (met (record { word = 0; left = left }))) ≡ hole 0
+zero-shows : (va depth : ℕ) → shown (says va (met (record { word = 0; depth = depth }))) ≡ hole 0
 unfolding shown met says bits flagsIn
-zero-shows va left = refl
+zero-shows va depth = refl
 
-slots-below : (va left : ℕ) → slotsOf va left < 512
+slots-below : (va depth : ℕ) → slotsOf va depth < 512
 unfolding slotsOf
-slots-below va left = slot-below (3 - left) va
+slots-below va depth = slot-below (3 - depth) va
 
 -- at the root of a sound pool
 ready : {h : Handle} {s : St} → Shaped h s → SoundPool h s → Ready h s (3 - h .level) 0

@@ -28,38 +28,38 @@ use Rattle.theory_sound.specs.FreeRun.{SameSize, size-trans}
 use Rattle.compact_spec.specs.Compact.{allZero, tableWords, releaseEmpty, compactEntry, compactTable, release-kept, release-freed, entry-table, entry-leaf}
 use Rattle.theory_compact.specs.Empty.{empty-is}
 
--- where a run stands: at table k of a sound pool, with `left` levels below its own
-pub record Ready (h : Handle) (s : St) (left k : ℕ) : Type 0 where
+-- where a run stands: at table k of a sound pool, with `depth` levels below its own
+pub record Ready (h : Handle) (s : St) (depth k : ℕ) : Type 0 where
   pub shape : Shaped h s
   pub pool : SoundPool h s
   pub used : InUse s k
-  pub low : levelAt s k + left ≡ 3
+  pub low : levelAt s k + depth ≡ 3
 
 -- what one entry's step comes to, whatever is done one level down
-module _ {h : Handle} (rec : ℕ → St → St) (s : St) (left k i : ℕ) (R : Ready h s (suc left) k) (inside : i < 512) where
+module _ {h : Handle} (rec : ℕ → St → St) (s : St) (depth k i : ℕ) (R : Ready h s (suc depth) k) (inside : i < 512) where
   -- the slot refers to no table
-  pub entry-none : slotWord s k i % 4 ≢ 3 → s ≡ compactEntry rec h (3 - suc left) k i s
-  entry-none other = entry-leaf rec h (3 - suc left) k i s refl
-      (sym (sub-leaf (h .base .0) (tables s) (3 - suc left) (wordAt s k i) (λ table. other (ap (λ (w : ℕ). w % 4) (word-in s k i inside) ∙ table .1))))
+  pub entry-none : slotWord s k i % 4 ≢ 3 → s ≡ compactEntry rec h k (3 - suc depth) i s
+  entry-none other = entry-leaf rec h k (3 - suc depth) i s refl
+      (sym (sub-leaf (h .base .0) (tables s) (3 - suc depth) (wordAt s k i) (λ table. other (ap (λ (w : ℕ). w % 4) (word-in s k i inside) ∙ table .1))))
 
   -- it refers to table c
-  pub entry-some : (placed : Placed h) (c : ℕ) → Refers (codecOf h placed) (view s) k i c → releaseEmpty k i c (rec c s) ≡ compactEntry rec h (3 - suc left) k i s
-  entry-some placed c r = entry-table rec h (3 - suc left) k i s refl c
+  pub entry-some : (placed : Placed h) (c : ℕ) → Refers (codecOf h placed) (view s) k i c → releaseEmpty k i c (rec c s) ≡ compactEntry rec h k (3 - suc depth) i s
+  entry-some placed c r = entry-table rec h k (3 - suc depth) i s refl c
       (rw (sym (word-in s k i inside) ∙ r .says)
-      (sub-link (h .base .0) (tables s) (3 - suc left) c (omega arith) (R .shape .paged) (R .shape .ended) (used-in s c (r .used))))
+      (sub-link (h .base .0) (tables s) c (3 - suc depth) (omega arith) (R .shape .paged) (R .shape .ended) (used-in s c (r .used))))
 
 module _ {h : Handle} (placed : Placed h) where
   abbrev C : Codec
   C = codecOf h placed
 
   -- s′ is s with work done at table k, whose tree is now t
-  pub record Worked (s s′ : St) (left k : ℕ) (t : Tree) : Type 0 where
-    pub work : Work C (view s) (view s′) left k t
+  pub record Worked (s s′ : St) (depth k : ℕ) (t : Tree) : Type 0 where
+    pub work : Work C (view s) (view s′) depth k t
     pub size : SameSize s s′
 
   -- .. at slot i of table k
-  record Moved (s s′ : St) (left k i : ℕ) (t : Tree) : Type 0 where
-    move : Move C (view s) (view s′) left k i t
+  record Moved (s s′ : St) (depth k i : ℕ) (t : Tree) : Type 0 where
+    move : Move C (view s) (view s′) depth k i t
     size : SameSize s s′
 
   -- the pool is sound again
@@ -71,23 +71,23 @@ module _ {h : Handle} (placed : Placed h) where
 
   -- what is still to be shown of a table one level down
   abbrev Below : ℕ → Type 0
-  Below left = (s : St) (j : ℕ) → Ready h s left j → Worked s (compactTable left h j s) left j (compactTree left (treeFrom h s left j))
+  Below depth = (s : St) (j : ℕ) → Ready h s depth j → Worked s (compactTable depth h j s) depth j (compactTree depth (treeFrom h s depth j))
 
-  module _ (left : ℕ) (below : Below left) where
+  module _ (depth : ℕ) (below : Below depth) where
     abbrev rec : ℕ → St → St
-    rec j t = compactTable left h j t
+    rec j t = compactTable depth h j t
 
     abbrev step : ℕ → ℕ → St → St
-    step k i s = compactEntry rec h (3 - suc left) k i s
+    step k i s = compactEntry rec h k (3 - suc depth) i s
 
     abbrev squashed : Tree → Tree
-    squashed t = squash (λ u. compactTree left u) t
+    squashed t = squash (λ u. compactTree depth u) t
 
     -- ---- one entry
 
-    module _ (s : St) (k i : ℕ) (R : Ready h s (suc left) k) (inside : i < 512) where
+    module _ (s : St) (k i : ℕ) (R : Ready h s (suc depth) k) (inside : i < 512) where
       abbrev Goal : St → Type 0
-      Goal s′ = Moved s s′ (suc left) k i (squashed (slotTree C (view s) (suc left) k i))
+      Goal s′ = Moved s s′ (suc depth) k i (squashed (slotTree C (view s) (suc depth) k i))
 
       S : Sound C (view s)
       S = pool-sound placed (R .pool)
@@ -95,19 +95,19 @@ module _ {h : Handle} (placed : Placed h) where
       -- the slot refers to no table
       entry-plain : slotWord s k i % 4 ≢ 3 → Goal (step k i s)
       entry-plain other =
-          subst Goal (entry-none rec s left k i R inside other)
-          (record { move = compact-leaf S (λ u. compactTree left u) left (R .low) (λ table. other (table .1)); size = record { same-tables = refl; same-words = refl } })
+          subst Goal (entry-none rec s depth k i R inside other)
+          (record { move = compact-leaf S (λ u. compactTree depth u) depth (R .low) (λ table. other (table .1)); size = record { same-tables = refl; same-words = refl } })
 
       -- it refers to table c: that is compacted, and freed if that leaves it empty
       module _ (c : ℕ) (r : Refers C (view s) k i c) where
         abbrev after : St
-        after = compactTable left h c s
+        after = compactTable depth h c s
 
-        worked : Worked s after left c (compactTree left (treeFrom h s left c))
+        worked : Worked s after depth c (compactTree depth (treeFrom h s depth c))
         worked = below s c (record { shape = R .shape; pool = R .pool; used = r .used; low = omega (arith, R .low, refers-level r) })
 
         goes : releaseEmpty k i c after ≡ step k i s
-        goes = entry-some rec s left k i R inside placed c r
+        goes = entry-some rec s depth k i R inside placed c r
 
         pool : SoundPool h after
         pool = pool-again (R .pool) (worked .size) (worked .work .over .sound)
@@ -129,12 +129,12 @@ module _ {h : Handle} (placed : Placed h) where
         entry-refers : Goal (step k i s)
         entry-refers = byBool (allZero (tableWords after c))
             (λ yes. subst Goal (release-freed k i c after yes ∙ goes) (record {
-              move = compact-drop S (λ u. compactTree left u) left (R .used) r (worked .work) inside (R .low) (sym (empty-is after c at) ∙ yes)
+              move = compact-drop S (λ u. compactTree depth u) depth (R .used) r (worked .work) inside (R .low) (sym (empty-is after c at) ∙ yes)
                   (cleared placed pool k i 0 used inside still);
               size = size-trans (worked .size) freed;
             }))
             (λ no. subst Goal (release-kept k i c after no ∙ goes) (record {
-              move = compact-keep S (λ u. compactTree left u) left (R .used) r (worked .work) (sym (empty-is after c at) ∙ no);
+              move = compact-keep S (λ u. compactTree depth u) depth (R .used) r (worked .work) (sym (empty-is after c at) ∙ no);
               size = worked .size;
             }))
 
@@ -148,19 +148,19 @@ module _ {h : Handle} (placed : Placed h) where
     -- ---- the first n entries
 
     record Ran (s s′ : St) (k n : ℕ) : Type 0 where
-      runs : Runs C (view s) (view s′) (suc left) k n (λ i. squashed (slotTree C (view s) (suc left) k i))
+      runs : Runs C (view s) (view s′) (suc depth) k n (λ i. squashed (slotTree C (view s) (suc depth) k i))
       size : SameSize s s′
 
-    ran : (s : St) (k n : ℕ) → n ≤ 512 → Ready h s (suc left) k → Ran s (iter (step k) n s) k n
+    ran : (s : St) (k n : ℕ) → n ≤ 512 → Ready h s (suc depth) k → Ran s (iter (step k) n s) k n
     unfolding iter
     ran s k zero small R = record {
-      runs = runs-zero (pool-sound placed (R .pool)) (suc left) k (λ i. squashed (slotTree C (view s) (suc left) k i));
+      runs = runs-zero (pool-sound placed (R .pool)) (suc depth) k (λ i. squashed (slotTree C (view s) (suc depth) k i));
       size = record { same-tables = refl; same-words = refl };
     }
     ran s k (suc n) small R =
         let before = ran s k n (omega arith) R in
         let own = before .runs .over .ledger k (R .used) below-self in
-        let now : Ready h (iter (step k) n s) (suc left) k = record {
+        let now : Ready h (iter (step k) n s) (suc depth) k = record {
           shape = shaped-again (R .shape) (before .size);
           pool = pool-again (R .pool) (before .size) (before .runs .over .sound);
           used = rw own (R .used);
@@ -174,9 +174,9 @@ module _ {h : Handle} (placed : Placed h) where
         }
 
   -- COMPACT of a table: its tree is compacted
-  pub table-worked : (left : ℕ) → Below left
+  pub table-worked : (depth : ℕ) → Below depth
   unfolding compactTable compactTree
   table-worked zero s k R = record { work = work-skip (pool-sound placed (R .pool)) 0 k; size = record { same-tables = refl; same-words = refl } }
-  table-worked (suc left) s k R =
-      let all = ran left (table-worked left) s k 512 (omega arith) R in
-      record { work = runs-work (λ i t. squash (λ u. compactTree left u) t) (all .runs); size = all .size }
+  table-worked (suc depth) s k R =
+      let all = ran depth (table-worked depth) s k 512 (omega arith) R in
+      record { work = runs-work (λ i t. squash (λ u. compactTree depth u) t) (all .runs); size = all .size }

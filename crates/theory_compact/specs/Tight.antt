@@ -27,23 +27,23 @@ use Rattle.theory_compact.specs.Run.{Ready, entry-none, entry-some}
 -- ---- what the tree says of the tables under its top
 
 module _ {C : Codec} {s : State} (S : Sound C s) where
-  tight-slot : (left k i c : ℕ) → i < 512 → Refers C s k i c → Tight (suc left) (treeOf C s (suc left) k)
-      → (emptyTree (treeOf C s left c) ≡ false) × Tight left (treeOf C s left c)
-  tight-slot left k i c inside r tight =
-      rw (← slot-refers left r) (subst (Tight (suc left)) (treeAt-node (C .child) (suc left) (s .word) k) tight i inside)
+  tight-slot : (depth k i c : ℕ) → i < 512 → Refers C s k i c → Tight (suc depth) (treeOf C s (suc depth) k)
+      → (emptyTree (treeOf C s depth c) ≡ false) × Tight depth (treeOf C s depth c)
+  tight-slot depth k i c inside r tight =
+      rw (← slot-refers depth r) (subst (Tight (suc depth)) (treeAt-node (C .child) (suc depth) (s .word) k) tight i inside)
 
-  tight-under : (left k : ℕ) → LevelsLeft C s k left → Tight left (treeOf C s left k) → (d j : ℕ) → Under C s k (suc d) j → emptyWords (s .word j) ≡ false
+  tight-under : (depth k : ℕ) → LevelsLeft C s k depth → Tight depth (treeOf C s depth k) → (d j : ℕ) → Under C s k (suc d) j → emptyWords (s .word j) ≡ false
   tight-under zero k low tight d j under = absurd (omega (arith, low, under .deep, C .level-le (s .ledger j)))
-  tight-under (suc left) k low tight d j under =
+  tight-under (suc depth) k low tight d j under =
       let via = under-via S under in
       let r = via .refers in
       let inside : via .slot < 512 = rw (← r .at) (C .slot-lt (s .ledger (via .top))) in
-      let at = tight-slot left k (via .slot) (via .top) inside r tight in
-      go (via .top) (via .deep) (via .under) (at .0) (λ m below. tight-under left (via .top) (omega (arith, low, refers-level r)) (at .1) m j below)
+      let at = tight-slot depth k (via .slot) (via .top) inside r tight in
+      go (via .top) (via .deep) (via .under) (at .0) (λ m below. tight-under depth (via .top) (omega (arith, low, refers-level r)) (at .1) m j below)
     where
-      go : (c m : ℕ) → Under C s c m j → emptyTree (treeOf C s left c) ≡ false → ((m : ℕ) → Under C s c (suc m) j → emptyWords (s .word j) ≡ false)
+      go : (c m : ℕ) → Under C s c m j → emptyTree (treeOf C s depth c) ≡ false → ((m : ℕ) → Under C s c (suc m) j → emptyWords (s .word j) ≡ false)
           → emptyWords (s .word j) ≡ false
-      go c zero below here deeper = ap (λ (q : ℕ). emptyWords (s .word q)) (under-zero below) ∙ sym (empty-tree (C .child) left (s .word) c) ∙ here
+      go c zero below here deeper = ap (λ (q : ℕ). emptyWords (s .word q)) (under-zero below) ∙ sym (empty-tree (C .child) depth (s .word) c) ∙ here
       go c (suc m) below here deeper = deeper m below
 
 -- ---- no table but the root is all zero
@@ -68,27 +68,27 @@ iter-same f s (suc n) same = ap (f n) (iter-same f s n (λ i l. same i (omega ar
 
 module _ {h : Handle} (placed : Placed h) {s : St} (none : NoneEmpty s) where
   -- one entry, where nothing is done one level down
-  entry-same : (rec : ℕ → St → St) (left k i : ℕ) → Ready h s (suc left) k → i < 512 → ((j : ℕ) → Ready h s left j → rec j s ≡ s)
-      → compactEntry rec h (3 - suc left) k i s ≡ s
-  entry-same rec left k i R inside below = go (eq-or (slotWord s k i % 4) 3)
+  entry-same : (rec : ℕ → St → St) (depth k i : ℕ) → Ready h s (suc depth) k → i < 512 → ((j : ℕ) → Ready h s depth j → rec j s ≡ s)
+      → compactEntry rec h k (3 - suc depth) i s ≡ s
+  entry-same rec depth k i R inside below = go (eq-or (slotWord s k i % 4) 3)
     where
       S : Sound (codecOf h placed) (view s)
       S = pool-sound placed (R .pool)
 
-      go : (slotWord s k i % 4 ≡ 3) ⊎ (slotWord s k i % 4 ≢ 3) → compactEntry rec h (3 - suc left) k i s ≡ s
+      go : (slotWord s k i % 4 ≡ 3) ⊎ (slotWord s k i % 4 ≢ 3) → compactEntry rec h k (3 - suc depth) i s ≡ s
       go (inl both) =
           let to = S .names k i (R .used) (omega (arith, R .low), both) in
           let c = to .0 in
           let r = to .1 in
           let other : c ≢ 0 = λ e. root-not-hung {C = codecOf h placed} {s = view s} {k = c} (e, ap (numberAt s) e ∙ R .pool .root) (r .hung) in
-          sym (entry-some rec s left k i R inside placed c r)
+          sym (entry-some rec s depth k i R inside placed c r)
           ∙ ap (releaseEmpty k i c) (below c (record { shape = R .shape; pool = R .pool; used = r .used; low = omega (arith, R .low, refers-level r) }))
           ∙ sym (release-kept k i c s (none c other (r .used)))
-      go (inr other) = sym (entry-none rec s left k i R inside other)
+      go (inr other) = sym (entry-none rec s depth k i R inside other)
 
-  pub table-same : (left k : ℕ) → Ready h s left k → compactTable left h k s ≡ s
+  pub table-same : (depth k : ℕ) → Ready h s depth k → compactTable depth h k s ≡ s
   unfolding compactTable
   table-same zero k R = refl
-  table-same (suc left) k R =
-      iter-same (compactEntry (λ j t. compactTable left h j t) h (3 - suc left) k) s 512
-      (λ i l. entry-same (λ j t. compactTable left h j t) left k i R l (λ j low. table-same left j low))
+  table-same (suc depth) k R =
+      iter-same (compactEntry (λ j t. compactTable depth h j t) h k (3 - suc depth)) s 512
+      (λ i l. entry-same (λ j t. compactTable depth h j t) depth k i R l (λ j low. table-same depth j low))

@@ -34,18 +34,18 @@ all-ext zero f g same = refl
 all-ext (suc n) f g same = ap (λ (b : Bool). b && allBelow n f) (same n) ∙ ap (λ (b : Bool). g n && b) (all-ext n f g same)
 
 -- the words of a table are all 0 exactly when its tree is empty
-pub empty-tree : (child : ℕ → ℕ) (left : ℕ) (w : ℕ → ℕ → ℕ) (k : ℕ) → emptyTree (treeAt child left w k) ≡ emptyWords (w k)
+pub empty-tree : (child : ℕ → ℕ) (depth : ℕ) (w : ℕ → ℕ → ℕ) (k : ℕ) → emptyTree (treeAt child depth w k) ≡ emptyWords (w k)
 unfolding emptyTree emptyWords treeAt
-empty-tree child left w k = all-ext 512 (λ i. zeroLeaf (entry child left w (w k i))) (λ i. eqb (w k i) 0) (λ i. at left (w k i))
+empty-tree child depth w k = all-ext 512 (λ i. zeroLeaf (entry child depth w (w k i))) (λ i. eqb (w k i) 0) (λ i. at depth (w k i))
   where
-    table : (left x : ℕ) → (x % 4 ≡ 3) ⊎ (x % 4 ≢ 3) → zeroLeaf (entry child (suc left) w x) ≡ eqb x 0
-    table left x (inl both) =
-        ap zeroLeaf (entry-table child left w x both) ∙ sym (is-false (eqb x 0) (λ t. let z : x ≡ 0 = eqb→eq x 0 t in omega arith))
-    table left x (inr other) = ap zeroLeaf (entry-leaf child (suc left) w x other)
+    table : (depth x : ℕ) → (x % 4 ≡ 3) ⊎ (x % 4 ≢ 3) → zeroLeaf (entry child (suc depth) w x) ≡ eqb x 0
+    table depth x (inl both) =
+        ap zeroLeaf (entry-table child depth w x both) ∙ sym (is-false (eqb x 0) (λ t. let z : x ≡ 0 = eqb→eq x 0 t in omega arith))
+    table depth x (inr other) = ap zeroLeaf (entry-leaf child (suc depth) w x other)
 
-    at : (left x : ℕ) → zeroLeaf (entry child left w x) ≡ eqb x 0
+    at : (depth x : ℕ) → zeroLeaf (entry child depth w x) ≡ eqb x 0
     at zero x = ap zeroLeaf (entry-low child w x)
-    at (suc left) x = table left x (eq-or (x % 4) 3)
+    at (suc depth) x = table depth x (eq-or (x % 4) 3)
 
 pub empty-words : {C : Codec} {s : State} → Sound C s → (k : ℕ) → emptyWords (s .word k) ≡ true → (i : ℕ) → s .word k i ≡ 0
 unfolding emptyWords
@@ -62,35 +62,35 @@ unfoldable pub squash : (Tree → Tree) → Tree → Tree
 squash rec (leaf w) = leaf w
 squash rec (node f) = let t = rec (node f) in cond (emptyTree t) (leaf 0) t
 
--- a table with `left` levels below its own
+-- a table with `depth` levels below its own
 unfoldable pub compactTree : ℕ → Tree → Tree
 compactTree zero t = t
-compactTree (suc left) t = eachSlot (λ i t. squash (λ u. compactTree left u) t) t
+compactTree (suc depth) t = eachSlot (λ i t. squash (λ u. compactTree depth u) t) t
 
 -- ---- one slot: the step on states is the step on trees
 
-module _ {C : Codec} {s : State} (S : Sound C s) (rec : Tree → Tree) (left : ℕ) {k i : ℕ} where
-  pub compact-leaf : LevelsLeft C s k (suc left) → ¬ (IsTable C s k i) → Move C s s (suc left) k i (squash rec (slotTree C s (suc left) k i))
+module _ {C : Codec} {s : State} (S : Sound C s) (rec : Tree → Tree) (depth : ℕ) {k i : ℕ} where
+  pub compact-leaf : LevelsLeft C s k (suc depth) → ¬ (IsTable C s k i) → Move C s s (suc depth) k i (squash rec (slotTree C s (suc depth) k i))
   unfolding squash
   compact-leaf low old =
-      let shows = slot-leaf C s (suc left) k i low refl old in
-      record { at = move-skip S (suc left) k i .at; tree = shows ∙ sym (ap (squash rec) shows) }
+      let shows = slot-leaf C s (suc depth) k i low refl old in
+      record { at = move-skip S (suc depth) k i .at; tree = shows ∙ sym (ap (squash rec) shows) }
 
-  module _ {s′ : State} {c : ℕ} (used : Used s k) (r : Refers C s k i c) (work : Work C s s′ left c (rec (treeOf C s left c))) where
-    squashed : {b : Bool} → emptyWords (s′ .word c) ≡ b → squash rec (slotTree C s (suc left) k i) ≡ cond b (leaf 0) (rec (treeOf C s left c))
+  module _ {s′ : State} {c : ℕ} (used : Used s k) (r : Refers C s k i c) (work : Work C s s′ depth c (rec (treeOf C s depth c))) where
+    squashed : {b : Bool} → emptyWords (s′ .word c) ≡ b → squash rec (slotTree C s (suc depth) k i) ≡ cond b (leaf 0) (rec (treeOf C s depth c))
     unfolding squash treeAt
     squashed {b} test =
-        ap (squash rec) (slot-refers left r)
-        ∙ ap (λ (b : Bool). cond b (leaf 0) (rec (treeOf C s left c))) (ap emptyTree (sym (work .tree)) ∙ empty-tree (C .child) left (s′ .word) c ∙ test)
+        ap (squash rec) (slot-refers depth r)
+        ∙ ap (λ (b : Bool). cond b (leaf 0) (rec (treeOf C s depth c))) (ap emptyTree (sym (work .tree)) ∙ empty-tree (C .child) depth (s′ .word) c ∙ test)
 
     -- the table is not empty: it stays
-    pub compact-keep : emptyWords (s′ .word c) ≡ false → Move C s s′ (suc left) k i (squash rec (slotTree C s (suc left) k i))
-    compact-keep test = let move = move-down S left used r work in record { at = move .at; tree = move .tree ∙ sym (squashed test) }
+    pub compact-keep : emptyWords (s′ .word c) ≡ false → Move C s s′ (suc depth) k i (squash rec (slotTree C s (suc depth) k i))
+    compact-keep test = let move = move-down S depth used r work in record { at = move .at; tree = move .tree ∙ sym (squashed test) }
 
     -- it is: it is cleared, and its slot zeroed
-    pub compact-drop : {s″ : State} → i < 512 → LevelsLeft C s k (suc left) → emptyWords (s′ .word c) ≡ true → Clears s′ s″ k i c 0
-        → Move C s s″ (suc left) k i (squash rec (slotTree C s (suc left) k i))
+    pub compact-drop : {s″ : State} → i < 512 → LevelsLeft C s k (suc depth) → emptyWords (s′ .word c) ≡ true → Clears s′ s″ k i c 0
+        → Move C s s″ (suc depth) k i (squash rec (slotTree C s (suc depth) k i))
     compact-drop inside low test clears =
         let zeros = empty-words (work .over .sound) c test in
-        let move = move-clear S left used inside low (zero-fits C (s .ledger k)) r work zeros clears in
+        let move = move-clear S depth used inside low (zero-fits C (s .ledger k)) r work zeros clears in
         record { at = move .at; tree = move .tree ∙ sym (squashed test) }

@@ -42,30 +42,30 @@ module _ (rec : Tree → Tree) where
 
 -- ---- the walk
 
-module _ {A : Type 0} (slots : ℕ → ℕ) (inside : (left : ℕ) → slots left < 512) (read : Ends → A) (none : A)
-    (nothing : (left : ℕ) → read (record { word = 0; left = left }) ≡ none) where
-  zero-walk : (left : ℕ) → read (walkTree slots left (leaf 0)) ≡ none
+module _ {A : Type 0} (slots : ℕ → ℕ) (inside : (depth : ℕ) → slots depth < 512) (read : Ends → A) (none : A)
+    (nothing : (depth : ℕ) → read (record { word = 0; depth = depth }) ≡ none) where
+  zero-walk : (depth : ℕ) → read (walkTree slots depth (leaf 0)) ≡ none
   unfolding walkTree
-  zero-walk left = nothing left
+  zero-walk depth = nothing depth
 
-  empty-walk : (left : ℕ) (c : Tree) → emptyTree c ≡ true → read (walkTree slots (suc left) c) ≡ none
+  empty-walk : (depth : ℕ) (c : Tree) → emptyTree c ≡ true → read (walkTree slots (suc depth) c) ≡ none
   unfolding walkTree
-  empty-walk left (leaf w) e = absurd (true≢false (sym e ∙ not-empty w))
-  empty-walk left (node f) e = ap (λ (u : Tree). read (walkTree slots left u)) (empty-slot f e (slots left) (inside left)) ∙ zero-walk left
+  empty-walk depth (leaf w) e = absurd (true≢false (sym e ∙ not-empty w))
+  empty-walk depth (node f) e = ap (λ (u : Tree). read (walkTree slots depth u)) (empty-slot f e (slots depth) (inside depth)) ∙ zero-walk depth
 
-  slot-walk : (left : ℕ) (u : Tree) → ((f : ℕ → Tree) → read (walkTree slots (suc left) (compactTree left (node f))) ≡ read (walkTree slots (suc left) (node f)))
-      → read (walkTree slots (suc left) (squash (λ v. compactTree left v) u)) ≡ read (walkTree slots (suc left) u)
-  slot-walk left (leaf w) ih = ap (λ (v : Tree). read (walkTree slots (suc left) v)) (squash-leaf (λ v. compactTree left v) w)
-  slot-walk left (node f) ih = byBool (emptyTree (compactTree left (node f)))
-      (λ e. ap (λ (v : Tree). read (walkTree slots (suc left) v)) (squash-drops (λ v. compactTree left v) f e) ∙ zero-walk (suc left)
-      ∙ sym (empty-walk left (compactTree left (node f)) e) ∙ ih f)
-      (λ e. ap (λ (v : Tree). read (walkTree slots (suc left) v)) (squash-stays (λ v. compactTree left v) f e) ∙ ih f)
+  slot-walk : (depth : ℕ) (u : Tree) → ((f : ℕ → Tree) → read (walkTree slots (suc depth) (compactTree depth (node f))) ≡ read (walkTree slots (suc depth) (node f)))
+      → read (walkTree slots (suc depth) (squash (λ v. compactTree depth v) u)) ≡ read (walkTree slots (suc depth) u)
+  slot-walk depth (leaf w) ih = ap (λ (v : Tree). read (walkTree slots (suc depth) v)) (squash-leaf (λ v. compactTree depth v) w)
+  slot-walk depth (node f) ih = byBool (emptyTree (compactTree depth (node f)))
+      (λ e. ap (λ (v : Tree). read (walkTree slots (suc depth) v)) (squash-drops (λ v. compactTree depth v) f e) ∙ zero-walk (suc depth)
+      ∙ sym (empty-walk depth (compactTree depth (node f)) e) ∙ ih f)
+      (λ e. ap (λ (v : Tree). read (walkTree slots (suc depth) v)) (squash-stays (λ v. compactTree depth v) f e) ∙ ih f)
 
-  pub compact-walk : (left : ℕ) (t : Tree) → read (walkTree slots (suc left) (compactTree left t)) ≡ read (walkTree slots (suc left) t)
+  pub compact-walk : (depth : ℕ) (t : Tree) → read (walkTree slots (suc depth) (compactTree depth t)) ≡ read (walkTree slots (suc depth) t)
   unfolding compactTree eachSlot walkTree
   compact-walk zero t = refl
-  compact-walk (suc left) (leaf w) = refl
-  compact-walk (suc left) (node f) =
-      let u = f (slots (suc left)) in
-      ap (λ (b : Bool). read (walkTree slots (suc left) (cond b (squash (λ v. compactTree left v) u) u))) (lt-ltb (slots (suc left)) 512 (inside (suc left)))
-      ∙ slot-walk left u (λ g. compact-walk left (node g))
+  compact-walk (suc depth) (leaf w) = refl
+  compact-walk (suc depth) (node f) =
+      let u = f (slots (suc depth)) in
+      ap (λ (b : Bool). read (walkTree slots (suc depth) (cond b (squash (λ v. compactTree depth v) u) u))) (lt-ltb (slots (suc depth)) 512 (inside (suc depth)))
+      ∙ slot-walk depth u (λ g. compact-walk depth (node g))

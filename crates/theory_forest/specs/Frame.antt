@@ -9,12 +9,12 @@ use Rattle.theory_forest.specs.Sound.{State, Codec, Used, Refers, Sound}
 use Rattle.theory_forest.specs.Under.{Under, NotUnder, LevelsLeft, under-self, refers-level, refers-under, refers-table, refers-child, refers-over, refers-one}
 
 module _ (C : Codec) where
-  -- the tree of table k, and the tree in its slot i, where k has `left` levels below its own
+  -- the tree of table k, and the tree in its slot i, where k has `depth` levels below its own
   abbrev pub treeOf : State → ℕ → ℕ → Tree
-  treeOf s left k = treeAt (C .child) left (s .word) k
+  treeOf s depth k = treeAt (C .child) depth (s .word) k
 
   abbrev pub slotTree : State → ℕ → ℕ → ℕ → Tree
-  slotTree s left k i = entry (C .child) left (s .word) (s .word k i)
+  slotTree s depth k i = entry (C .child) depth (s .word) (s .word k i)
 
   -- no table that slot i of k refers to is over j
   abbrev pub NotUnderSlot : State → ℕ → ℕ → ℕ → Type 0
@@ -31,16 +31,16 @@ module _ (C : Codec) where
 
 module _ {C : Codec} {s : State} where
   -- a slot that refers to a table shows its tree
-  pub slot-refers : (left : ℕ) {k i c : ℕ} → Refers C s k i c → slotTree C s (suc left) k i ≡ treeOf C s left c
-  slot-refers left {k} {i} r =
-      entry-table (C .child) left (s .word) (s .word k i) (refers-table r .1) ∙ ap (treeAt (C .child) left (s .word)) (refers-child r)
+  pub slot-refers : (depth : ℕ) {k i c : ℕ} → Refers C s k i c → slotTree C s (suc depth) k i ≡ treeOf C s depth c
+  slot-refers depth {k} {i} r =
+      entry-table (C .child) depth (s .word) (s .word k i) (refers-table r .1) ∙ ap (treeAt (C .child) depth (s .word)) (refers-child r)
 
 -- ---- the frame lemma
 
 module _ {C : Codec} {s : State} (S : Sound C s) (s′ : State) where
   -- a slot's tree stays if its word stays, and the tree of the table that it refers to
-  slot-same : (left k i : ℕ) → Used s k → LevelsLeft C s k left → s′ .word k i ≡ s .word k i
-      → ((c l : ℕ) → Refers C s k i c → LevelsLeft C s c l → treeOf C s′ l c ≡ treeOf C s l c) → slotTree C s′ left k i ≡ slotTree C s left k i
+  slot-same : (depth k i : ℕ) → Used s k → LevelsLeft C s k depth → s′ .word k i ≡ s .word k i
+      → ((c l : ℕ) → Refers C s k i c → LevelsLeft C s c l → treeOf C s′ l c ≡ treeOf C s l c) → slotTree C s′ depth k i ≡ slotTree C s depth k i
   slot-same zero k i used low word below =
       entry-low (C .child) (s′ .word) (s′ .word k i) ∙ ap leaf word ∙ sym (entry-low (C .child) (s .word) (s .word k i))
   slot-same (suc l) k i used low word below = ap (entry (C .child) (suc l) (s′ .word)) word ∙ go (eq-or (s .word k i % 4) 3)
@@ -55,24 +55,24 @@ module _ {C : Codec} {s : State} (S : Sound C s) (s′ : State) where
           (below (n .0) l (n .1) (omega (arith, low, refers-level (n .1))))
       go (inr other) = rw (entry-leaf (C .child) (suc l) (s′ .word) x other, entry-leaf (C .child) (suc l) (s .word) x other)
 
-  tree-same : (left k : ℕ) → ((i : ℕ) → slotTree C s′ left k i ≡ slotTree C s left k i) → treeOf C s′ left k ≡ treeOf C s left k
-  tree-same left k same = treeAt-node (C .child) left (s′ .word) k ∙ node-ext same ∙ sym (treeAt-node (C .child) left (s .word) k)
+  tree-same : (depth k : ℕ) → ((i : ℕ) → slotTree C s′ depth k i ≡ slotTree C s depth k i) → treeOf C s′ depth k ≡ treeOf C s depth k
+  tree-same depth k same = treeAt-node (C .child) depth (s′ .word) k ∙ node-ext same ∙ sym (treeAt-node (C .child) depth (s .word) k)
 
   -- FRAME: if the words of the tables under c stay, so does the tree of c
-  pub frame : (left c : ℕ) → Used s c → LevelsLeft C s c left → ((d j : ℕ) → Under C s c d j → (i : ℕ) → s′ .word j i ≡ s .word j i)
-      → treeOf C s′ left c ≡ treeOf C s left c
+  pub frame : (depth c : ℕ) → Used s c → LevelsLeft C s c depth → ((d j : ℕ) → Under C s c d j → (i : ℕ) → s′ .word j i ≡ s .word j i)
+      → treeOf C s′ depth c ≡ treeOf C s depth c
   frame zero c used low same =
       tree-same 0 c (λ i. slot-same 0 c i used low (same 0 c (under-self used) i) (λ e l r low′. absurd (omega (arith, low, low′, refers-level r))))
-  frame (suc left) c used low same = tree-same (suc left) c (λ i. slot-same (suc left) c i used low (same 0 c (under-self used) i) (λ e l r low′.
-      let at : l ≡ left = omega (arith, low, low′, refers-level r) in
-      rw at (frame left e (r .used) (omega (arith, low, refers-level r)) (λ d j under. same (suc d) j (refers-under r under)))))
+  frame (suc depth) c used low same = tree-same (suc depth) c (λ i. slot-same (suc depth) c i used low (same 0 c (under-self used) i) (λ e l r low′.
+      let at : l ≡ depth = omega (arith, low, low′, refers-level r) in
+      rw at (frame depth e (r .used) (omega (arith, low, refers-level r)) (λ d j under. same (suc d) j (refers-under r under)))))
 
   -- ---- a change at one slot
 
   -- the trees of the other slots stay
-  pub change-slot : (left : ℕ) {k i i′ : ℕ} → Change C s s′ k i → Used s k → LevelsLeft C s k left → i′ ≢ i
-      → slotTree C s′ left k i′ ≡ slotTree C s left k i′
-  change-slot left {k} {i} {i′} change used low other = slot-same left k i′ used low (change .slots i′ other) (λ e l r low′.
+  pub change-slot : (depth : ℕ) {k i i′ : ℕ} → Change C s s′ k i → Used s k → LevelsLeft C s k depth → i′ ≢ i
+      → slotTree C s′ depth k i′ ≡ slotTree C s depth k i′
+  change-slot depth {k} {i} {i′} change used low other = slot-same depth k i′ used low (change .slots i′ other) (λ e l r low′.
       frame l e (r .used) low′ (λ d j under.
       change .others j (under .used) (λ same. refers-over r d (rw (← same) under)) (λ e′ d′ r′ under′. other (refers-one r r′ under under′))))
 

@@ -31,12 +31,12 @@ module _ (C : Codec) where
   zero-fits x = record { plain = λ t. omega (arith, t .1); good = C .zero-leaf x }
 
   -- in a table at level l a word that is no table word is a leaf
-  pub slot-leaf : (s : State) (left k i : ℕ) {l v : ℕ} → l + left ≡ 3 → s .word k i ≡ v → ¬ (TableWord l v) → slotTree C s left k i ≡ leaf v
-  slot-leaf s left k i {l} {v} low word plain = ap (entry (C .child) left (s .word)) word ∙ go left low
+  pub slot-leaf : (s : State) (depth k i : ℕ) {l v : ℕ} → l + depth ≡ 3 → s .word k i ≡ v → ¬ (TableWord l v) → slotTree C s depth k i ≡ leaf v
+  slot-leaf s depth k i {l} {v} low word plain = ap (entry (C .child) depth (s .word)) word ∙ go depth low
     where
-      go : (left : ℕ) → l + left ≡ 3 → entry (C .child) left (s .word) v ≡ leaf v
+      go : (depth : ℕ) → l + depth ≡ 3 → entry (C .child) depth (s .word) v ≡ leaf v
       go zero low = entry-low (C .child) (s .word) v
-      go (suc left) low = entry-leaf (C .child) (suc left) (s .word) v (λ both. plain (omega arith, both))
+      go (suc depth) low = entry-leaf (C .child) (suc depth) (s .word) v (λ both. plain (omega arith, both))
 
 module _ {C : Codec} {s : State} where
   -- no table hangs in a slot that holds no table word

@@ -121,7 +121,7 @@ module _ {C : Codec} {s : State} (S : Sound C s) where
     one-self c used = sum-one n (is c) c (range c used) (is-yes c c refl) (is-no c)
 
     -- the tables under c are the nodes of its tree
-    pub under-nodes : (left c : ℕ) → Used s c → LevelsLeft C s c left → sum n (lies C s c) ≡ nodes (treeOf C s left c)
+    pub under-nodes : (depth c : ℕ) → Used s c → LevelsLeft C s c depth → sum n (lies C s c) ≡ nodes (treeOf C s depth c)
     unfolding nodes
     under-nodes zero c used low =
         sum-ext n (lies C s c) (is c) (λ j l. only j (under-or c j)) ∙ one-self c used
@@ -135,35 +135,35 @@ module _ {C : Codec} {s : State} (S : Sound C s) where
         only : (j : ℕ) → ((d : ℕ) × Under C s c d j) ⊎ NotUnder C s c j → lies C s c j ≡ is c j
         only j (inl under) = at j (under .0) (under .1)
         only j (inr off) = lies-no C s c j off ∙ sym (is-no c j (λ e. off 0 (rw e (under-self used))))
-    under-nodes (suc left) c used low =
+    under-nodes (suc depth) c used low =
         let a = sum-ext n (lies C s c) (λ j. is c j + sum 512 (λ i. inSlot C s c i j)) (λ j l. parts c used high j) in
         let b = sum-add n (is c) (λ j. sum 512 (λ i. inSlot C s c i j)) in
         let d = sum-swap n 512 (λ j i. inSlot C s c i j) in
         let e = one-self c used in
-        let f = sum-ext 512 (λ i. sum n (λ j. inSlot C s c i j)) (λ i. nodes (slotTree C s (suc left) c i))
-        (λ i h. slot i (λ e r. under-nodes left e (r .used) (omega (arith, low, refers-level r))) (eq-or (s .word c i % 4) 3)) in
-        let g : nodes (treeOf C s (suc left) c) ≡ suc (sum 512 (λ i. nodes (slotTree C s (suc left) c i))) = ap nodes (treeAt-node (C .child) (suc left) (s .word) c) in
+        let f = sum-ext 512 (λ i. sum n (λ j. inSlot C s c i j)) (λ i. nodes (slotTree C s (suc depth) c i))
+        (λ i h. slot i (λ e r. under-nodes depth e (r .used) (omega (arith, low, refers-level r))) (eq-or (s .word c i % 4) 3)) in
+        let g : nodes (treeOf C s (suc depth) c) ≡ suc (sum 512 (λ i. nodes (slotTree C s (suc depth) c i))) = ap nodes (treeAt-node (C .child) (suc depth) (s .word) c) in
         omega arith
       where
         high : levelIn C s c < 3
         high = omega arith
 
-        slot : (i : ℕ) → ((e : ℕ) → Refers C s c i e → sum n (lies C s e) ≡ nodes (treeOf C s left e)) → (s .word c i % 4 ≡ 3) ⊎ (s .word c i % 4 ≢ 3)
-            → sum n (λ j. inSlot C s c i j) ≡ nodes (slotTree C s (suc left) c i)
+        slot : (i : ℕ) → ((e : ℕ) → Refers C s c i e → sum n (lies C s e) ≡ nodes (treeOf C s depth e)) → (s .word c i % 4 ≡ 3) ⊎ (s .word c i % 4 ≢ 3)
+            → sum n (λ j. inSlot C s c i j) ≡ nodes (slotTree C s (suc depth) c i)
         slot i ih (inl both) =
             let m = S .names c i used (high, both) in
-            sum-ext n (λ j. inSlot C s c i j) (lies C s (m .0)) (λ j h. slot-yes C s c i (m .0) j (m .1)) ∙ ih (m .0) (m .1) ∙ sym (ap nodes (slot-refers left (m .1)))
+            sum-ext n (λ j. inSlot C s c i j) (lies C s (m .0)) (λ j h. slot-yes C s c i (m .0) j (m .1)) ∙ ih (m .0) (m .1) ∙ sym (ap nodes (slot-refers depth (m .1)))
         slot i ih (inr other) =
             sum-none n (λ j. inSlot C s c i j) (λ j h. slot-no c used high i j (λ e r. absurd (other (refers-table r .1))))
-            ∙ sym (ap nodes (entry-leaf (C .child) (suc left) (s .word) (s .word c i) other))
+            ∙ sym (ap nodes (entry-leaf (C .child) (suc depth) (s .word) (s .word c i) other))
 
     -- COUNT: with one root, the tables in use are the nodes of its tree
-    pub used-nodes : (left root : ℕ) → C .Root root (s .ledger root) → ((k : ℕ) → C .Root k (s .ledger k) → k ≡ root) → LevelsLeft C s root left
-        → inUse n s ≡ nodes (treeOf C s left root)
+    pub used-nodes : (depth root : ℕ) → C .Root root (s .ledger root) → ((k : ℕ) → C .Root k (s .ledger k) → k ≡ root) → LevelsLeft C s root depth
+        → inUse n s ≡ nodes (treeOf C s depth root)
     unfolding inUse
-    used-nodes left root isRoot single low =
+    used-nodes depth root isRoot single low =
         sum-ext n (λ k. cond (eqb (s .ledger k) 0) 0 1) (lies C s root) (λ k l. at k (eqb-cases (s .ledger k) 0))
-        ∙ under-nodes left root (C .root-used root (s .ledger root) isRoot) low
+        ∙ under-nodes depth root (C .root-used root (s .ledger root) isRoot) low
       where
         at : (k : ℕ) → ((s .ledger k ≡ 0) × (eqb (s .ledger k) 0 ≡ true)) ⊎ ((s .ledger k ≢ 0) × (eqb (s .ledger k) 0 ≡ false))
             → cond (eqb (s .ledger k) 0) 0 1 ≡ lies C s root k

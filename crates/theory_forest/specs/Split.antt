@@ -121,5 +121,5 @@ module _ {C : Codec} {s s′ : State} {p i f x : ℕ} {g : ℕ → ℕ} (S : Sou
       wide k j l (inr ne) = splits .words k j ne (λ e. omega (arith, inside, l, e .1)) ∙ S .wide k j l
 
   -- the new table's own tree: the words as leaves
-  pub new-tree : (left : ℕ) → C .level x + left ≡ 3 → treeOf C s′ left f ≡ node (λ j. leaf (g j))
-  new-tree left low = treeAt-node (C .child) left (s′ .word) f ∙ node-ext (λ j. slot-leaf C s′ left f j low (splits .filled j) (plain j))
+  pub new-tree : (depth : ℕ) → C .level x + depth ≡ 3 → treeOf C s′ depth f ≡ node (λ j. leaf (g j))
+  new-tree depth low = treeAt-node (C .child) depth (s′ .word) f ∙ node-ext (λ j. slot-leaf C s′ depth f j low (splits .filled j) (plain j))

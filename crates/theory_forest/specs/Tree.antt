@@ -31,33 +31,33 @@ each-slot {f} {g} h low high =
 -- ---- the tree that the words show: `w k i` is the word in slot i of table k, `child x` the table that a table word x names
 
 module _ (child : ℕ → ℕ) where
-  -- What the word x shows in a table with `left` levels below its own: a word with bits 0 and 1 set is a table, any other a leaf; at the
+  -- What the word x shows in a table with `depth` levels below its own: a word with bits 0 and 1 set is a table, any other a leaf; at the
   -- lowest level all are leaves.
   unfoldable pub entry : ℕ → (ℕ → ℕ → ℕ) → ℕ → Tree
   entry zero w x = leaf x
-  entry (suc left) w x = let t = node (λ i. entry left w (w (child x) i)) in cond (eqb (x % 4) 3) t (leaf x)
+  entry (suc depth) w x = let t = node (λ i. entry depth w (w (child x) i)) in cond (eqb (x % 4) 3) t (leaf x)
 
-  -- the tree of table k with `left` levels below its own
+  -- the tree of table k with `depth` levels below its own
   unfoldable pub treeAt : ℕ → (ℕ → ℕ → ℕ) → ℕ → Tree
-  treeAt left w k = node (λ i. entry left w (w k i))
+  treeAt depth w k = node (λ i. entry depth w (w k i))
 
-  pub treeAt-node : (left : ℕ) (w : ℕ → ℕ → ℕ) (k : ℕ) → treeAt left w k ≡ node (λ i. entry left w (w k i))
+  pub treeAt-node : (depth : ℕ) (w : ℕ → ℕ → ℕ) (k : ℕ) → treeAt depth w k ≡ node (λ i. entry depth w (w k i))
   unfolding treeAt
-  treeAt-node left w k = refl
+  treeAt-node depth w k = refl
 
   pub entry-low : (w : ℕ → ℕ → ℕ) (x : ℕ) → entry zero w x ≡ leaf x
   unfolding entry
   entry-low w x = refl
 
-  pub entry-table : (left : ℕ) (w : ℕ → ℕ → ℕ) (x : ℕ) → x % 4 ≡ 3 → entry (suc left) w x ≡ treeAt left w (child x)
+  pub entry-table : (depth : ℕ) (w : ℕ → ℕ → ℕ) (x : ℕ) → x % 4 ≡ 3 → entry (suc depth) w x ≡ treeAt depth w (child x)
   unfolding entry treeAt
-  entry-table left w x both = rw both
+  entry-table depth w x both = rw both
 
-  pub entry-leaf : (left : ℕ) (w : ℕ → ℕ → ℕ) (x : ℕ) → x % 4 ≢ 3 → entry left w x ≡ leaf x
+  pub entry-leaf : (depth : ℕ) (w : ℕ → ℕ → ℕ) (x : ℕ) → x % 4 ≢ 3 → entry depth w x ≡ leaf x
   unfolding entry
   entry-leaf zero w x other = refl
-  entry-leaf (suc left) w x other = go (eqb-cases (x % 4) 3)
+  entry-leaf (suc depth) w x other = go (eqb-cases (x % 4) 3)
     where
-      go : ((x % 4 ≡ 3) × (eqb (x % 4) 3 ≡ true)) ⊎ ((x % 4 ≢ 3) × (eqb (x % 4) 3 ≡ false)) → entry (suc left) w x ≡ leaf x
+      go : ((x % 4 ≡ 3) × (eqb (x % 4) 3 ≡ true)) ⊎ ((x % 4 ≢ 3) × (eqb (x % 4) 3 ≡ false)) → entry (suc depth) w x ≡ leaf x
       go (inl e) = absurd (other (e .0))
       go (inr e) = rw (e .1)

@@ -23,9 +23,9 @@ module _ (C : Codec) where
   abbrev pub NotUnder : State → ℕ → ℕ → Type 0
   NotUnder s c j = (d : ℕ) → ¬ (Under s c d j)
 
-  -- table k has `left` levels below its own
+  -- table k has `depth` levels below its own
   abbrev pub LevelsLeft : State → ℕ → ℕ → Type 0
-  LevelsLeft s k left = levelIn C s k + left ≡ 3
+  LevelsLeft s k depth = levelIn C s k + depth ≡ 3
 
 module _ (C : Codec) (s : State) where
   up-suc : (d j : ℕ) → up C s (suc d) j ≡ parent C s (up C s d j)

@@ -56,19 +56,19 @@ upper-starts level r ok = go (le-or (r .start .0) (2 ^ 64 - 1 - 512 * sizeAt lev
     go (inr l) = let h = size-high level in omega arith
 
 -- its pages, in the root's table
-root-pages : (range : VaRange) (left : ℕ) (r : MemoryRegion) → left ≤ 3 → inRange range (3 - left) r ≡ Accepted
+root-pages : (range : VaRange) (depth : ℕ) (r : MemoryRegion) → depth ≤ 3 → inRange range (3 - depth) r ≡ Accepted
     → r .start .0 ≤ r .end .0 → r .end .0 < 2 ^ 64 → r .end .0 % 4096 ≡ 0
-    → (first (suc left) (rootOf range left) ≤ r .start .0 / 4096) × (r .end .0 / 4096 ≤ first (suc left) (rootOf range left) + span (suc left))
+    → (first (suc depth) (rootOf range depth) ≤ r .start .0 / 4096) × (r .end .0 / 4096 ≤ first (suc depth) (rootOf range depth) + span (suc depth))
 unfolding rootOf first
-root-pages Lower left r low ok some small paged =
-    let e = lower-ends (3 - left) r ok in
-    let s = span-size left low in
-    let n = span-suc left in
+root-pages Lower depth r low ok some small paged =
+    let e = lower-ends (3 - depth) r ok in
+    let s = span-size depth low in
+    let n = span-suc depth in
     (omega arith, omega arith)
-root-pages Upper left r low ok some small paged =
-    let b = upper-starts (3 - left) r ok in
-    let s = in-from (suc left) (upperRoot left) (r .start .0 / 4096) (upper-span left (r .start .0) low b (omega arith)) in
-    let e = in-from (suc left) (upperRoot left) (r .end .0 / 4096) (upper-span left (r .end .0) low (omega arith) small) in
+root-pages Upper depth r low ok some small paged =
+    let b = upper-starts (3 - depth) r ok in
+    let s = in-from (suc depth) (upperRoot depth) (r .start .0 / 4096) (upper-span depth (r .start .0) low b (omega arith)) in
+    let e = in-from (suc depth) (upperRoot depth) (r .end .0 / 4096) (upper-span depth (r .end .0) low (omega arith) small) in
     (s .0, omega (arith, e .1))
 
 aligned-below : (a : ℕ) → alignUp a 4096 < 2 ^ 64
@@ -77,8 +77,8 @@ aligned-below a = byBool (ltb (up a 4096) (2 ^ 64)) (λ e. rw e (ltb-true (up a 
 
 -- a region that is rounded and verified, with its frame, in the root's table
 pub pages-inside : (h : Handle) (start end frame : ℕ) → h .level ≤ 3 → verify h (rounded start end) ≡ Accepted → frame % 4096 ≡ 0
-    → let left = 3 - h .level in let r = rounded start end in
-    Inside (first (suc left) (rootOf (h .range) left)) (span (suc left)) (r .start .0) (r .end .0) frame
+    → let depth = 3 - h .level in let r = rounded start end in
+    Inside (first (suc depth) (rootOf (h .range) depth)) (span (suc depth)) (r .start .0) (r .end .0) frame
 unfolding rounded sizeAt
 pages-inside h start end frame low ok paged =
     let r : MemoryRegion = rounded start end in

@@ -35,23 +35,23 @@ use Rattle.theory_map.specs.Down.{Holds, holds-table, holds-leaf, holds,
 use Rattle.theory_map.specs.Pieces.{doneTo, takes, doneTable, takesTable, done-keep, done-write, done-down, takes-down, Area, piece-area}
 
 -- what opening a leaf or a table takes
-pub takes-split : (m : Map) (left w : ℕ) → saysOf m (suc left) (leaf w) ≡ goDown → takes m (suc left) (leaf w) ≡ 1 + takesTable m left (fillTree left w)
+pub takes-split : (m : Map) (depth w : ℕ) → saysOf m (suc depth) (leaf w) ≡ goDown → takes m (suc depth) (leaf w) ≡ 1 + takesTable m depth (fillTree depth w)
 unfolding splits opened
-takes-split m left w e = takes-down m left (leaf w) e
+takes-split m depth w e = takes-down m depth (leaf w) e
 
-pub takes-enter : (m : Map) (left : ℕ) (f : ℕ → Tree) → saysOf m (suc left) (node f) ≡ goDown → takes m (suc left) (node f) ≡ takesTable m left (node f)
+pub takes-enter : (m : Map) (depth : ℕ) (f : ℕ → Tree) → saysOf m (suc depth) (node f) ≡ goDown → takes m (suc depth) (node f) ≡ takesTable m depth (node f)
 unfolding splits opened
-takes-enter m left f e = let z : takes m (suc left) (node f) ≡ 0 + takesTable m left (node f) = takes-down m left (node f) e in omega arith
+takes-enter m depth f e = let z : takes m (suc depth) (node f) ≡ 0 + takesTable m depth (node f) = takes-down m depth (node f) e in omega arith
 
 module _ {h : Handle} (placed : Placed h) where
-  -- a map of a table with `left` levels below its own does on lists what it does on the table's tree
+  -- a map of a table with `depth` levels below its own does on lists what it does on the table's tree
   abbrev pub Works : ℕ → Type 0
-  Works left = (q k : ℕ) (m : Map) (s : St) → Allowed h (m .flags) → Area left q m → Ready placed s left k → takesTable m left (treeFrom h s left k) ≤ free (s .ledger)
-      → Worked placed s (mapRange left h k m s) left k (doneTable m left (treeFrom h s left k)) (takesTable m left (treeFrom h s left k))
+  Works depth = (q k : ℕ) (m : Map) (s : St) → Allowed h (m .flags) → Area depth q m → Ready placed s depth k → takesTable m depth (treeFrom h s depth k) ≤ free (s .ledger)
+      → Worked placed s (mapRange depth h k m s) depth k (doneTable m depth (treeFrom h s depth k)) (takesTable m depth (treeFrom h s depth k))
 
-  module _ (q k : ℕ) (m : Map) (s : St) (left : ℕ) (allowed : Allowed h (m .flags)) (piece : Piece left q m) (R : Ready placed s left k) where
+  module _ (q k : ℕ) (m : Map) (s : St) (depth : ℕ) (allowed : Allowed h (m .flags)) (piece : Piece depth q m) (R : Ready placed s depth k) where
     abbrev pub level : ℕ
-    level = 3 - left
+    level = 3 - depth
 
     abbrev pub i : ℕ
     i = entryIndex level (m .region .start .0)
@@ -61,36 +61,36 @@ module _ {h : Handle} (placed : Placed h) where
 
     -- what is to be shown, if the slot shows t
     abbrev pub Done : Tree → Type 0
-    Done t = Slotted placed s (stepAt level h k m s) left k i (doneTo m left t) (takes m left t)
+    Done t = Slotted placed s (stepAt h k level m s) depth k i (doneTo m depth t) (takes m depth t)
 
     inside : i < 512
     inside = slot-below level (m .region .start .0)
 
-    fine : FineTree left (slotShows h s left k i)
-    fine = slot-fine placed (R .pool) left k i (R .used) (R .low) inside
+    fine : FineTree depth (slotShows h s depth k i)
+    fine = slot-fine placed (R .pool) depth k i (R .used) (R .low) inside
 
     -- ---- the slot holds no table
 
     module _ (old : ¬ (TableWord (levelAt s k) w)) where
-      shows-leaf : slotShows h s left k i ≡ leaf w
-      shows-leaf = slot-leaf (codecOf h placed) (view s) left k i (R .low) (word-in s k i inside) old
+      shows-leaf : slotShows h s depth k i ≡ leaf w
+      shows-leaf = slot-leaf (codecOf h placed) (view s) depth k i (R .low) (word-in s k i inside) old
 
-      by-leaf : LeafRule level m left w → (ruleOf level m w ≡ Down → saysOf m left (leaf w) ≡ goDown → Done (leaf w)) → Done (leaf w)
+      by-leaf : LeafRule level m depth w → (ruleOf level m w ≡ Down → saysOf m depth (leaf w) ≡ goDown → Done (leaf w)) → Done (leaf w)
       by-leaf (keeps r e) down =
-          subst₂ (λ (s′ : St) (t : Tree). Slotted placed s s′ left k i t (takes m left (leaf w)))
-          (chunk-keep h level k m s refl refl r) (shows-leaf ∙ sym (done-keep m left (leaf w) e)) (kept placed R i (takes m left (leaf w)))
+          subst₂ (λ (s′ : St) (t : Tree). Slotted placed s s′ depth k i t (takes m depth (leaf w)))
+          (chunk-keep h k level m s refl refl r) (shows-leaf ∙ sym (done-keep m depth (leaf w) e)) (kept placed R i (takes m depth (leaf w)))
       by-leaf (writes x r e) down =
-          subst₂ (λ (s′ : St) (t : Tree). Slotted placed s s′ left k i t (takes m left (leaf w)))
-          (chunk-write h level k m s refl refl x r) (sym (done-write m left x (leaf w) e))
-          (stored placed R i (takes m left (leaf w)) x inside old
-          (write-stands h left q (levelAt s k) x m (leaf w) allowed piece (R .low) (subst (FineTree left) shows-leaf fine) e))
+          subst₂ (λ (s′ : St) (t : Tree). Slotted placed s s′ depth k i t (takes m depth (leaf w)))
+          (chunk-write h k level m s refl refl x r) (sym (done-write m depth x (leaf w) e))
+          (stored placed R i (takes m depth (leaf w)) x inside old
+          (write-stands h depth q (levelAt s k) x m (leaf w) allowed piece (R .low) (subst (FineTree depth) shows-leaf fine) e))
       by-leaf (leaf-splits r e) down = down r e
 
   -- ---- above the lowest level
 
-  module _ (q k : ℕ) (m : Map) (s : St) (left : ℕ) (works : Works left) (allowed : Allowed h (m .flags)) (piece : Piece (suc left) q m) (R : Ready placed s (suc left) k) where
+  module _ (q k : ℕ) (m : Map) (s : St) (depth : ℕ) (works : Works depth) (allowed : Allowed h (m .flags)) (piece : Piece (suc depth) q m) (R : Ready placed s (suc depth) k) where
     abbrev l : ℕ
-    l = 3 - suc left
+    l = 3 - suc depth
 
     abbrev j : ℕ
     j = entryIndex l (m .region .start .0)
@@ -99,7 +99,7 @@ module _ {h : Handle} (placed : Placed h) where
     x = wordAt s k j
 
     abbrev Goal : Tree → Type 0
-    Goal t = Slotted placed s (stepAt l h k m s) (suc left) k j (doneTo m (suc left) t) (takes m (suc left) t)
+    Goal t = Slotted placed s (stepAt h k l m s) (suc depth) k j (doneTo m (suc depth) t) (takes m (suc depth) t)
 
     slot : j < 512
     slot = slot-below l (m .region .start .0)
@@ -107,62 +107,62 @@ module _ {h : Handle} (placed : Placed h) where
     high : l < 3
     high = omega arith
 
-    last : 3 - (l + 1) ≡ left
+    last : 3 - (l + 1) ≡ depth
     last = omega (arith, R .low)
 
     -- on in table c of the state t
-    goes-in : {c : ℕ} {t : St} → ruleOf l m x ≡ Down → taken (At c) t ≡ below h l k j s → mapRange left h c m t ≡ stepAt l h k m s
-    goes-in {c} {t} r found = ap (λ (d : ℕ). mapRange d h c m t) (sym last) ∙ chunk-into h l k m s refl refl r found c refl high
+    goes-in : {c : ℕ} {t : St} → ruleOf l m x ≡ Down → taken (At c) t ≡ below h k l j s → mapRange depth h c m t ≡ stepAt h k l m s
+    goes-in {c} {t} r found = ap (λ (d : ℕ). mapRange d h c m t) (sym last) ∙ chunk-into h k l m s refl refl r found c refl high
 
     -- ---- down, after a split if there is no table
 
-    by-down : let t = slotShows h s (suc left) k j in takes m (suc left) t ≤ free (s .ledger) → ruleOf l m x ≡ Down → saysOf m (suc left) t ≡ goDown → Goal t
+    by-down : let t = slotShows h s (suc depth) k j in takes m (suc depth) t ≤ free (s .ledger) → ruleOf l m x ≡ Down → saysOf m (suc depth) t ≡ goDown → Goal t
     by-down room r e =
-        let t : Tree = slotShows h s (suc left) k j in
-        let all = takes-down m left t e in
+        let t : Tree = slotShows h s (suc depth) k j in
+        let all = takes-down m depth t e in
         let O = opens placed R j slot (omega arith) in
         let fewer = O .room in
         let W = works q (O .table) m (O .state) allowed (piece-area piece) (O .ready)
-        (subst (λ (u : Tree). takesTable m left u ≤ free (O .state .ledger)) (sym (O .shows)) (omega arith)) in
-        let W′ = subst (λ (u : Tree). Worked placed (O .state) (mapRange left h (O .table) m (O .state)) left (O .table) (doneTable m left u) (takesTable m left u)) (O .shows) W in
-        subst (λ (s′ : St). Slotted placed s s′ (suc left) k j (doneTo m (suc left) t) (takes m (suc left) t)) (goes-in r (O .found))
-        (subst₂ (λ (u : Tree) (c : ℕ). Slotted placed s (mapRange left h (O .table) m (O .state)) (suc left) k j u c) (sym (done-down m left t e)) (sym all) (O .back W′))
+        (subst (λ (u : Tree). takesTable m depth u ≤ free (O .state .ledger)) (sym (O .shows)) (omega arith)) in
+        let W′ = subst (λ (u : Tree). Worked placed (O .state) (mapRange depth h (O .table) m (O .state)) depth (O .table) (doneTable m depth u) (takesTable m depth u)) (O .shows) W in
+        subst (λ (s′ : St). Slotted placed s s′ (suc depth) k j (doneTo m (suc depth) t) (takes m (suc depth) t)) (goes-in r (O .found))
+        (subst₂ (λ (u : Tree) (c : ℕ). Slotted placed s (mapRange depth h (O .table) m (O .state)) (suc depth) k j u c) (sym (done-down m depth t e)) (sym all) (O .back W′))
 
     -- ---- a table
 
     module _ (e : ℕ) (r : Refers (codecOf h placed) (view s) k j e) (leads : subOf (h .base .0) (tables s) l x ≡ Table e) where
       abbrev g : ℕ → Tree
-      g i = slotShows h s left e i
+      g i = slotShows h s depth e i
 
-      by-table : slotShows h s (suc left) k j ≡ node g → TableRule l m (suc left) x g → takes m (suc left) (slotShows h s (suc left) k j) ≤ free (s .ledger)
-          → Goal (slotShows h s (suc left) k j)
+      by-table : slotShows h s (suc depth) k j ≡ node g → TableRule l m (suc depth) x g → takes m (suc depth) (slotShows h s (suc depth) k j) ≤ free (s .ledger)
+          → Goal (slotShows h s (suc depth) k j)
       by-table shows (drops rule says) room =
-          let fine = subst (FineTree (suc left)) shows (slot-fine placed (R .pool) (suc left) k j (R .used) (R .low) slot) in
-          let put : freeTree left h e (storeAt k j (m .flags) s) ≡ stepAt l h k m s =
+          let fine = subst (FineTree (suc depth)) shows (slot-fine placed (R .pool) (suc depth) k j (R .used) (R .low) slot) in
+          let put : freeTree depth h e (storeAt k j (m .flags) s) ≡ stepAt h k l m s =
           ap (λ (d : ℕ). freeTree d h e (storeAt k j (m .flags) s)) (sym last)
           ∙ drop-table h l x (storeAt k j (m .flags) s) refl e leads
-          ∙ chunk-drop h l k m s refl refl (m .flags) rule in
+          ∙ chunk-drop h k l m s refl refl (m .flags) rule in
           subst Goal (sym shows)
-          (subst₂ (λ (s′ : St) (t : Tree). Slotted placed s s′ (suc left) k j t (takes m (suc left) (node g))) put (sym (done-write m (suc left) (m .flags) (node g) says))
-          (dropped placed R j slot (takes m (suc left) (node g)) (m .flags) r
-          (write-stands h (suc left) q (levelAt s k) (m .flags) m (node g) allowed piece (R .low) fine says)))
-      by-table shows (enters rule says) room = by-down room rule (ap (saysOf m (suc left)) shows ∙ says)
+          (subst₂ (λ (s′ : St) (t : Tree). Slotted placed s s′ (suc depth) k j t (takes m (suc depth) (node g))) put (sym (done-write m (suc depth) (m .flags) (node g) says))
+          (dropped placed R j slot (takes m (suc depth) (node g)) (m .flags) r
+          (write-stands h (suc depth) q (levelAt s k) (m .flags) m (node g) allowed piece (R .low) fine says)))
+      by-table shows (enters rule says) room = by-down room rule (ap (saysOf m (suc depth)) shows ∙ says)
 
-    up-works : takes m (suc left) (slotShows h s (suc left) k j) ≤ free (s .ledger) → Goal (slotShows h s (suc left) k j)
+    up-works : takes m (suc depth) (slotShows h s (suc depth) k j) ≤ free (s .ledger) → Goal (slotShows h s (suc depth) k j)
     up-works room = go (holds placed R j slot)
       where
-        go : Holds placed s left k j → Goal (slotShows h s (suc left) k j)
-        go (holds-table e r both leads shows) = by-table e r leads shows (table-rule m left x (omega (arith, R .low)) (λ i. slotShows h s left e i) both) room
+        go : Holds placed s depth k j → Goal (slotShows h s (suc depth) k j)
+        go (holds-table e r both leads shows) = by-table e r leads shows (table-rule m depth x (omega (arith, R .low)) (λ i. slotShows h s depth e i) both) room
         go (holds-leaf old other shows) =
-            subst Goal (sym shows) (by-leaf q k m s (suc left) allowed piece R old (leaf-rule m left x (omega (arith, R .low)) other)
-            (λ r e. subst Goal shows (by-down room r (ap (saysOf m (suc left)) shows ∙ e))))
+            subst Goal (sym shows) (by-leaf q k m s (suc depth) allowed piece R old (leaf-rule m depth x (omega (arith, R .low)) other)
+            (λ r e. subst Goal shows (by-down room r (ap (saysOf m (suc depth)) shows ∙ e))))
 
   -- ---- ONE CHUNK
 
   abbrev pub ChunkWorks : ℕ → Type 0
-  ChunkWorks left = (q k : ℕ) (m : Map) (s : St) → Allowed h (m .flags) → Piece left q m → Ready placed s left k → let i = entryIndex (3 - left) (m .region .start .0) in
-      takes m left (slotShows h s left k i) ≤ free (s .ledger)
-      → Slotted placed s (stepAt (3 - left) h k m s) left k i (doneTo m left (slotShows h s left k i)) (takes m left (slotShows h s left k i))
+  ChunkWorks depth = (q k : ℕ) (m : Map) (s : St) → Allowed h (m .flags) → Piece depth q m → Ready placed s depth k → let i = entryIndex (3 - depth) (m .region .start .0) in
+      takes m depth (slotShows h s depth k i) ≤ free (s .ledger)
+      → Slotted placed s (stepAt h k (3 - depth) m s) depth k i (doneTo m depth (slotShows h s depth k i)) (takes m depth (slotShows h s depth k i))
 
   -- at the lowest level nothing goes down
   pub page-works : ChunkWorks 0
@@ -175,5 +175,5 @@ module _ {h : Handle} (placed : Placed h) where
       never : (x : ℕ) → ruleOf 3 m x ≡ Down → ⊥
       never x r = let z : _≡_ {A = ℕ} 0 1 = cc (rule-page 3 m x (omega arith), r) in omega arith
 
-  pub chunk-works : (left : ℕ) → Works left → ChunkWorks (suc left)
-  chunk-works left works q k m s allowed piece R room = up-works q k m s left works allowed piece R room
+  pub chunk-works : (depth : ℕ) → Works depth → ChunkWorks (suc depth)
+  chunk-works depth works q k m s allowed piece R room = up-works q k m s depth works allowed piece R room

@@ -40,12 +40,12 @@ module _ {h : Handle} (placed : Placed h) {s : St} (P : SoundPool h s) where
   good x w t = leaf-fine h (levelOf x) w (omega arith) (leaf-says (flagSet h) (levelOf x) w (omega arith) t)
 
   -- THE TREE OF A USED TABLE IS FINE
-  pub table-fine : (left k : ℕ) → InUse s k → levelAt s k + left ≡ 3 → FineTable left (treeFrom h s left k)
-  table-fine left k used low = tree-fine {C = codecOf h placed} (pool-sound placed P) good left k used low
+  pub table-fine : (depth k : ℕ) → InUse s k → levelAt s k + depth ≡ 3 → FineTable depth (treeFrom h s depth k)
+  table-fine depth k used low = tree-fine {C = codecOf h placed} (pool-sound placed P) good depth k used low
 
   -- slot by slot
-  pub slot-fine : (left k i : ℕ) → InUse s k → levelAt s k + left ≡ 3 → i < 512 → FineTree left (entry (childOf (h .base .0)) left (slotWord s) (slotWord s k i))
-  slot-fine left k i used low inside = subst (FineTable left) (treeAt-node (childOf (h .base .0)) left (slotWord s) k) (table-fine left k used low) i inside
+  pub slot-fine : (depth k i : ℕ) → InUse s k → levelAt s k + depth ≡ 3 → i < 512 → FineTree depth (entry (childOf (h .base .0)) depth (slotWord s) (slotWord s k i))
+  slot-fine depth k i used low inside = subst (FineTable depth) (treeAt-node (childOf (h .base .0)) depth (slotWord s) k) (table-fine depth k used low) i inside
 
   -- the root is in use
   pub root-used : InUse s 0
@@ -61,8 +61,8 @@ leaf-from {h} {s} P k i inside used old = P .leaves k i inside used old .flags
 
 -- ---- a fine word with flags from the set may stand
 
-pub fine-stands : (h : Handle) (left level v : ℕ) → level + left ≡ 3 → Fine left v → Sub (plainFlags v) (flagSet h) → Stands h level v
-fine-stands h left level v low fine flags = record {
+pub fine-stands : (h : Handle) (depth level v : ℕ) → level + depth ≡ 3 → Fine depth v → Sub (plainFlags v) (flagSet h) → Stands h level v
+fine-stands h depth level v low fine flags = record {
   plain = λ table. let c = fine .clear (omega (arith, table .0)) in omega (arith, table .1);
   leaf = record {
     flags = flags;
@@ -75,9 +75,9 @@ fine-stands h left level v low fine flags = record {
   where
     aligned : addressOf v % sizeAt level ≡ 0
     aligned =
-        let e : level ≡ 3 - left = omega arith in
+        let e : level ≡ 3 - depth = omega arith in
         let f = address-frame v in
         let frame : addressOf v / 4096 ≡ frameOf v = omega arith in
-        let rest = entry-rest left (addressOf v) (omega arith) (omega arith) in
-        let whole : addressOf v / 4096 % span left ≡ 0 = ap (λ (x : ℕ). x % span left) frame ∙ fine .aligned in
-        ap (λ (l : ℕ). addressOf v % sizeAt l) e ∙ (let z : addressOf v % sizeAt (3 - left) ≡ 0 = omega arith in z)
+        let rest = entry-rest depth (addressOf v) (omega arith) (omega arith) in
+        let whole : addressOf v / 4096 % span depth ≡ 0 = ap (λ (x : ℕ). x % span depth) frame ∙ fine .aligned in
+        ap (λ (l : ℕ). addressOf v % sizeAt l) e ∙ (let z : addressOf v % sizeAt (3 - depth) ≡ 0 = omega arith in z)

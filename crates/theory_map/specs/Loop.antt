@@ -29,9 +29,9 @@ use Rattle.theory_map.specs.Moves.{slotShows, Ready, Slotted, Worked, sl
 use Rattle.theory_map.specs.Pieces.{slotAt, Pieces, tallied-from}
 
 -- a table's slot
-pub slot-of : (h : Handle) (s : St) (left k i : ℕ) → slotIn (treeFrom h s left k) i ≡ slotShows h s left k i
+pub slot-of : (h : Handle) (s : St) (depth k i : ℕ) → slotIn (treeFrom h s depth k) i ≡ slotShows h s depth k i
 unfolding slotIn
-slot-of h s left k i = ap (λ (t : Tree). slotIn t i) (treeAt-node (childOf (h .base .0)) left (slotWord s) k)
+slot-of h s depth k i = ap (λ (t : Tree). slotIn t i) (treeAt-node (childOf (h .base .0)) depth (slotWord s) k)
 
 -- the chunks one after the other; the frame rises by the chunk's length after each
 unfoldable pub through : {S : Type 0} → (MemoryRegion → ℕ → S → S) → List MemoryRegion → ℕ → S → S
@@ -41,80 +41,80 @@ through f (c ∷ cs) frame x = through f cs (frame + (c .end .0 - c .start .0)) 
 module _ {h : Handle} (placed : Placed h) where
   -- ---- a table after a step at one of its slots
 
-  module _ {s s′ : St} {left k i cost : ℕ} (change : Tree → Tree) (R : Ready placed s left k) (S : Slotted placed s s′ left k i (change (slotShows h s left k i)) cost) where
-    others : (j : ℕ) → j ≢ i → slotShows h s′ left k j ≡ slotShows h s left k j
-    others j other = change-slot (pool-sound placed (R .pool)) (view s′) left (S .step .move .at .words) (R .used) (R .low) other
+  module _ {s s′ : St} {depth k i cost : ℕ} (change : Tree → Tree) (R : Ready placed s depth k) (S : Slotted placed s s′ depth k i (change (slotShows h s depth k i)) cost) where
+    others : (j : ℕ) → j ≢ i → slotShows h s′ depth k j ≡ slotShows h s depth k j
+    others j other = change-slot (pool-sound placed (R .pool)) (view s′) depth (S .step .move .at .words) (R .used) (R .low) other
 
-    table-after : treeFrom h s′ left k ≡ atSlot i change (treeFrom h s left k)
+    table-after : treeFrom h s′ depth k ≡ atSlot i change (treeFrom h s depth k)
     unfolding atSlot
     table-after =
-        treeAt-node (childOf (h .base .0)) left (slotWord s′) k ∙ node-ext (λ j. go j (eqb-cases j i))
-        ∙ sym (ap (atSlot i change) (treeAt-node (childOf (h .base .0)) left (slotWord s) k))
+        treeAt-node (childOf (h .base .0)) depth (slotWord s′) k ∙ node-ext (λ j. go j (eqb-cases j i))
+        ∙ sym (ap (atSlot i change) (treeAt-node (childOf (h .base .0)) depth (slotWord s) k))
       where
         go : (j : ℕ) → ((j ≡ i) × (eqb j i ≡ true)) ⊎ ((j ≢ i) × (eqb j i ≡ false))
-            → slotShows h s′ left k j ≡ cond (eqb j i) (change (slotShows h s left k j)) (slotShows h s left k j)
+            → slotShows h s′ depth k j ≡ cond (eqb j i) (change (slotShows h s depth k j)) (slotShows h s depth k j)
         go j (inl e) = rw (e .1) (rw (e .0) (S .step .move .tree))
         go j (inr e) = rw (e .1) (others j (e .0))
 
-    slots-after : (j : ℕ) → j ≢ i → slotIn (treeFrom h s′ left k) j ≡ slotIn (treeFrom h s left k) j
-    slots-after j other = slot-of h s′ left k j ∙ others j other ∙ sym (slot-of h s left k j)
+    slots-after : (j : ℕ) → j ≢ i → slotIn (treeFrom h s′ depth k) j ≡ slotIn (treeFrom h s depth k) j
+    slots-after j other = slot-of h s′ depth k j ∙ others j other ∙ sym (slot-of h s depth k j)
 
   -- ---- the chunks, one after the other
 
   module _ {S : Type 0} (stateOf : S → St) (each : MemoryRegion → ℕ → S → S) (eachTree : MemoryRegion → ℕ → Tree → Tree) (count : MemoryRegion → ℕ → Tree → ℕ)
-      (left q k : ℕ) (m : Map) where
+      (depth q k : ℕ) (m : Map) where
     -- each chunk does on lists what it does on the tree of its slot
     abbrev pub EachWorks : Type 0
-    EachWorks = (c : MemoryRegion) (p : ℕ) (x : S) → Piece left (child q (slotAt left c)) (chunkMap m c p) → Ready placed (stateOf x) left k
-        → let i = entryIndex (3 - left) (c .start .0) in let t = slotShows h (stateOf x) left k i in
-        count c p t ≤ free (stateOf x .ledger) → Slotted placed (stateOf x) (stateOf (each c p x)) left k i (eachTree c p t) (count c p t)
+    EachWorks = (c : MemoryRegion) (p : ℕ) (x : S) → Piece depth (child q (slotAt depth c)) (chunkMap m c p) → Ready placed (stateOf x) depth k
+        → let i = entryIndex (3 - depth) (c .start .0) in let t = slotShows h (stateOf x) depth k i in
+        count c p t ≤ free (stateOf x .ledger) → Slotted placed (stateOf x) (stateOf (each c p x)) depth k i (eachTree c p t) (count c p t)
 
     -- the first chunk of some done: what the others find
     pub record Stepped (c : MemoryRegion) (cs : List MemoryRegion) (p : ℕ) (x : S) : Type 0 where
-      pub slotted : let i = entryIndex (3 - left) (c .start .0) in let u = slotShows h (stateOf x) left k i in
-          Slotted placed (stateOf x) (stateOf (each c p x)) left k i (eachTree c p u) (count c p u)
-      pub ready : Ready placed (stateOf (each c p x)) left k
-      pub same : (j : ℕ) → suc (slotAt left c) ≤ j → slotIn (treeFrom h (stateOf (each c p x)) left k) j ≡ slotIn (treeFrom h (stateOf x) left k) j
+      pub slotted : let i = entryIndex (3 - depth) (c .start .0) in let u = slotShows h (stateOf x) depth k i in
+          Slotted placed (stateOf x) (stateOf (each c p x)) depth k i (eachTree c p u) (count c p u)
+      pub ready : Ready placed (stateOf (each c p x)) depth k
+      pub same : (j : ℕ) → suc (slotAt depth c) ≤ j → slotIn (treeFrom h (stateOf (each c p x)) depth k) j ≡ slotIn (treeFrom h (stateOf x) depth k) j
       pub rest : let p′ = p + (c .end .0 - c .start .0) in
-          tallied left count cs p′ (treeFrom h (stateOf (each c p x)) left k) ≡ tallied left count cs p′ (treeFrom h (stateOf x) left k)
-      pub room : tallied left count cs (p + (c .end .0 - c .start .0)) (treeFrom h (stateOf (each c p x)) left k) ≤ free (stateOf (each c p x) .ledger)
+          tallied depth count cs p′ (treeFrom h (stateOf (each c p x)) depth k) ≡ tallied depth count cs p′ (treeFrom h (stateOf x) depth k)
+      pub room : tallied depth count cs (p + (c .end .0 - c .start .0)) (treeFrom h (stateOf (each c p x)) depth k) ≤ free (stateOf (each c p x) .ledger)
 
-    pub stepped : left ≤ 3 → EachWorks → (c : MemoryRegion) (cs : List MemoryRegion) (a p : ℕ) (x : S) → Pieces left q m a p (c ∷ cs) → Ready placed (stateOf x) left k
-        → tallied left count (c ∷ cs) p (treeFrom h (stateOf x) left k) ≤ free (stateOf x .ledger) → Stepped c cs p x
+    pub stepped : depth ≤ 3 → EachWorks → (c : MemoryRegion) (cs : List MemoryRegion) (a p : ℕ) (x : S) → Pieces depth q m a p (c ∷ cs) → Ready placed (stateOf x) depth k
+        → tallied depth count (c ∷ cs) p (treeFrom h (stateOf x) depth k) ≤ free (stateOf x .ledger) → Stepped c cs p x
     unfolding tallied
     stepped low works c cs a p x all R room =
-        let i : ℕ = entryIndex (3 - left) (c .start .0) in
+        let i : ℕ = entryIndex (3 - depth) (c .start .0) in
         let p′ : ℕ = p + (c .end .0 - c .start .0) in
         let s : St = stateOf x in
-        let t : Tree = treeFrom h s left k in
+        let t : Tree = treeFrom h s depth k in
         let s₁ : St = stateOf (each c p x) in
-        let here : count c p (slotIn t i) ≡ count c p (slotShows h s left k i) = ap (count c p) (slot-of h s left k i) in
-        let S : Slotted placed s s₁ left k i (eachTree c p (slotShows h s left k i)) (count c p (slotShows h s left k i)) =
+        let here : count c p (slotIn t i) ≡ count c p (slotShows h s depth k i) = ap (count c p) (slot-of h s depth k i) in
+        let S : Slotted placed s s₁ depth k i (eachTree c p (slotShows h s depth k i)) (count c p (slotShows h s depth k i)) =
         works c p x (all .0 .piece) R (omega arith) in
-        let index = index-slot left (c .start .0) low in
-        let same : (j : ℕ) → suc (slotAt left c) ≤ j → slotIn (treeFrom h s₁ left k) j ≡ slotIn t j = λ j l. slots-after (eachTree c p) R S j (λ e. omega arith) in
-        let rest : tallied left count cs p′ (treeFrom h s₁ left k) ≡ tallied left count cs p′ t =
-        tallied-from left q m low count cs (suc (slotAt left c)) p′ (treeFrom h s₁ left k) t (all .1) same in
+        let index = index-slot depth (c .start .0) low in
+        let same : (j : ℕ) → suc (slotAt depth c) ≤ j → slotIn (treeFrom h s₁ depth k) j ≡ slotIn t j = λ j l. slots-after (eachTree c p) R S j (λ e. omega arith) in
+        let rest : tallied depth count cs p′ (treeFrom h s₁ depth k) ≡ tallied depth count cs p′ t =
+        tallied-from depth q m low count cs (suc (slotAt depth c)) p′ (treeFrom h s₁ depth k) t (all .1) same in
         let spare = S .spare in
         record { slotted = S; ready = slotted-ready placed R S; same = same; rest = rest; room = omega arith }
 
-    pub loop : left ≤ 3 → EachWorks → (cs : List MemoryRegion) (a p : ℕ) (x : S) → Pieces left q m a p cs → Ready placed (stateOf x) left k
-        → let t = treeFrom h (stateOf x) left k in
-        tallied left count cs p t ≤ free (stateOf x .ledger)
-        → Worked placed (stateOf x) (stateOf (through each cs p x)) left k (sweep left eachTree cs p t) (tallied left count cs p t)
+    pub loop : depth ≤ 3 → EachWorks → (cs : List MemoryRegion) (a p : ℕ) (x : S) → Pieces depth q m a p cs → Ready placed (stateOf x) depth k
+        → let t = treeFrom h (stateOf x) depth k in
+        tallied depth count cs p t ≤ free (stateOf x .ledger)
+        → Worked placed (stateOf x) (stateOf (through each cs p x)) depth k (sweep depth eachTree cs p t) (tallied depth count cs p t)
     unfolding through sweep tallied
-    loop low works [] a p x all R room = record { work = work-skip (pool-sound placed (R .pool)) left k; same-tables = refl; same-words = refl; spare = omega arith }
+    loop low works [] a p x all R room = record { work = work-skip (pool-sound placed (R .pool)) depth k; same-tables = refl; same-words = refl; spare = omega arith }
     loop low works (c ∷ cs) a p x all R room =
         let p′ : ℕ = p + (c .end .0 - c .start .0) in
         let first = stepped low works c cs a p x all R room in
         let S = first .slotted in
-        let W = loop low works cs (suc (slotAt left c)) p′ (each c p x) (all .1) (first .ready) (first .room) in
+        let W = loop low works cs (suc (slotAt depth c)) p′ (each c p x) (all .1) (first .ready) (first .room) in
         let sound = pool-sound placed (R .pool) in
-        let here = ap (count c p) (slot-of h (stateOf x) left k (entryIndex (3 - left) (c .start .0))) in
+        let here = ap (count c p) (slot-of h (stateOf x) depth k (entryIndex (3 - depth) (c .start .0))) in
         record {
           work = record {
             over = over-trans sound (at-over sound (R .used) (S .step .move .at)) (W .work .over);
-            tree = W .work .tree ∙ ap (sweep left eachTree cs p′) (table-after (eachTree c p) R S);
+            tree = W .work .tree ∙ ap (sweep depth eachTree cs p′) (table-after (eachTree c p) R S);
           };
           same-tables = W .same-tables ∙ S .step .same-tables;
           same-words = W .same-words ∙ S .step .same-words;

@@ -39,95 +39,95 @@ use Rattle.theory_map.specs.Chunk.{takes-split, takes-enter}
 use Rattle.theory_map.specs.Loop.{slot-of}
 
 -- nothing is taken unless the rule goes down
-takes-keep : (m : Map) (left : ℕ) (t : Tree) → saysOf m left t ≡ keep → takes m left t ≡ 0
+takes-keep : (m : Map) (depth : ℕ) (t : Tree) → saysOf m depth t ≡ keep → takes m depth t ≡ 0
 unfolding trees.needed counted
 takes-keep m zero t e = refl
-takes-keep m (suc left) t e = rw e
+takes-keep m (suc depth) t e = rw e
 
-takes-write : (m : Map) (left x : ℕ) (t : Tree) → saysOf m left t ≡ write x → takes m left t ≡ 0
+takes-write : (m : Map) (depth x : ℕ) (t : Tree) → saysOf m depth t ≡ write x → takes m depth t ≡ 0
 unfolding trees.needed counted
 takes-write m zero x t e = refl
-takes-write m (suc left) x t e = rw e
+takes-write m (suc depth) x t e = rw e
 
 -- ---- chunk by chunk
 
 -- what a chunk with its frame takes, in an entry
 abbrev count : Map → ℕ → MemoryRegion → ℕ → Tree → ℕ
-count m left c p u = trees.needed (documentRule (m .flags) (m .blocks)) left c p u
+count m depth c p u = trees.needed (documentRule (m .flags) (m .blocks)) depth c p u
 
-sum-tally : (m : Map) (left : ℕ) (f : Map → ℕ) (t : Tree)
-    → ((c : MemoryRegion) (p : ℕ) → f (chunkMap m c p) ≡ takes (chunkMap m c p) left (trees.slotIn t (entryIndex (3 - left) (c .start .0))))
-    → (cs : List MemoryRegion) (p : ℕ) → sumOf (λ c frame. f (chunkMap m c frame)) cs p ≡ trees.tallied left (λ d x u. count m left d x u) cs p t
+sum-tally : (m : Map) (depth : ℕ) (f : Map → ℕ) (t : Tree)
+    → ((c : MemoryRegion) (p : ℕ) → f (chunkMap m c p) ≡ takes (chunkMap m c p) depth (trees.slotIn t (entryIndex (3 - depth) (c .start .0))))
+    → (cs : List MemoryRegion) (p : ℕ) → sumOf (λ c frame. f (chunkMap m c frame)) cs p ≡ trees.tallied depth (λ d x u. count m depth d x u) cs p t
 unfolding sumOf trees.tallied
-sum-tally m left f t each [] p = refl
-sum-tally m left f t each (c ∷ cs) p = ap₂ _+_ (each c p) (sum-tally m left f t each cs (p + (c .end .0 - c .start .0)))
+sum-tally m depth f t each [] p = refl
+sum-tally m depth f t each (c ∷ cs) p = ap₂ _+_ (each c p) (sum-tally m depth f t each cs (p + (c .end .0 - c .start .0)))
 
-sum-takes : (m : Map) (left : ℕ) (f : Map → ℕ) (t : Tree)
-    → ((c : MemoryRegion) (p : ℕ) → f (chunkMap m c p) ≡ takes (chunkMap m c p) left (trees.slotIn t (entryIndex (3 - left) (c .start .0))))
-    → sumChunks (3 - left) f m ≡ takesTable m left t
+sum-takes : (m : Map) (depth : ℕ) (f : Map → ℕ) (t : Tree)
+    → ((c : MemoryRegion) (p : ℕ) → f (chunkMap m c p) ≡ takes (chunkMap m c p) depth (trees.slotIn t (entryIndex (3 - depth) (c .start .0))))
+    → sumChunks (3 - depth) f m ≡ takesTable m depth t
 unfolding sumChunks trees.neededTable
-sum-takes m left f t each = sum-tally m left f t each (chunks (3 - left) (m .region .start .0) (m .region .end .0)) (m .frame .0)
+sum-takes m depth f t each = sum-tally m depth f t each (chunks (3 - depth) (m .region .start .0) (m .region .end .0)) (m .frame .0)
 
 -- ---- an entry that is no table
 
 -- the word of a split
-child-fill : (left w a : ℕ) → suc left ≤ 3 → childWord (3 - suc left) w a ≡ fillWord left w (entryIndex (3 - left) a)
+child-fill : (depth w a : ℕ) → suc depth ≤ 3 → childWord (3 - suc depth) w a ≡ fillWord depth w (entryIndex (3 - depth) a)
 unfolding childWord
-child-fill left w a low =
-    let up : 3 - suc left + 1 ≡ 3 - left = omega arith in
-    ap (λ (l : ℕ). getD (fillOf (3 - suc left) w) (entryIndex l a) 0) up ∙ fill-at left w low (entryIndex (3 - left) a) (slot-below (3 - left) a)
+child-fill depth w a low =
+    let up : 3 - suc depth + 1 ≡ 3 - depth = omega arith in
+    ap (λ (l : ℕ). getD (fillOf (3 - suc depth) w) (entryIndex l a) 0) up ∙ fill-at depth w low (entryIndex (3 - depth) a) (slot-below (3 - depth) a)
 
-pub slot-fill : (left w i : ℕ) → i < 512 → trees.slotIn (fillTree left w) i ≡ leaf (fillWord left w i)
+pub slot-fill : (depth w i : ℕ) → i < 512 → trees.slotIn (fillTree depth w) i ≡ leaf (fillWord depth w i)
 unfolding trees.slotIn
-slot-fill left w i inside = ap (λ (t : Tree). trees.slotIn t i) (fill-node left w) ∙ fill-slot left w i inside
+slot-fill depth w i inside = ap (λ (t : Tree). trees.slotIn t i) (fill-node depth w) ∙ fill-slot depth w i inside
 
-needed-split : (m : Map) (left w : ℕ) → ruleOf (3 - suc left) m w ≡ Down
-    → neededLeaf (suc left) m w ≡ 1 + sumChunks (3 - left) (λ c. neededLeaf left c (childWord (3 - suc left) w (c .region .start .0))) m
+needed-split : (m : Map) (depth w : ℕ) → ruleOf (3 - suc depth) m w ≡ Down
+    → neededLeaf (suc depth) m w ≡ 1 + sumChunks (3 - depth) (λ c. neededLeaf depth c (childWord (3 - suc depth) w (c .region .start .0))) m
 unfolding neededLeaf ifDown
-needed-split m left w r = rw r
+needed-split m depth w r = rw r
 
-needed-keep : (m : Map) (left w : ℕ) → ruleOf (3 - suc left) m w ≡ Keep → neededLeaf (suc left) m w ≡ 0
+needed-keep : (m : Map) (depth w : ℕ) → ruleOf (3 - suc depth) m w ≡ Keep → neededLeaf (suc depth) m w ≡ 0
 unfolding neededLeaf ifDown
-needed-keep m left w r = rw r
+needed-keep m depth w r = rw r
 
-needed-write : (m : Map) (left w x : ℕ) → ruleOf (3 - suc left) m w ≡ Write x → neededLeaf (suc left) m w ≡ 0
+needed-write : (m : Map) (depth w x : ℕ) → ruleOf (3 - suc depth) m w ≡ Write x → neededLeaf (suc depth) m w ≡ 0
 unfolding neededLeaf ifDown
-needed-write m left w x r = rw r
+needed-write m depth w x r = rw r
 
-pub leaf-needs : (left : ℕ) (m : Map) (w : ℕ) → left ≤ 3 → Fine left w → neededLeaf left m w ≡ takes m left (leaf w)
+pub leaf-needs : (depth : ℕ) (m : Map) (w : ℕ) → depth ≤ 3 → Fine depth w → neededLeaf depth m w ≡ takes m depth (leaf w)
 unfolding neededLeaf trees.needed
 leaf-needs zero m w low fine = refl
-leaf-needs (suc left) m w low fine = go (leaf-rule m left w low (λ both. omega (arith, fine .clear (omega arith)))) (leaf-needs left)
+leaf-needs (suc depth) m w low fine = go (leaf-rule m depth w low (λ both. omega (arith, fine .clear (omega arith)))) (leaf-needs depth)
   where
-    go : LeafRule (3 - suc left) m (suc left) w → ((m : Map) (w : ℕ) → left ≤ 3 → Fine left w → neededLeaf left m w ≡ takes m left (leaf w))
-        → neededLeaf (suc left) m w ≡ takes m (suc left) (leaf w)
-    go (keeps r e) below = needed-keep m left w r ∙ sym (takes-keep m (suc left) (leaf w) e)
-    go (writes x r e) below = needed-write m left w x r ∙ sym (takes-write m (suc left) x (leaf w) e)
+    go : LeafRule (3 - suc depth) m (suc depth) w → ((m : Map) (w : ℕ) → depth ≤ 3 → Fine depth w → neededLeaf depth m w ≡ takes m depth (leaf w))
+        → neededLeaf (suc depth) m w ≡ takes m (suc depth) (leaf w)
+    go (keeps r e) below = needed-keep m depth w r ∙ sym (takes-keep m (suc depth) (leaf w) e)
+    go (writes x r e) below = needed-write m depth w x r ∙ sym (takes-write m (suc depth) x (leaf w) e)
     go (splits r e) below =
-        needed-split m left w r
-        ∙ ap (λ (n : ℕ). 1 + n) (sum-takes m left (λ c. neededLeaf left c (childWord (3 - suc left) w (c .region .start .0))) (fillTree left w) (λ c p.
-        let i : ℕ = entryIndex (3 - left) (c .start .0) in
-        let inside = slot-below (3 - left) (c .start .0) in
-        ap (neededLeaf left (chunkMap m c p)) (child-fill left w (c .start .0) low)
-        ∙ below (chunkMap m c p) (fillWord left w i) (omega arith) (fine-fill left w fine i inside)
-        ∙ ap (takes (chunkMap m c p) left) (sym (slot-fill left w i inside))))
-        ∙ sym (takes-split m left w e)
+        needed-split m depth w r
+        ∙ ap (λ (n : ℕ). 1 + n) (sum-takes m depth (λ c. neededLeaf depth c (childWord (3 - suc depth) w (c .region .start .0))) (fillTree depth w) (λ c p.
+        let i : ℕ = entryIndex (3 - depth) (c .start .0) in
+        let inside = slot-below (3 - depth) (c .start .0) in
+        ap (neededLeaf depth (chunkMap m c p)) (child-fill depth w (c .start .0) low)
+        ∙ below (chunkMap m c p) (fillWord depth w i) (omega arith) (fine-fill depth w fine i inside)
+        ∙ ap (takes (chunkMap m c p) depth) (sym (slot-fill depth w i inside))))
+        ∙ sym (takes-split m depth w e)
 
 -- ---- a table of a sound pool
 
-module _ (rec : ℕ → Map → ℕ) (count : Map → ℕ → ℕ) (h : Handle) (s : St) (level k : ℕ) (m : Map) where
+module _ (rec : ℕ → Map → ℕ) (count : Map → ℕ → ℕ) (h : Handle) (s : St) (k level : ℕ) (m : Map) where
   abbrev w : ℕ
   w = wordAt s k (entryIndex level (m .region .start .0))
 
-  chunk-not : (r : Rule) → ruleOf level m w ≡ r → ((n : ℕ) → ifDown r n ≡ 0) → needChunk rec count h s level k m ≡ 0
+  chunk-not : (r : Rule) → ruleOf level m w ≡ r → ((n : ℕ) → ifDown r n ≡ 0) → needChunk rec count h s k level m ≡ 0
   unfolding needChunk
   chunk-not r e none = rw e (none _)
 
-  chunk-leaf : ruleOf level m w ≡ Down → subOf (h .base .0) (tables s) level w ≡ Leaf → needChunk rec count h s level k m ≡ count m w
+  chunk-leaf : ruleOf level m w ≡ Down → subOf (h .base .0) (tables s) level w ≡ Leaf → needChunk rec count h s k level m ≡ count m w
   unfolding needChunk needBelow ifDown
   chunk-leaf r e = rw (r, e)
 
-  chunk-table : (j : ℕ) → ruleOf level m w ≡ Down → subOf (h .base .0) (tables s) level w ≡ Table j → needChunk rec count h s level k m ≡ rec j m
+  chunk-table : (j : ℕ) → ruleOf level m w ≡ Down → subOf (h .base .0) (tables s) level w ≡ Table j → needChunk rec count h s k level m ≡ rec j m
   unfolding needChunk needBelow ifDown
   chunk-table j r e = rw (r, e)
 
@@ -146,11 +146,11 @@ if-drop x n = refl
 module _ {h : Handle} (placed : Placed h) where
   -- what is known of the tables one level down
   abbrev Counts : ℕ → Type 0
-  Counts left = (k : ℕ) (m : Map) (s : St) → Ready placed s left k → needTable neededLeaf left h s k m ≡ takesTable m left (treeFrom h s left k)
+  Counts depth = (k : ℕ) (m : Map) (s : St) → Ready placed s depth k → needTable neededLeaf depth h s k m ≡ takesTable m depth (treeFrom h s depth k)
 
-  module _ (left k : ℕ) (m : Map) (s : St) (R : Ready placed s (suc left) k) (counts : Counts left) where
+  module _ (depth k : ℕ) (m : Map) (s : St) (R : Ready placed s (suc depth) k) (counts : Counts depth) where
     abbrev level : ℕ
-    level = 3 - suc left
+    level = 3 - suc depth
 
     abbrev i : ℕ
     i = entryIndex level (m .region .start .0)
@@ -161,48 +161,48 @@ module _ {h : Handle} (placed : Placed h) where
     inside : i < 512
     inside = slot-below level (m .region .start .0)
 
-    low : suc left ≤ 3
+    low : suc depth ≤ 3
     low = omega (arith, R .low)
 
     abbrev needs : ℕ
-    needs = needChunk (λ j n. needTable neededLeaf left h s j n) (λ c y. neededLeaf (suc left) c y) h s level k m
+    needs = needChunk (λ j n. needTable neededLeaf depth h s j n) (λ c y. neededLeaf (suc depth) c y) h s k level m
 
-    by-leaf : x % 4 ≢ 3 → needs ≡ takes m (suc left) (slotShows h s (suc left) k i)
-    by-leaf other = go (leaf-rule m left x low other) ∙ ap (takes m (suc left)) (sym shows)
+    by-leaf : x % 4 ≢ 3 → needs ≡ takes m (suc depth) (slotShows h s (suc depth) k i)
+    by-leaf other = go (leaf-rule m depth x low other) ∙ ap (takes m (suc depth)) (sym shows)
       where
-        shows : slotShows h s (suc left) k i ≡ leaf x
-        shows = slot-leaf (codecOf h placed) (view s) (suc left) k i (R .low) (word-in s k i inside) (λ table. other (table .1))
+        shows : slotShows h s (suc depth) k i ≡ leaf x
+        shows = slot-leaf (codecOf h placed) (view s) (suc depth) k i (R .low) (word-in s k i inside) (λ table. other (table .1))
 
-        fine : Fine (suc left) x
-        fine = subst (FineTree (suc left)) shows (slot-fine placed (R .pool) (suc left) k i (R .used) (R .low) inside)
+        fine : Fine (suc depth) x
+        fine = subst (FineTree (suc depth)) shows (slot-fine placed (R .pool) (suc depth) k i (R .used) (R .low) inside)
 
-        go : LeafRule level m (suc left) x → needs ≡ takes m (suc left) (leaf x)
-        go (keeps r e) = chunk-not _ _ h s level k m Keep r if-keep ∙ sym (takes-keep m (suc left) (leaf x) e)
-        go (writes y r e) = chunk-not _ _ h s level k m (Write y) r (if-write y) ∙ sym (takes-write m (suc left) y (leaf x) e)
+        go : LeafRule level m (suc depth) x → needs ≡ takes m (suc depth) (leaf x)
+        go (keeps r e) = chunk-not _ _ h s k level m Keep r if-keep ∙ sym (takes-keep m (suc depth) (leaf x) e)
+        go (writes y r e) = chunk-not _ _ h s k level m (Write y) r (if-write y) ∙ sym (takes-write m (suc depth) y (leaf x) e)
         go (splits r e) =
-            chunk-leaf _ _ h s level k m r (sym (sub-leaf (h .base .0) (tables s) level x (λ table. other (table .1)))) ∙ leaf-needs (suc left) m x low fine
+            chunk-leaf _ _ h s k level m r (sym (sub-leaf (h .base .0) (tables s) level x (λ table. other (table .1)))) ∙ leaf-needs (suc depth) m x low fine
 
-    by-table : (e : ℕ) → Refers (codecOf h placed) (view s) k i e → x % 4 ≡ 3 → needs ≡ takes m (suc left) (slotShows h s (suc left) k i)
-    by-table e r both = go (table-rule m left x low (λ j. slotShows h s left e j) both) ∙ ap (takes m (suc left)) (sym (slot-refers left r ∙ is-node))
+    by-table : (e : ℕ) → Refers (codecOf h placed) (view s) k i e → x % 4 ≡ 3 → needs ≡ takes m (suc depth) (slotShows h s (suc depth) k i)
+    by-table e r both = go (table-rule m depth x low (λ j. slotShows h s depth e j) both) ∙ ap (takes m (suc depth)) (sym (slot-refers depth r ∙ is-node))
       where
-        is-node : treeFrom h s left e ≡ node (λ j. slotShows h s left e j)
-        is-node = treeAt-node (childOf (h .base .0)) left (slotWord s) e
+        is-node : treeFrom h s depth e ≡ node (λ j. slotShows h s depth e j)
+        is-node = treeAt-node (childOf (h .base .0)) depth (slotWord s) e
 
         leads : subOf (h .base .0) (tables s) level x ≡ Table e
         leads =
             rw (sym (word-in s k i inside) ∙ r .says)
-            (sub-link (h .base .0) (tables s) level e (omega arith) (R .shape .paged) (R .shape .ended) (used-in s e (r .used)))
+            (sub-link (h .base .0) (tables s) e level (omega arith) (R .shape .paged) (R .shape .ended) (used-in s e (r .used)))
 
-        go : TableRule level m (suc left) x (λ j. slotShows h s left e j) → needs ≡ takes m (suc left) (node (λ j. slotShows h s left e j))
-        go (drops rule says) = chunk-not _ _ h s level k m (Drop (m .flags)) rule (if-drop (m .flags)) ∙ sym (takes-write m (suc left) (m .flags) _ says)
+        go : TableRule level m (suc depth) x (λ j. slotShows h s depth e j) → needs ≡ takes m (suc depth) (node (λ j. slotShows h s depth e j))
+        go (drops rule says) = chunk-not _ _ h s k level m (Drop (m .flags)) rule (if-drop (m .flags)) ∙ sym (takes-write m (suc depth) (m .flags) _ says)
         go (enters rule says) =
-            chunk-table _ _ h s level k m e rule leads ∙ counts e m s (entered-ready placed R i inside r) ∙ ap (takesTable m left) is-node
-            ∙ sym (takes-enter m left (λ j. slotShows h s left e j) says)
+            chunk-table _ _ h s k level m e rule leads ∙ counts e m s (entered-ready placed R i inside r) ∙ ap (takesTable m depth) is-node
+            ∙ sym (takes-enter m depth (λ j. slotShows h s depth e j) says)
 
-    chunk-needs : needs ≡ takes m (suc left) (slotShows h s (suc left) k i)
+    chunk-needs : needs ≡ takes m (suc depth) (slotShows h s (suc depth) k i)
     chunk-needs = go (eq-or (x % 4) 3)
       where
-        go : (x % 4 ≡ 3) ⊎ (x % 4 ≢ 3) → needs ≡ takes m (suc left) (slotShows h s (suc left) k i)
+        go : (x % 4 ≡ 3) ⊎ (x % 4 ≢ 3) → needs ≡ takes m (suc depth) (slotShows h s (suc depth) k i)
         go (inl both) =
             let n = pool-sound placed (R .pool) .names k i (R .used) (omega (arith, R .low), ap (λ (y : ℕ). y % 4) (word-in s k i inside) ∙ both) in
             by-table (n .0) (n .1) both
@@ -213,15 +213,15 @@ module _ {h : Handle} (placed : Placed h) where
   tally-none m [] p t = refl
   tally-none m (c ∷ cs) p t = let z = tally-none m cs (p + (c .end .0 - c .start .0)) t in omega arith
 
-  table-needs : (left : ℕ) → Counts left
+  table-needs : (depth : ℕ) → Counts depth
   unfolding needTable trees.neededTable
   table-needs zero k m s R = sym (tally-none m (chunks 3 (m .region .start .0) (m .region .end .0)) (m .frame .0) (treeFrom h s 0 k))
-  table-needs (suc left) k m s R =
-      sum-takes m (suc left) _ (treeFrom h s (suc left) k) (λ c p.
-      chunk-needs left k (chunkMap m c p) s R (table-needs left)
-      ∙ ap (takes (chunkMap m c p) (suc left)) (sym (slot-of h s (suc left) k (entryIndex (3 - suc left) (c .start .0)))))
+  table-needs (suc depth) k m s R =
+      sum-takes m (suc depth) _ (treeFrom h s (suc depth) k) (λ c p.
+      chunk-needs depth k (chunkMap m c p) s R (table-needs depth)
+      ∙ ap (takes (chunkMap m c p) (suc depth)) (sym (slot-of h s (suc depth) k (entryIndex (3 - suc depth) (c .start .0)))))
 
   -- REFUSAL 9'S COUNT
-  pub needed-is : (left k : ℕ) (m : Map) (s : St) → Ready placed s left k → needed left h s k m ≡ takesTable m left (treeFrom h s left k)
+  pub needed-is : (depth k : ℕ) (m : Map) (s : St) → Ready placed s depth k → needed depth h s k m ≡ takesTable m depth (treeFrom h s depth k)
   unfolding needed
-  needed-is left k m s R = table-needs left k m s R
+  needed-is depth k m s R = table-needs depth k m s R

@@ -25,89 +25,89 @@ use Rattle.theory_map.specs.Stand.{Piece}
 
 -- the entry after it, and the new tables that it takes
 abbrev pub doneTo : Map → ℕ → Tree → Tree
-doneTo m left t = chunked (documentRule (m .flags) (m .blocks)) left (m .region) (m .frame .0) t
+doneTo m depth t = chunked (documentRule (m .flags) (m .blocks)) depth (m .region) (m .frame .0) t
 
 abbrev pub takes : Map → ℕ → Tree → ℕ
-takes m left t = needed (documentRule (m .flags) (m .blocks)) left (m .region) (m .frame .0) t
+takes m depth t = needed (documentRule (m .flags) (m .blocks)) depth (m .region) (m .frame .0) t
 
 -- .. and of a table
 abbrev pub doneTable : Map → ℕ → Tree → Tree
-doneTable m left t = chunkedTable (documentRule (m .flags) (m .blocks)) left (m .region) (m .frame .0) t
+doneTable m depth t = chunkedTable (documentRule (m .flags) (m .blocks)) depth (m .region) (m .frame .0) t
 
 abbrev pub takesTable : Map → ℕ → Tree → ℕ
-takesTable m left t = neededTable (documentRule (m .flags) (m .blocks)) left (m .region) (m .frame .0) t
+takesTable m depth t = neededTable (documentRule (m .flags) (m .blocks)) depth (m .region) (m .frame .0) t
 
 -- by what the rule says
-pub done-keep : (m : Map) (left : ℕ) (t : Tree) → saysOf m left t ≡ keep → doneTo m left t ≡ t
+pub done-keep : (m : Map) (depth : ℕ) (t : Tree) → saysOf m depth t ≡ keep → doneTo m depth t ≡ t
 unfolding chunked obey
 done-keep m zero t e = rw e
-done-keep m (suc left) t e = rw e
+done-keep m (suc depth) t e = rw e
 
-pub done-write : (m : Map) (left x : ℕ) (t : Tree) → saysOf m left t ≡ write x → doneTo m left t ≡ leaf x
+pub done-write : (m : Map) (depth x : ℕ) (t : Tree) → saysOf m depth t ≡ write x → doneTo m depth t ≡ leaf x
 unfolding chunked obey
 done-write m zero x t e = rw e
-done-write m (suc left) x t e = rw e
+done-write m (suc depth) x t e = rw e
 
-pub done-down : (m : Map) (left : ℕ) (t : Tree) → saysOf m (suc left) t ≡ goDown → doneTo m (suc left) t ≡ doneTable m left (opened left t)
+pub done-down : (m : Map) (depth : ℕ) (t : Tree) → saysOf m (suc depth) t ≡ goDown → doneTo m (suc depth) t ≡ doneTable m depth (opened depth t)
 unfolding chunked chunkedTable obey
-done-down m left t e = rw e
+done-down m depth t e = rw e
 
-pub takes-down : (m : Map) (left : ℕ) (t : Tree) → saysOf m (suc left) t ≡ goDown → takes m (suc left) t ≡ splits t + takesTable m left (opened left t)
+pub takes-down : (m : Map) (depth : ℕ) (t : Tree) → saysOf m (suc depth) t ≡ goDown → takes m (suc depth) t ≡ splits t + takesTable m depth (opened depth t)
 unfolding needed neededTable counted
-takes-down m left t e = rw e
+takes-down m depth t e = rw e
 
 -- ---- the chunks
 
 -- a region with its frame in the table below the q-th entry
-pub record Area (left q : ℕ) (m : Map) : Type 0 where
-  pub inside : Inside (first (suc left) q) (span (suc left)) (m .region .start .0) (m .region .end .0) (m .frame .0)
+pub record Area (depth q : ℕ) (m : Map) : Type 0 where
+  pub inside : Inside (first (suc depth) q) (span (suc depth)) (m .region .start .0) (m .region .end .0) (m .frame .0)
   pub room : m .frame .0 + (m .region .end .0 - m .region .start .0) ≤ 2 ^ 48
 
 -- a chunk is the region of the table below its entry
-pub piece-area : {left q : ℕ} {m : Map} → Piece (suc left) q m → Area left q m
+pub piece-area : {depth q : ℕ} {m : Map} → Piece (suc depth) q m → Area depth q m
 piece-area piece = record { inside = piece .inside; room = piece .room }
 
 -- the slot of a chunk
 abbrev pub slotAt : ℕ → MemoryRegion → ℕ
-slotAt left c = slotOf (c .start .0 / 4096) left
+slotAt depth c = slotOf (c .start .0 / 4096) depth
 
 -- the chunk c, with the frame p, in a slot from a on
-pub record Next (left q : ℕ) (m : Map) (a p : ℕ) (c : MemoryRegion) : Type 0 where
-  pub from : a ≤ slotAt left c
-  pub piece : Piece left (child q (slotAt left c)) (chunkMap m c p)
+pub record Next (depth q : ℕ) (m : Map) (a p : ℕ) (c : MemoryRegion) : Type 0 where
+  pub from : a ≤ slotAt depth c
+  pub piece : Piece depth (child q (slotAt depth c)) (chunkMap m c p)
 
 -- one after the other
 abbrev pub Pieces : ℕ → ℕ → Map → ℕ → ℕ → List MemoryRegion → Type 0
-Pieces left q m a p [] = Unit {0}
-Pieces left q m a p (c ∷ cs) = Next left q m a p c × Pieces left q m (suc (slotAt left c)) (p + (c .end .0 - c .start .0)) cs
+Pieces depth q m a p [] = Unit {0}
+Pieces depth q m a p (c ∷ cs) = Next depth q m a p c × Pieces depth q m (suc (slotAt depth c)) (p + (c .end .0 - c .start .0)) cs
 
-module _ (left q : ℕ) (m : Map) (low : left ≤ 3) where
+module _ (depth q : ℕ) (m : Map) (low : depth ≤ 3) where
   -- the entries below slot a end at s, if anything is left
   abbrev Past : ℕ → ℕ → ℕ → Type 0
-  Past a s e = (i : ℕ) → i < a → s < e → first left (child q i) + span left ≤ s / 4096
+  Past a s e = (i : ℕ) → i < a → s < e → first depth (child q i) + span depth ≤ s / 4096
 
-  pieces-from : (n a s e p : ℕ) → met (3 - left) s e ≡ n → Inside (first (suc left) q) (span (suc left)) s e p → p + (e - s) ≤ 2 ^ 48 → Past a s e
-      → Pieces left q m a p (chunks (3 - left) s e)
+  pieces-from : (n a s e p : ℕ) → met (3 - depth) s e ≡ n → Inside (first (suc depth) q) (span (suc depth)) s e p → p + (e - s) ≤ 2 ^ 48 → Past a s e
+      → Pieces depth q m a p (chunks (3 - depth) s e)
   pieces-from zero a s e p n I room past = go (le-or e s)
     where
-      go : (e ≤ s) ⊎ (s < e) → Pieces left q m a p (chunks (3 - left) s e)
-      go (inl h) = subst (Pieces left q m a p) (sym (chunks-none (3 - left) s e h)) tt
-      go (inr h) = absurd (let k = met-step (3 - left) s e h in omega arith)
-  pieces-from (suc n) a s e p k I room past = go (le-or e s) (λ z. pieces-from n (suc (slotOf (s / 4096) left)) z e (p + (z - s)))
+      go : (e ≤ s) ⊎ (s < e) → Pieces depth q m a p (chunks (3 - depth) s e)
+      go (inl h) = subst (Pieces depth q m a p) (sym (chunks-none (3 - depth) s e h)) tt
+      go (inr h) = absurd (let k = met-step (3 - depth) s e h in omega arith)
+  pieces-from (suc n) a s e p k I room past = go (le-or e s) (λ z. pieces-from n (suc (slotOf (s / 4096) depth)) z e (p + (z - s)))
     where
       i : ℕ
-      i = slotOf (s / 4096) left
+      i = slotOf (s / 4096) depth
 
       go : (e ≤ s) ⊎ (s < e)
-          → ((z : ℕ) → met (3 - left) z e ≡ n → Inside (first (suc left) q) (span (suc left)) z e (p + (z - s)) → p + (z - s) + (e - z) ≤ 2 ^ 48 → Past (suc i) z e
-          → Pieces left q m (suc i) (p + (z - s)) (chunks (3 - left) z e))
-          → Pieces left q m a p (chunks (3 - left) s e)
-      go (inl h) ih = subst (Pieces left q m a p) (sym (chunks-none (3 - left) s e h)) tt
+          → ((z : ℕ) → met (3 - depth) z e ≡ n → Inside (first (suc depth) q) (span (suc depth)) z e (p + (z - s)) → p + (z - s) + (e - z) ≤ 2 ^ 48 → Past (suc i) z e
+          → Pieces depth q m (suc i) (p + (z - s)) (chunks (3 - depth) z e))
+          → Pieces depth q m a p (chunks (3 - depth) s e)
+      go (inl h) ih = subst (Pieces depth q m a p) (sym (chunks-none (3 - depth) s e h)) tt
       go (inr h) ih =
-          let z : ℕ = chunkEnd (3 - left) s e in
-          let c = cut left q s e p low h I in
-          let fewer : met (3 - left) (chunkEnd (3 - left) s e) e ≡ n = let j = met-step (3 - left) s e h in omega arith in
-          subst (Pieces left q m a p) (sym (chunks-step (3 - left) s e h)) (
+          let z : ℕ = chunkEnd (3 - depth) s e in
+          let c = cut depth q s e p low h I in
+          let fewer : met (3 - depth) (chunkEnd (3 - depth) s e) e ≡ n = let j = met-step (3 - depth) s e h in omega arith in
+          subst (Pieces depth q m a p) (sym (chunks-step (3 - depth) s e h)) (
             record {
               from = from c (le-or a i);
               piece = record { inside = c .chunk; some = c .more; room = omega (arith, c .within, c .more) };
@@ -115,28 +115,28 @@ module _ (left q : ℕ) (m : Map) (low : left ≤ 3) where
             ih z fewer (c .rest) (omega (arith, c .within, c .more)) (λ j l more. next z c j more (eq-or j i) l),
           )
         where
-          from : {z : ℕ} → Cut left q s e p z i → (a ≤ i) ⊎ (i < a) → a ≤ i
+          from : {z : ℕ} → Cut depth q s e p z i → (a ≤ i) ⊎ (i < a) → a ≤ i
           from c (inl l) = l
           from c (inr l) = absurd (let x = past i l h in omega (arith, c .chunk .high, c .more, c .chunk .startPage, c .chunk .endPage))
 
-          next : (z : ℕ) → Cut left q s e p z i → (j : ℕ) → z < e → (j ≡ i) ⊎ (¬ (j ≡ i)) → j < suc i → first left (child q j) + span left ≤ z / 4096
+          next : (z : ℕ) → Cut depth q s e p z i → (j : ℕ) → z < e → (j ≡ i) ⊎ (¬ (j ≡ i)) → j < suc i → first depth (child q j) + span depth ≤ z / 4096
           next z c j more (inl same) l =
-              let end : first left (child q i) + span left ≤ z / 4096 = omega (arith, c .ends, c .rest .startPage, c .rest .endPage) in
+              let end : first depth (child q i) + span depth ≤ z / 4096 = omega (arith, c .ends, c .rest .startPage, c .rest .endPage) in
               rw same end
-          next z c j more (inr other) l = let o = child-order left q j i (omega arith) in omega (arith, c .chunk .low, c .more)
+          next z c j more (inr other) l = let o = child-order depth q j i (omega arith) in omega (arith, c .chunk .low, c .more)
 
   -- THE CHUNKS OF A TABLE'S REGION
-  pub pieces : (p : ℕ) (c : MemoryRegion) → Area left q (chunkMap m c p) → Pieces left q m 0 p (chunks (3 - left) (c .start .0) (c .end .0))
-  pieces p c area = pieces-from (met (3 - left) (c .start .0) (c .end .0)) 0 (c .start .0) (c .end .0) p refl (area .inside) (area .room) (λ i l. absurd (omega arith))
+  pub pieces : (p : ℕ) (c : MemoryRegion) → Area depth q (chunkMap m c p) → Pieces depth q m 0 p (chunks (3 - depth) (c .start .0) (c .end .0))
+  pieces p c area = pieces-from (met (3 - depth) (c .start .0) (c .end .0)) 0 (c .start .0) (c .end .0) p refl (area .inside) (area .room) (λ i l. absurd (omega arith))
 
   -- what the chunks take depends on the slots from a on
-  pub tallied-from : (each : MemoryRegion → ℕ → Tree → ℕ) (cs : List MemoryRegion) (a p : ℕ) (t u : Tree) → Pieces left q m a p cs
-      → ((j : ℕ) → a ≤ j → slotIn t j ≡ slotIn u j) → tallied left each cs p t ≡ tallied left each cs p u
+  pub tallied-from : (each : MemoryRegion → ℕ → Tree → ℕ) (cs : List MemoryRegion) (a p : ℕ) (t u : Tree) → Pieces depth q m a p cs
+      → ((j : ℕ) → a ≤ j → slotIn t j ≡ slotIn u j) → tallied depth each cs p t ≡ tallied depth each cs p u
   unfolding tallied
   tallied-from each [] a p t u all same = refl
   tallied-from each (c ∷ cs) a p t u all same =
-      let i : ℕ = entryIndex (3 - left) (c .start .0) in
-      let at = index-slot left (c .start .0) low in
+      let i : ℕ = entryIndex (3 - depth) (c .start .0) in
+      let at = index-slot depth (c .start .0) low in
       let here : slotIn t i ≡ slotIn u i = same i (omega (arith, all .0 .from)) in
       ap₂ _+_ (ap (each c p) here)
-      (tallied-from each cs (suc (slotAt left c)) (p + (c .end .0 - c .start .0)) t u (all .1) (λ j l. same j (omega (arith, all .0 .from))))
+      (tallied-from each cs (suc (slotAt depth c)) (p + (c .end .0 - c .start .0)) t u (all .1) (λ j l. same j (omega (arith, all .0 .from))))

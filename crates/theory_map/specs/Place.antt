@@ -30,8 +30,8 @@ module _ (r : MemoryRegion) {b n p : ℕ} (I : Inside b n (r .start .0) (r .end 
   pub page-in : OfRegion (r .start .0 / 4096) (r .end .0 / 4096) (va / 4096) → Holds r va
   page-in of = record { from = omega (arith, of .from, I .startPage); below = omega (arith, of .below, I .endPage) }
 
-pub page-spans : (left q : ℕ) {start end p page : ℕ} → Inside (first (suc left) q) (span (suc left)) start end p → OfRegion (start / 4096) (end / 4096) page → In (suc left) q page
-page-spans left q {page = page} I of = in-of (suc left) q page (omega (arith, I .low, of .from)) (omega (arith, I .high, of .below))
+pub page-spans : (depth q : ℕ) {start end p page : ℕ} → Inside (first (suc depth) q) (span (suc depth)) start end p → OfRegion (start / 4096) (end / 4096) page → In (suc depth) q page
+page-spans depth q {page = page} I of = in-of (suc depth) q page (omega (arith, I .low, of .from)) (omega (arith, I .high, of .below))
 
 -- ---- the call's region
 
@@ -58,13 +58,13 @@ module _ {h : Handle} {c : Call} {s : St} (passed : Passed h c s) (va : ℕ) whe
 
 -- ---- the root's span
 
-root-spans : (range : VaRange) (left va : ℕ) → left ≤ 3 → spanned range (3 - left) va ≡ true → va < 2 ^ 64 → In (suc left) (rootOf range left) (va / 4096)
+root-spans : (range : VaRange) (depth va : ℕ) → depth ≤ 3 → spanned range (3 - depth) va ≡ true → va < 2 ^ 64 → In (suc depth) (rootOf range depth) (va / 4096)
 unfolding rootOf
-root-spans Lower left va low e word = lower-span left va low (ltb-true va (512 * sizeAt (3 - left)) (span-lower Lower (3 - left) va (sizeAt (3 - left)) refl refl ∙ e))
-root-spans Upper left va low e word =
-    let h = size-high (3 - left) in
-    let l = ltb-true (18446744073709551615 - 512 * sizeAt (3 - left)) va (span-upper Upper (3 - left) va (sizeAt (3 - left)) refl refl ∙ e) in
-    upper-span left va low (omega arith) word
+root-spans Lower depth va low e word = lower-span depth va low (ltb-true va (512 * sizeAt (3 - depth)) (span-lower Lower (3 - depth) va (sizeAt (3 - depth)) refl refl ∙ e))
+root-spans Upper depth va low e word =
+    let h = size-high (3 - depth) in
+    let l = ltb-true (18446744073709551615 - 512 * sizeAt (3 - depth)) va (span-upper Upper (3 - depth) va (sizeAt (3 - depth)) refl refl ∙ e) in
+    upper-span depth va low (omega arith) word
 
 pub span-spans : (h : Handle) (va : ℕ) → h .level ≤ 3 → InSpan h va → In (suc (leftOf h)) (rootIn h) (va / 4096)
 span-spans h va low at =

@@ -33,21 +33,21 @@ unfolding eachChunk
 each-is level f m s = through-is (λ c frame t. f (chunkMap m c frame) t) (chunks level (m .region .start .0) (m .region .end .0)) (m .frame .0) s
 
 module _ {h : Handle} (placed : Placed h) where
-  table-works : (left : ℕ) → left ≤ 3 → ChunkWorks placed left → Works placed left
+  table-works : (depth : ℕ) → depth ≤ 3 → ChunkWorks placed depth → Works placed depth
   unfolding chunkedTable neededTable
-  table-works left low works q k m s allowed area R room =
-      subst (λ (s′ : St). Worked placed s s′ left k (doneTable m left (treeFrom h s left k)) (takesTable m left (treeFrom h s left k))) is
-      (loop placed (λ (x : St). x) (λ c p t. stepAt (3 - left) h k (chunkMap m c p) t)
-      (λ c p u. chunked (documentRule (m .flags) (m .blocks)) left c p u) (λ c p u. needed (documentRule (m .flags) (m .blocks)) left c p u) left q k m low
-      (λ c p x piece ready enough. works (child q (slotAt left c)) k (chunkMap m c p) x allowed piece ready enough)
-      (chunks (3 - left) (m .region .start .0) (m .region .end .0)) 0 (m .frame .0) s (pieces left q m low (m .frame .0) (m .region) area) R room)
+  table-works depth low works q k m s allowed area R room =
+      subst (λ (s′ : St). Worked placed s s′ depth k (doneTable m depth (treeFrom h s depth k)) (takesTable m depth (treeFrom h s depth k))) is
+      (loop placed (λ (x : St). x) (λ c p t. stepAt h k (3 - depth) (chunkMap m c p) t)
+      (λ c p u. chunked (documentRule (m .flags) (m .blocks)) depth c p u) (λ c p u. needed (documentRule (m .flags) (m .blocks)) depth c p u) depth q k m low
+      (λ c p x piece ready enough. works (child q (slotAt depth c)) k (chunkMap m c p) x allowed piece ready enough)
+      (chunks (3 - depth) (m .region .start .0) (m .region .end .0)) 0 (m .frame .0) s (pieces depth q m low (m .frame .0) (m .region) area) R room)
     where
-      is : through (λ c frame t. stepAt (3 - left) h k (chunkMap m c frame) t) (chunks (3 - left) (m .region .start .0) (m .region .end .0)) (m .frame .0) s ≡ mapRange left h k m s
+      is : through (λ c frame t. stepAt h k (3 - depth) (chunkMap m c frame) t) (chunks (3 - depth) (m .region .start .0) (m .region .end .0)) (m .frame .0) s ≡ mapRange depth h k m s
       is =
-          let e : 3 - (3 - left) ≡ left = omega arith in
-          each-is (3 - left) (stepAt (3 - left) h k) m s ∙ map-open (3 - left) h k m s (omega arith) ∙ ap (λ (d : ℕ). mapRange d h k m s) e
+          let e : 3 - (3 - depth) ≡ depth = omega arith in
+          each-is (3 - depth) (stepAt h k (3 - depth)) m s ∙ map-open h k (3 - depth) m s (omega arith) ∙ ap (λ (d : ℕ). mapRange d h k m s) e
 
   -- A MAP OF A TABLE
-  pub range-works : (left : ℕ) → left ≤ 3 → Works placed left
+  pub range-works : (depth : ℕ) → depth ≤ 3 → Works placed depth
   range-works zero low = table-works zero low (page-works placed)
-  range-works (suc left) low = table-works (suc left) low (chunk-works placed left (range-works left (omega arith)))
+  range-works (suc depth) low = table-works (suc depth) low (chunk-works placed depth (range-works depth (omega arith)))

@@ -30,91 +30,91 @@ already-is level m w plain = rw (ne-eqb (w % 4) 3 plain)
 
 -- what the document's rule says of an entry that shows t, for the chunk and the frame of m
 abbrev pub saysOf : Map → ℕ → Tree → Says
-saysOf m left t = documentRule (m .flags) (m .blocks) left (m .region) (m .frame .0) t
+saysOf m depth t = documentRule (m .flags) (m .blocks) depth (m .region) (m .frame .0) t
 
-module _ (m : Map) (left : ℕ) where
+module _ (m : Map) (depth : ℕ) where
   abbrev level : ℕ
-  level = 3 - suc left
+  level = 3 - suc depth
 
   -- ---- an entry that is no table
 
   module _ (w : ℕ) (high : level < 3) (plain : w % 4 ≢ 3) where
-    said-same : rule2 level m w ≡ true → saysOf m (suc left) (leaf w) ≡ keep
+    said-same : rule2 level m w ≡ true → saysOf m (suc depth) (leaf w) ≡ keep
     unfolding documentRule
     said-same e = rw (sym (already-is level m w plain) ∙ e)
 
     module _ (other : rule2 level m w ≡ false) where
-      said-part : whole level (m .region) ≡ false → saysOf m (suc left) (leaf w) ≡ goDown
+      said-part : whole level (m .region) ≡ false → saysOf m (suc depth) (leaf w) ≡ goDown
       unfolding documentRule
       said-part e = rw (sym (already-is level m w plain) ∙ other, e)
 
-      said-block : whole level (m .region) ≡ true → blockable level m ≡ true → saysOf m (suc left) (leaf w) ≡ write (leafWord level (m .frame .0) (m .flags))
+      said-block : whole level (m .region) ≡ true → blockable level m ≡ true → saysOf m (suc depth) (leaf w) ≡ write (leafWord level (m .frame .0) (m .flags))
       unfolding documentRule blockable
       said-block e b = rw (sym (already-is level m w plain) ∙ other, e, b)
 
-      said-split : whole level (m .region) ≡ true → blockable level m ≡ false → saysOf m (suc left) (leaf w) ≡ goDown
+      said-split : whole level (m .region) ≡ true → blockable level m ≡ false → saysOf m (suc depth) (leaf w) ≡ goDown
       unfolding documentRule blockable
       said-split e b = rw (sym (already-is level m w plain) ∙ other, e, b)
 
   -- ---- a table
 
   module _ (f : ℕ → Tree) where
-    said-over : whole level (m .region) ≡ false → saysOf m (suc left) (node f) ≡ goDown
+    said-over : whole level (m .region) ≡ false → saysOf m (suc depth) (node f) ≡ goDown
     unfolding documentRule
     said-over e = rw e
 
-    said-drop : whole level (m .region) ≡ true → valid (m .flags) ≡ false → saysOf m (suc left) (node f) ≡ write (m .flags)
+    said-drop : whole level (m .region) ≡ true → valid (m .flags) ≡ false → saysOf m (suc depth) (node f) ≡ write (m .flags)
     unfolding documentRule
     said-drop e v = rw (e, v)
 
-    said-into : whole level (m .region) ≡ true → valid (m .flags) ≡ true → saysOf m (suc left) (node f) ≡ goDown
+    said-into : whole level (m .region) ≡ true → valid (m .flags) ≡ true → saysOf m (suc depth) (node f) ≡ goDown
     unfolding documentRule
     said-into e v = rw (e, v)
 
 -- ---- what both say
 
 -- of an entry that is no table: it is kept, written, or split and gone into
-pub data LeafRule (level : ℕ) (m : Map) (left w : ℕ) : Type 0 where
-  keeps : ruleOf level m w ≡ Keep → saysOf m left (leaf w) ≡ keep → LeafRule level m left w
-  writes : (x : ℕ) → ruleOf level m w ≡ Write x → saysOf m left (leaf w) ≡ write x → LeafRule level m left w
-  splits : ruleOf level m w ≡ Down → saysOf m left (leaf w) ≡ goDown → LeafRule level m left w
+pub data LeafRule (level : ℕ) (m : Map) (depth w : ℕ) : Type 0 where
+  keeps : ruleOf level m w ≡ Keep → saysOf m depth (leaf w) ≡ keep → LeafRule level m depth w
+  writes : (x : ℕ) → ruleOf level m w ≡ Write x → saysOf m depth (leaf w) ≡ write x → LeafRule level m depth w
+  splits : ruleOf level m w ≡ Down → saysOf m depth (leaf w) ≡ goDown → LeafRule level m depth w
 
 -- of a table: it is dropped, or gone into
-pub data TableRule (level : ℕ) (m : Map) (left w : ℕ) (f : ℕ → Tree) : Type 0 where
-  drops : ruleOf level m w ≡ Drop (m .flags) → saysOf m left (node f) ≡ write (m .flags) → TableRule level m left w f
-  enters : ruleOf level m w ≡ Down → saysOf m left (node f) ≡ goDown → TableRule level m left w f
+pub data TableRule (level : ℕ) (m : Map) (depth w : ℕ) (f : ℕ → Tree) : Type 0 where
+  drops : ruleOf level m w ≡ Drop (m .flags) → saysOf m depth (node f) ≡ write (m .flags) → TableRule level m depth w f
+  enters : ruleOf level m w ≡ Down → saysOf m depth (node f) ≡ goDown → TableRule level m depth w f
 
 -- rule 1
 pub page-rule : (m : Map) (w : ℕ) → LeafRule 3 m 0 w
 unfolding documentRule
 page-rule m w = writes (leafWord 3 (m .frame .0) (m .flags)) (sym (rule-page 3 m w (omega arith))) refl
 
-module _ (m : Map) (left w : ℕ) (low : suc left ≤ 3) where
+module _ (m : Map) (depth w : ℕ) (low : suc depth ≤ 3) where
   -- rules 2, 3, 5
-  pub leaf-rule : w % 4 ≢ 3 → LeafRule (3 - suc left) m (suc left) w
+  pub leaf-rule : w % 4 ≢ 3 → LeafRule (3 - suc depth) m (suc depth) w
   leaf-rule plain =
-      let level : ℕ = 3 - suc left in
+      let level : ℕ = 3 - suc depth in
       let high : level < 3 = omega arith in
       byBool (rule2 level m w)
-      (λ same. keeps (sym (rule-keep level m w high same)) (said-same m left w high plain same))
+      (λ same. keeps (sym (rule-keep level m w high same)) (said-same m depth w high plain same))
       (λ other. byBool (whole level (m .region))
       (λ all. byBool (blockable level m)
       (λ b. writes (leafWord level (m .frame .0) (m .flags))
-      (sym (rule-block level m w high other all plain b)) (said-block m left w high plain other all b))
-      (λ b. splits (sym (rule-split level m w high other all plain b)) (said-split m left w high plain other all b)))
-      (λ part. splits (sym (rule-part level m w high other part)) (said-part m left w high plain other part)))
+      (sym (rule-block level m w high other all plain b)) (said-block m depth w high plain other all b))
+      (λ b. splits (sym (rule-split level m w high other all plain b)) (said-split m depth w high plain other all b)))
+      (λ part. splits (sym (rule-part level m w high other part)) (said-part m depth w high plain other part)))
 
   -- rules 4, 5
-  pub table-rule : (f : ℕ → Tree) → w % 4 ≡ 3 → TableRule (3 - suc left) m (suc left) w f
+  pub table-rule : (f : ℕ → Tree) → w % 4 ≡ 3 → TableRule (3 - suc depth) m (suc depth) w f
   table-rule f both =
-      let level : ℕ = 3 - suc left in
+      let level : ℕ = 3 - suc depth in
       let high : level < 3 = omega arith in
       let other : rule2 level m w ≡ false = sym (same-table level m w both) in
       byBool (whole level (m .region))
       (λ all. byBool (valid (m .flags))
-      (λ v. enters (sym (rule-into level m w high other all both (valid-yes (m .flags) v))) (said-into m left f all v))
-      (λ v. drops (sym (rule-drop level m w high other all both (λ e. omega (arith, valid-no (m .flags) v)))) (said-drop m left f all v)))
-      (λ part. enters (sym (rule-part level m w high other part)) (said-over m left f part))
+      (λ v. enters (sym (rule-into level m w high other all both (valid-yes (m .flags) v))) (said-into m depth f all v))
+      (λ v. drops (sym (rule-drop level m w high other all both (λ e. omega (arith, valid-no (m .flags) v)))) (said-drop m depth f all v)))
+      (λ part. enters (sym (rule-part level m w high other part)) (said-over m depth f part))
 
 -- ---- what a split fills
 
@@ -125,29 +125,29 @@ fill-length level w = go (eq-or (w % 2) 1)
     go (inl v) = ap (λ (t : List ℕ). length t) (sym (fill-leaf level w v)) ∙ length-rising 512 _ _
     go (inr n) = ap (λ (t : List ℕ). length t) (sym (fill-hole level w n)) ∙ length-rising 512 _ _
 
-module _ (left w : ℕ) (low : suc left ≤ 3) where
-  pub fill-at : (i : ℕ) → i < 512 → getD (fillOf (3 - suc left) w) i 0 ≡ fillWord left w i
+module _ (depth w : ℕ) (low : suc depth ≤ 3) where
+  pub fill-at : (i : ℕ) → i < 512 → getD (fillOf (3 - suc depth) w) i 0 ≡ fillWord depth w i
   fill-at i inside = go (eq-or (w % 2) 1)
     where
-      up : 3 - suc left + 1 ≡ 3 - left
+      up : 3 - suc depth + 1 ≡ 3 - depth
       up = omega arith
 
-      go : (w % 2 ≡ 1) ⊎ (w % 2 ≢ 1) → getD (fillOf (3 - suc left) w) i 0 ≡ fillWord left w i
+      go : (w % 2 ≡ 1) ⊎ (w % 2 ≢ 1) → getD (fillOf (3 - suc depth) w) i 0 ≡ fillWord depth w i
       go (inl v) =
-          ap (λ (t : List ℕ). getD t i 0) (sym (fill-leaf (3 - suc left) w v))
+          ap (λ (t : List ℕ). getD t i 0) (sym (fill-leaf (3 - suc depth) w v))
           ∙ rising-at 512 _ _ i inside
-          ∙ ap (λ (l : ℕ). leafWord l (down (addressOf w) (sizeAt (3 - suc left))) (flagsOf w) + i * sizeAt l) up
-          ∙ sym (fill-address left w i low ∙ rw (valid-of w v))
+          ∙ ap (λ (l : ℕ). leafWord l (down (addressOf w) (sizeAt (3 - suc depth))) (flagsOf w) + i * sizeAt l) up
+          ∙ sym (fill-address depth w i low ∙ rw (valid-of w v))
       go (inr n) =
-          ap (λ (t : List ℕ). getD t i 0) (sym (fill-hole (3 - suc left) w n))
+          ap (λ (t : List ℕ). getD t i 0) (sym (fill-hole (3 - suc depth) w n))
           ∙ rising-at 512 (flagsOf w) 0 i inside
           ∙ (let e : flagsOf w + i * 0 ≡ flagsOf w = omega arith in e)
-          ∙ sym (fill-address left w i low ∙ rw (valid-none w (omega arith)))
+          ∙ sym (fill-address depth w i low ∙ rw (valid-none w (omega arith)))
 
   -- as a tree
-  pub fill-tree : node (λ i. leaf (getD (fillOf (3 - suc left) w) i 0)) ≡ fillTree left w
-  fill-tree = node-ext (λ i. go i (le-or 512 i)) ∙ sym (fill-node left w)
+  pub fill-tree : node (λ i. leaf (getD (fillOf (3 - suc depth) w) i 0)) ≡ fillTree depth w
+  fill-tree = node-ext (λ i. go i (le-or 512 i)) ∙ sym (fill-node depth w)
     where
-      go : (i : ℕ) → (512 ≤ i) ⊎ (i < 512) → leaf (getD (fillOf (3 - suc left) w) i 0) ≡ fillSlot left w i
-      go i (inl past) = ap leaf (List·getD-eq-default (fillOf (3 - suc left) w) 0 (let n = fill-length (3 - suc left) w in omega arith)) ∙ sym (fill-past left w i past)
-      go i (inr inside) = ap leaf (fill-at i inside) ∙ sym (fill-slot left w i inside)
+      go : (i : ℕ) → (512 ≤ i) ⊎ (i < 512) → leaf (getD (fillOf (3 - suc depth) w) i 0) ≡ fillSlot depth w i
+      go i (inl past) = ap leaf (List·getD-eq-default (fillOf (3 - suc depth) w) 0 (let n = fill-length (3 - suc depth) w in omega arith)) ∙ sym (fill-past depth w i past)
+      go i (inr inside) = ap leaf (fill-at i inside) ∙ sym (fill-slot depth w i inside)

@@ -45,40 +45,40 @@ flags-shown w =
     parts : (a b : ℕ) → (a + b * 2 ^ 48) / 4 * 4 + (a + b * 2 ^ 48) % 2 ≡ a / 4 * 4 + a % 2 + b * 2 ^ 48
     parts a b = omega arith
 
-page-rest : (left va : ℕ) → left ≤ 3 → va % sizeAt (3 - left) / 4096 ≡ va / 4096 % span left
+page-rest : (depth va : ℕ) → depth ≤ 3 → va % sizeAt (3 - depth) / 4096 ≡ va / 4096 % span depth
 unfolding sizeAt span
 page-rest zero va low = omega arith
 page-rest (suc zero) va low = omega arith
 page-rest (suc (suc zero)) va low = omega arith
 page-rest (suc (suc (suc zero))) va low = omega arith
-page-rest (suc (suc (suc (suc left)))) va low = absurd (omega arith)
+page-rest (suc (suc (suc (suc depth)))) va low = absurd (omega arith)
 
-frame-shown : (left w va : ℕ) → left ≤ 3 → Fine left w → frameOf (3 - left) w va ≡ (frameIn w + va / 4096 % span left) * 4096
+frame-shown : (depth w va : ℕ) → depth ≤ 3 → Fine depth w → frameOf (3 - depth) w va ≡ (frameIn w + va / 4096 % span depth) * 4096
 unfolding down
-frame-shown left w va low fine =
+frame-shown depth w va low fine =
     let f = address-frame w in
     let frame : addressOf w / 4096 ≡ frameIn w = omega arith in
-    let rest = entry-rest left (addressOf w) low (omega arith) in
-    let none : addressOf w / 4096 % span left ≡ 0 = ap (λ (x : ℕ). x % span left) frame ∙ fine .aligned in
-    let whole : addressOf w / sizeAt (3 - left) * sizeAt (3 - left) ≡ addressOf w = omega (arith, down-rest (addressOf w) (sizeAt (3 - left))) in
-    let offset = page-rest left va low in
-    let size : ℕ = sizeAt (3 - left) in
-    let e : addressOf w / size * size + va % size / 4096 * 4096 ≡ (frameIn w + va / 4096 % span left) * 4096 = omega arith in
-    frame-is (3 - left) w va ∙ e
+    let rest = entry-rest depth (addressOf w) low (omega arith) in
+    let none : addressOf w / 4096 % span depth ≡ 0 = ap (λ (x : ℕ). x % span depth) frame ∙ fine .aligned in
+    let whole : addressOf w / sizeAt (3 - depth) * sizeAt (3 - depth) ≡ addressOf w = omega (arith, down-rest (addressOf w) (sizeAt (3 - depth))) in
+    let offset = page-rest depth va low in
+    let size : ℕ = sizeAt (3 - depth) in
+    let e : addressOf w / size * size + va % size / 4096 * 4096 ≡ (frameIn w + va / 4096 % span depth) * 4096 = omega arith in
+    frame-is (3 - depth) w va ∙ e
 
-seen-valid : (left w page : ℕ) → Fine left w → valid w ≡ true → seenIn left w page ≡ seenMapped (plainFlags w) (frameIn w + page % span left)
-seen-valid left w page fine v = seen-fine left w page fine ∙ rw v
+seen-valid : (depth w page : ℕ) → Fine depth w → valid w ≡ true → seenIn depth w page ≡ seenMapped (plainFlags w) (frameIn w + page % span depth)
+seen-valid depth w page fine v = seen-fine depth w page fine ∙ rw v
 
-seen-none : (left w page : ℕ) → Fine left w → valid w ≡ false → seenIn left w page ≡ seenHole (plainFlags w)
-seen-none left w page fine v = seen-fine left w page fine ∙ rw v
+seen-none : (depth w page : ℕ) → Fine depth w → valid w ≡ false → seenIn depth w page ≡ seenHole (plainFlags w)
+seen-none depth w page fine v = seen-fine depth w page fine ∙ rw v
 
-says-shown : (left w va : ℕ) → left ≤ 3 → Fine left w → shown (says va (at (3 - left) w)) ≡ inBytes (seenIn left w (va / 4096))
+says-shown : (depth w va : ℕ) → depth ≤ 3 → Fine depth w → shown (says va (at (3 - depth) w)) ≡ inBytes (seenIn depth w (va / 4096))
 unfolding shown inBytes
-says-shown left w va low fine = byBool (valid w)
-    (λ v. some left low fine (valid-yes w v) ∙ sym (ap inBytes (seen-valid left w (va / 4096) fine v)))
+says-shown depth w va low fine = byBool (valid w)
+    (λ v. some depth low fine (valid-yes w v) ∙ sym (ap inBytes (seen-valid depth w (va / 4096) fine v)))
     (λ v. let o = valid-no w v in
-    ap shown (says-hole (3 - left) w va (kind-clear (3 - left) w (λ e. omega arith) (λ e. omega arith)))
-    ∙ ap hole (flags-shown w) ∙ sym (ap inBytes (seen-none left w (va / 4096) fine v)))
+    ap shown (says-hole (3 - depth) w va (kind-clear (3 - depth) w (λ e. omega arith) (λ e. omega arith)))
+    ∙ ap hole (flags-shown w) ∙ sym (ap inBytes (seen-none depth w (va / 4096) fine v)))
   where
     both : (k : ℕ) → k ≤ 3 → Fine k w → mapped (flagsIn w) (frameOf (3 - k) w va) ≡ mapped (plainFlags w) ((frameIn w + va / 4096 % span k) * 4096)
     both k l f = ap₂ mapped (flags-shown w) (frame-shown k w va l f)
@@ -94,9 +94,9 @@ says-shown left w va low fine = byBool (valid w)
 -- ---- the walk
 
 -- it takes the slots of the page
-pub slots-are : (va left : ℕ) → left ≤ 3 → slotsOf va left ≡ slotOf (va / 4096) left
+pub slots-are : (va depth : ℕ) → depth ≤ 3 → slotsOf va depth ≡ slotOf (va / 4096) depth
 unfolding slotsOf slotOf
-slots-are va left low = index-is (3 - left) va ∙ ap (λ (x : ℕ). x % 512) (entry-number left va low)
+slots-are va depth low = index-is (3 - depth) va ∙ ap (λ (x : ℕ). x % 512) (entry-number depth va low)
 
 pub walk-same : (f g : ℕ → ℕ) (n : ℕ) (t : Tree) → ((l : ℕ) → l < n → f l ≡ g l) → walkTree f n t ≡ walkTree g n t
 unfolding walkTree
@@ -106,38 +106,38 @@ walk-same f g (suc n) (node u) same =
     ap (λ (i : ℕ). walkTree f n (u i)) (same n (omega arith)) ∙ walk-same f g n (u (g n)) (λ l h. same l (omega arith))
 
 -- in a fine tree it ends in a fine word
-pub record FineEnds (left : ℕ) (e : Ends) : Type 0 where
-  pub fine : Fine (e .left) (e .word)
-  pub low : e .left ≤ left
+pub record FineEnds (depth : ℕ) (e : Ends) : Type 0 where
+  pub fine : Fine (e .depth) (e .word)
+  pub low : e .depth ≤ depth
 
-ends-fine : (f : ℕ → ℕ) (left : ℕ) (t : Tree) → ((l : ℕ) → f l < 512) → FineTree left t → FineEnds left (walkTree f left t)
+ends-fine : (f : ℕ → ℕ) (depth : ℕ) (t : Tree) → ((l : ℕ) → f l < 512) → FineTree depth t → FineEnds depth (walkTree f depth t)
 unfolding walkTree
-ends-fine f left (leaf w) slots fine = record { fine = fine; low = omega arith }
+ends-fine f depth (leaf w) slots fine = record { fine = fine; low = omega arith }
 ends-fine f zero (node u) slots fine = absurd fine
-ends-fine f (suc left) (node u) slots fine = let e = ends-fine f left (u (f left)) slots (fine (f left) (slots left)) in record { fine = e .fine; low = omega (arith, e .low) }
+ends-fine f (suc depth) (node u) slots fine = let e = ends-fine f depth (u (f depth)) slots (fine (f depth) (slots depth)) in record { fine = e .fine; low = omega (arith, e .low) }
 
 -- .. below the root
-pub table-ends : (f : ℕ → ℕ) (left : ℕ) (t : Tree) → ((l : ℕ) → f l < 512) → FineTable left t → FineEnds left (walkTree f (suc left) t)
+pub table-ends : (f : ℕ → ℕ) (depth : ℕ) (t : Tree) → ((l : ℕ) → f l < 512) → FineTable depth t → FineEnds depth (walkTree f (suc depth) t)
 unfolding walkTree
-table-ends f left (leaf w) slots fine = absurd fine
-table-ends f left (node u) slots fine = ends-fine f left (u (f left)) slots (fine (f left) (slots left))
+table-ends f depth (leaf w) slots fine = absurd fine
+table-ends f depth (node u) slots fine = ends-fine f depth (u (f depth)) slots (fine (f depth) (slots depth))
 
-ends-shown : (va : ℕ) (e : Ends) (left : ℕ) → left ≤ 3 → FineEnds left e → shown (says va (met e)) ≡ inBytes (seenIn (e .left) (e .word) (va / 4096))
+ends-shown : (va : ℕ) (e : Ends) (depth : ℕ) → depth ≤ 3 → FineEnds depth e → shown (says va (met e)) ≡ inBytes (seenIn (e .depth) (e .word) (va / 4096))
 unfolding met
-ends-shown va e left low fine = says-shown (e .left) (e .word) va (omega (arith, fine .low)) (fine .fine)
+ends-shown va e depth low fine = says-shown (e .depth) (e .word) va (omega (arith, fine .low)) (fine .fine)
 
-seen-ends : (left : ℕ) (t : Tree) (page : ℕ) → let e = walkTree (slotOf page) left t in seenIn (e .left) (e .word) page ≡ seen left t page
+seen-ends : (depth : ℕ) (t : Tree) (page : ℕ) → let e = walkTree (slotOf page) depth t in seenIn (e .depth) (e .word) page ≡ seen depth t page
 unfolding walkIn
-seen-ends left t page = refl
+seen-ends depth t page = refl
 
 module _ {h : Handle} {s : St} (shape : Shaped h s) (P : SoundPool h s) (va : ℕ) where
   -- WHAT THE WALK SHOWS
   pub walk-shown : shown (walkOf h s va) ≡ inBytes (seen (suc (3 - h .level)) (rootTree h s) (va / 4096))
   walk-shown =
-      let left : ℕ = 3 - h .level in
-      let e : Ends = walkTree (slotOf (va / 4096)) (suc left) (rootTree h s) in
-      let same : walkTree (slotsOf va) (suc left) (rootTree h s) ≡ e =
-      walk-same (slotsOf va) (slotOf (va / 4096)) (suc left) (rootTree h s) (λ l h. slots-are va l (omega arith)) in
-      let ends = table-ends (slotOf (va / 4096)) left (rootTree h s) (slot-lt (va / 4096)) (root-fine (shaped-placed shape) P) in
-      ap shown (walk-of-tree shape P va) ∙ ap (λ (x : Ends). shown (says va (met x))) same ∙ ends-shown va e left (omega arith) ends
-      ∙ ap inBytes (seen-ends (suc left) (rootTree h s) (va / 4096))
+      let depth : ℕ = 3 - h .level in
+      let e : Ends = walkTree (slotOf (va / 4096)) (suc depth) (rootTree h s) in
+      let same : walkTree (slotsOf va) (suc depth) (rootTree h s) ≡ e =
+      walk-same (slotsOf va) (slotOf (va / 4096)) (suc depth) (rootTree h s) (λ l h. slots-are va l (omega arith)) in
+      let ends = table-ends (slotOf (va / 4096)) depth (rootTree h s) (slot-lt (va / 4096)) (root-fine (shaped-placed shape) P) in
+      ap shown (walk-of-tree shape P va) ∙ ap (λ (x : Ends). shown (says va (met x))) same ∙ ends-shown va e depth (omega arith) ends
+      ∙ ap inBytes (seen-ends (suc depth) (rootTree h s) (va / 4096))

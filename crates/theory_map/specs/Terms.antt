@@ -100,8 +100,8 @@ abbrev pub leftOf : Handle → ℕ
 leftOf h = 3 - h .level
 
 unfoldable pub rootOf : VaRange → ℕ → ℕ
-rootOf Lower left = lowerRoot
-rootOf Upper left = upperRoot left
+rootOf Lower depth = lowerRoot
+rootOf Upper depth = upperRoot depth
 
 abbrev pub rootIn : Handle → ℕ
 rootIn h = rootOf (h .range) (leftOf h)

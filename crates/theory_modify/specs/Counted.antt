@@ -56,37 +56,37 @@ use Rattle.theory_modify.specs.Gathered.{gathered-both, gathered-none}
 -- ---- a split of a hole lists nothing
 
 module _ (set clear : ℕ) where
-  fill-hole : (left w i : ℕ) → suc left ≤ 3 → valid w ≡ false → valid (fillWord left w i) ≡ false
-  fill-hole left w i low v = ap valid (fill-address left w i low ∙ rw v) ∙ flags-valid w ∙ v
+  fill-hole : (depth w i : ℕ) → suc depth ≤ 3 → valid w ≡ false → valid (fillWord depth w i) ≡ false
+  fill-hole depth w i low v = ap valid (fill-address depth w i low ∙ rw v) ∙ flags-valid w ∙ v
 
   page-number : (c : MemoryRegion) (w : ℕ) → ownNumbers set clear 0 c (leaf w) ≡ changedNumber set clear c w
   page-number c w = sym (leaf-page set clear c (leaf w)) ∙ leaf-number set clear c w
 
-  pub hole-none : (left : ℕ) (c : MemoryRegion) (w : ℕ) → suc left ≤ 3 → valid w ≡ false → tableNumbers set clear left c (fillTree left w) ≡ []
+  pub hole-none : (depth : ℕ) (c : MemoryRegion) (w : ℕ) → suc depth ≤ 3 → valid w ≡ false → tableNumbers set clear depth c (fillTree depth w) ≡ []
   unfolding tableNumbers
   hole-none zero c w low v =
       gathered-none 0 (ownNumbers set clear 0) (chunks 3 (c .start .0) (c .end .0)) (fillTree 0 w) (λ d.
       let i : ℕ = entryIndex 3 (d .start .0) in
       ap (ownNumbers set clear 0 d) (slot-fill 0 w i (slot-below 3 (d .start .0))) ∙ page-number d (fillWord 0 w i)
       ∙ number-hole set clear d (fillWord 0 w i) (fill-hole 0 w i low v))
-  hole-none (suc left) c w low v =
-      let cs : List MemoryRegion = chunks (3 - suc left) (c .start .0) (c .end .0) in
+  hole-none (suc depth) c w low v =
+      let cs : List MemoryRegion = chunks (3 - suc depth) (c .start .0) (c .end .0) in
       ap₂ (λ (a b : List ℕ). a ++ b)
-      (gathered-none (suc left) (lowerNumbers set clear (λ d u. tableNumbers set clear left d u) left) cs (fillTree (suc left) w) (λ d.
-      let i : ℕ = entryIndex (3 - suc left) (d .start .0) in
-      let x : ℕ = fillWord (suc left) w i in
-      ap (lowerNumbers set clear (λ b u. tableNumbers set clear left b u) left d) (slot-fill (suc left) w i (slot-below (3 - suc left) (d .start .0)))
-      ∙ byBool (whole (3 - suc left) d)
-      (λ e. lower-whole set clear (λ b u. tableNumbers set clear left b u) left d x e)
-      (λ e. lower-part set clear (λ b u. tableNumbers set clear left b u) left d x e ∙ ap (tableNumbers set clear left d) (opens-leaf left x)
-      ∙ hole-none left d x (omega arith) (fill-hole (suc left) w i low v))))
-      (gathered-none (suc left) (ownNumbers set clear (suc left)) cs (fillTree (suc left) w) (λ d.
-      let i : ℕ = entryIndex (3 - suc left) (d .start .0) in
-      let x : ℕ = fillWord (suc left) w i in
-      ap (ownNumbers set clear (suc left) d) (slot-fill (suc left) w i (slot-below (3 - suc left) (d .start .0)))
-      ∙ byBool (whole (3 - suc left) d)
-      (λ e. own-whole set clear left d x e ∙ number-hole set clear d x (fill-hole (suc left) w i low v))
-      (λ e. own-part set clear left d x e)))
+      (gathered-none (suc depth) (lowerNumbers set clear (λ d u. tableNumbers set clear depth d u) depth) cs (fillTree (suc depth) w) (λ d.
+      let i : ℕ = entryIndex (3 - suc depth) (d .start .0) in
+      let x : ℕ = fillWord (suc depth) w i in
+      ap (lowerNumbers set clear (λ b u. tableNumbers set clear depth b u) depth d) (slot-fill (suc depth) w i (slot-below (3 - suc depth) (d .start .0)))
+      ∙ byBool (whole (3 - suc depth) d)
+      (λ e. lower-whole set clear (λ b u. tableNumbers set clear depth b u) depth d x e)
+      (λ e. lower-part set clear (λ b u. tableNumbers set clear depth b u) depth d x e ∙ ap (tableNumbers set clear depth d) (opens-leaf depth x)
+      ∙ hole-none depth d x (omega arith) (fill-hole (suc depth) w i low v))))
+      (gathered-none (suc depth) (ownNumbers set clear (suc depth)) cs (fillTree (suc depth) w) (λ d.
+      let i : ℕ = entryIndex (3 - suc depth) (d .start .0) in
+      let x : ℕ = fillWord (suc depth) w i in
+      ap (ownNumbers set clear (suc depth) d) (slot-fill (suc depth) w i (slot-below (3 - suc depth) (d .start .0)))
+      ∙ byBool (whole (3 - suc depth) d)
+      (λ e. own-whole set clear depth d x e ∙ number-hole set clear d x (fill-hole (suc depth) w i low v))
+      (λ e. own-part set clear depth d x e)))
 
 -- ---- what a survey adds, where the house rule is kept
 
@@ -98,25 +98,25 @@ breach-broken : (w : ℕ) (v : Survey) → breach w v .broken ≡ true
 unfolding breach
 breach-broken w v = byBool (v .broken) (λ e. rw e) (λ e. rw e)
 
-module _ (left q : ℕ) (m : Map) (f : MemoryRegion → Survey → Survey) (numbers : MemoryRegion → Tree → List ℕ) (t : Tree) where
+module _ (depth q : ℕ) (m : Map) (f : MemoryRegion → Survey → Survey) (numbers : MemoryRegion → Tree → List ℕ) (t : Tree) where
   abbrev EachAdds : Type 0
-  EachAdds = (c : MemoryRegion) (p : ℕ) (v : Survey) → Piece left (child q (slotAt left c)) (chunkMap m c p) → f c v .broken ≡ false
-      → Adds v (f c v) (length (numbers c (slotIn t (entryIndex (3 - left) (c .start .0)))))
+  EachAdds = (c : MemoryRegion) (p : ℕ) (v : Survey) → Piece depth (child q (slotAt depth c)) (chunkMap m c p) → f c v .broken ≡ false
+      → Adds v (f c v) (length (numbers c (slotIn t (entryIndex (3 - depth) (c .start .0)))))
 
-  fold-adds : EachAdds → (cs : List MemoryRegion) (a p : ℕ) (v : Survey) → Pieces left q m a p cs → eachOf f cs v .broken ≡ false
-      → Adds v (eachOf f cs v) (length (gathered left numbers cs t))
+  fold-adds : EachAdds → (cs : List MemoryRegion) (a p : ℕ) (v : Survey) → Pieces depth q m a p cs → eachOf f cs v .broken ≡ false
+      → Adds v (eachOf f cs v) (length (gathered depth numbers cs t))
   unfolding eachOf gathered
   fold-adds each [] a p v all ok = record { kept = ok; numbers = omega arith }
   fold-adds each (c ∷ cs) a p v all ok =
-      let rest = fold-adds each cs (suc (slotAt left c)) (p + (c .end .0 - c .start .0)) (f c v) (all .1) ok in
+      let rest = fold-adds each cs (suc (slotAt depth c)) (p + (c .end .0 - c .start .0)) (f c v) (all .1) ok in
       let here = each c p v (all .0 .piece) (rest .kept) in
-      let u : Tree = slotIn t (entryIndex (3 - left) (c .start .0)) in
-      record { kept = here .kept; numbers = omega (arith, rest .numbers, here .numbers, length-append (numbers c u) (gathered left numbers cs t)) }
+      let u : Tree = slotIn t (entryIndex (3 - depth) (c .start .0)) in
+      record { kept = here .kept; numbers = omega (arith, rest .numbers, here .numbers, length-append (numbers c u) (gathered depth numbers cs t)) }
 
-  chunks-add : EachAdds → (r : MemoryRegion) (p : ℕ) (v : Survey) → Pieces left q m 0 p (chunks (3 - left) (r .start .0) (r .end .0)) → eachChunk (3 - left) f r v .broken ≡ false
-      → Adds v (eachChunk (3 - left) f r v) (length (gathered left numbers (chunks (3 - left) (r .start .0) (r .end .0)) t))
+  chunks-add : EachAdds → (r : MemoryRegion) (p : ℕ) (v : Survey) → Pieces depth q m 0 p (chunks (3 - depth) (r .start .0) (r .end .0)) → eachChunk (3 - depth) f r v .broken ≡ false
+      → Adds v (eachChunk (3 - depth) f r v) (length (gathered depth numbers (chunks (3 - depth) (r .start .0) (r .end .0)) t))
   unfolding eachChunk
-  chunks-add each r p v all ok = fold-adds each (chunks (3 - left) (r .start .0) (r .end .0)) 0 p v all ok
+  chunks-add each r p v all ok = fold-adds each (chunks (3 - depth) (r .start .0) (r .end .0)) 0 p v all ok
 
 -- ---- a whole entry
 
@@ -162,31 +162,31 @@ module _ (level : ℕ) (c : MemoryRegion) (w : ℕ) (v : Survey) where
   part-adds ok = kinds (kindOf level w) ok
 
 -- a valid entry that may be covered in part is a block
-pub valid-block : (left w : ℕ) → suc left ≤ 3 → Fine (suc left) w → valid w ≡ true → kindOf (3 - suc left) w ≡ Block
+pub valid-block : (depth w : ℕ) → suc depth ≤ 3 → Fine (suc depth) w → valid w ≡ true → kindOf (3 - suc depth) w ≡ Block
 valid-block zero w low fine v = let o = valid-yes w v in let b = fine .clear (omega arith) in kind-block 2 w (inr refl) (omega arith)
 valid-block (suc zero) w low fine v = let o = valid-yes w v in let b = fine .clear (omega arith) in kind-block 1 w (inl refl) (omega arith)
-valid-block (suc (suc left)) w low fine v = absurd (omega (arith, valid-yes w v, fine .top (omega arith) .0))
+valid-block (suc (suc depth)) w low fine v = absurd (omega (arith, valid-yes w v, fine .top (omega arith) .0))
 
 -- ---- an entry that is no table
 
 module _ (h : Handle) (e : Edit) (c : MemoryRegion) (w : ℕ) (v : Survey) where
   -- its number, if its word changes
-  changed-adds : (left : ℕ) → left ≤ 3 → Fine left w → surveyWhole h (3 - left) (chunkEdit e c) w v .broken ≡ false
-      → Adds v (surveyWhole h (3 - left) (chunkEdit e c) w v) (length (changedNumber (e .set) (e .clear) c w))
-  changed-adds left low fine ok = byBool (valid w) (λ y. go y (valid-edited (chunkEdit e c) w left low fine y) (eq-or (editWord (3 - left) (chunkEdit e c) w) w))
-      (λ n. none (number-hole (e .set) (e .clear) c w n) (hole-stays (chunkEdit e c) w (3 - left) n))
+  changed-adds : (depth : ℕ) → depth ≤ 3 → Fine depth w → surveyWhole h (3 - depth) (chunkEdit e c) w v .broken ≡ false
+      → Adds v (surveyWhole h (3 - depth) (chunkEdit e c) w v) (length (changedNumber (e .set) (e .clear) c w))
+  changed-adds depth low fine ok = byBool (valid w) (λ y. go y (valid-edited (chunkEdit e c) w depth low fine y) (eq-or (editWord (3 - depth) (chunkEdit e c) w) w))
+      (λ n. none (number-hole (e .set) (e .clear) c w n) (hole-stays (chunkEdit e c) w (3 - depth) n))
     where
-      none : changedNumber (e .set) (e .clear) c w ≡ [] → editWord (3 - left) (chunkEdit e c) w ≡ w
-          → Adds v (surveyWhole h (3 - left) (chunkEdit e c) w v) (length (changedNumber (e .set) (e .clear) c w))
-      none z same = subst (λ (xs : List ℕ). Adds v (surveyWhole h (3 - left) (chunkEdit e c) w v) (length xs)) (sym z) (whole-kept h (3 - left) (chunkEdit e c) w v same ok)
+      none : changedNumber (e .set) (e .clear) c w ≡ [] → editWord (3 - depth) (chunkEdit e c) w ≡ w
+          → Adds v (surveyWhole h (3 - depth) (chunkEdit e c) w v) (length (changedNumber (e .set) (e .clear) c w))
+      none z same = subst (λ (xs : List ℕ). Adds v (surveyWhole h (3 - depth) (chunkEdit e c) w v) (length xs)) (sym z) (whole-kept h (3 - depth) (chunkEdit e c) w v same ok)
 
-      go : valid w ≡ true → editWord (3 - left) (chunkEdit e c) w ≡ edited (e .set) (e .clear) w
-          → (editWord (3 - left) (chunkEdit e c) w ≡ w) ⊎ (editWord (3 - left) (chunkEdit e c) w ≢ w)
-          → Adds v (surveyWhole h (3 - left) (chunkEdit e c) w v) (length (changedNumber (e .set) (e .clear) c w))
+      go : valid w ≡ true → editWord (3 - depth) (chunkEdit e c) w ≡ edited (e .set) (e .clear) w
+          → (editWord (3 - depth) (chunkEdit e c) w ≡ w) ⊎ (editWord (3 - depth) (chunkEdit e c) w ≢ w)
+          → Adds v (surveyWhole h (3 - depth) (chunkEdit e c) w v) (length (changedNumber (e .set) (e .clear) c w))
       go y is (inl same) = none (number-same (e .set) (e .clear) c w y (sym is ∙ same)) same
       go y is (inr other) =
-          subst (λ (xs : List ℕ). Adds v (surveyWhole h (3 - left) (chunkEdit e c) w v) (length xs)) (sym (number-changed (e .set) (e .clear) c w y (λ q. other (is ∙ q))))
-          (whole-one h (3 - left) (chunkEdit e c) w v other ok)
+          subst (λ (xs : List ℕ). Adds v (surveyWhole h (3 - depth) (chunkEdit e c) w v) (length xs)) (sym (number-changed (e .set) (e .clear) c w y (λ q. other (is ∙ q))))
+          (whole-one h (3 - depth) (chunkEdit e c) w v other ok)
 
   page-adds : Fine 0 w → whole 3 c ≡ true → surveyEntry h 3 (chunkEdit e c) w v .broken ≡ false
       → Adds v (surveyEntry h 3 (chunkEdit e c) w v) (length (ownNumbers (e .set) (e .clear) 0 c (leaf w)))
@@ -196,37 +196,37 @@ module _ (h : Handle) (e : Edit) (c : MemoryRegion) (w : ℕ) (v : Survey) where
       (subst (λ (x : Survey). Adds v x (length (changedNumber (e .set) (e .clear) c w))) is
       (changed-adds 0 (omega arith) fine (ap (λ (x : Survey). x .broken) is ∙ ok)))
 
-  module _ (left : ℕ) (low : suc left ≤ 3) (fine : Fine (suc left) w) where
+  module _ (depth : ℕ) (low : suc depth ≤ 3) (fine : Fine (suc depth) w) where
     abbrev rec : MemoryRegion → Tree → List ℕ
-    rec d u = tableNumbers (e .set) (e .clear) left d u
+    rec d u = tableNumbers (e .set) (e .clear) depth d u
 
     abbrev entryNumbers : Tree → List ℕ
-    entryNumbers u = lowerNumbers (e .set) (e .clear) rec left c u ++ ownNumbers (e .set) (e .clear) (suc left) c u
+    entryNumbers u = lowerNumbers (e .set) (e .clear) rec depth c u ++ ownNumbers (e .set) (e .clear) (suc depth) c u
 
-    leaf-adds : surveyEntry h (3 - suc left) (chunkEdit e c) w v .broken ≡ false → Adds v (surveyEntry h (3 - suc left) (chunkEdit e c) w v) (length (entryNumbers (leaf w)))
-    leaf-adds ok = byBool (whole (3 - suc left) c) all part
+    leaf-adds : surveyEntry h (3 - suc depth) (chunkEdit e c) w v .broken ≡ false → Adds v (surveyEntry h (3 - suc depth) (chunkEdit e c) w v) (length (entryNumbers (leaf w)))
+    leaf-adds ok = byBool (whole (3 - suc depth) c) all part
       where
         level : ℕ
-        level = 3 - suc left
+        level = 3 - suc depth
 
-        all : whole (3 - suc left) c ≡ true → Adds v (surveyEntry h (3 - suc left) (chunkEdit e c) w v) (length (entryNumbers (leaf w)))
+        all : whole (3 - suc depth) c ≡ true → Adds v (surveyEntry h (3 - suc depth) (chunkEdit e c) w v) (length (entryNumbers (leaf w)))
         all a =
             let is = entry-whole h level (chunkEdit e c) w v a in
             subst (λ (xs : List ℕ). Adds v (surveyEntry h level (chunkEdit e c) w v) (length xs))
-            (sym (ap₂ (λ (x y : List ℕ). x ++ y) (lower-whole (e .set) (e .clear) rec left c w a) (own-whole (e .set) (e .clear) left c w a)))
+            (sym (ap₂ (λ (x y : List ℕ). x ++ y) (lower-whole (e .set) (e .clear) rec depth c w a) (own-whole (e .set) (e .clear) depth c w a)))
             (subst (λ (x : Survey). Adds v x (length (changedNumber (e .set) (e .clear) c w))) is
-            (changed-adds (suc left) low fine (ap (λ (x : Survey). x .broken) is ∙ ok)))
+            (changed-adds (suc depth) low fine (ap (λ (x : Survey). x .broken) is ∙ ok)))
 
-        part : whole (3 - suc left) c ≡ false → Adds v (surveyEntry h (3 - suc left) (chunkEdit e c) w v) (length (entryNumbers (leaf w)))
+        part : whole (3 - suc depth) c ≡ false → Adds v (surveyEntry h (3 - suc depth) (chunkEdit e c) w v) (length (entryNumbers (leaf w)))
         part a =
             let is = entry-part h level (chunkEdit e c) w v a in
             let kept : surveyPart level c w v .broken ≡ false = ap (λ (x : Survey). x .broken) is ∙ ok in
-            let hole : valid w ≡ false = byBool {A = valid w ≡ false} (valid w) (λ y. absurd (true≢false (sym (part-block level c w v (valid-block left w low fine y)) ∙ kept)))
+            let hole : valid w ≡ false = byBool {A = valid w ≡ false} (valid w) (λ y. absurd (true≢false (sym (part-block level c w v (valid-block depth w low fine y)) ∙ kept)))
             (λ n. n) in
             subst (λ (xs : List ℕ). Adds v (surveyEntry h level (chunkEdit e c) w v) (length xs))
             (sym (ap₂ (λ (x y : List ℕ). x ++ y)
-            (lower-part (e .set) (e .clear) rec left c w a ∙ ap (rec c) (opens-leaf left w) ∙ hole-none (e .set) (e .clear) left c w low hole)
-            (own-part (e .set) (e .clear) left c w a)))
+            (lower-part (e .set) (e .clear) rec depth c w a ∙ ap (rec c) (opens-leaf depth w) ∙ hole-none (e .set) (e .clear) depth c w low hole)
+            (own-part (e .set) (e .clear) depth c w a)))
             (subst (λ (x : Survey). Adds v x 0) is (part-adds level c w v kept))
 
 -- ---- a table of a sound pool
@@ -242,79 +242,79 @@ page-whole q m piece =
 
 module _ {h : Handle} (placed : Placed h) where
   abbrev Counts : ℕ → Type 0
-  Counts left = (q k p : ℕ) (e : Edit) (s : St) (v : Survey) → Area left q (areaOf e p) → Ready placed s left k → surveyRange left h s k e v .broken ≡ false
-      → Adds v (surveyRange left h s k e v) (length (tableNumbers (e .set) (e .clear) left (e .region) (treeFrom h s left k)))
+  Counts depth = (q k p : ℕ) (e : Edit) (s : St) (v : Survey) → Area depth q (areaOf e p) → Ready placed s depth k → surveyRange depth h s k e v .broken ≡ false
+      → Adds v (surveyRange depth h s k e v) (length (tableNumbers (e .set) (e .clear) depth (e .region) (treeFrom h s depth k)))
 
-  chunk-adds : (left q k : ℕ) (e : Edit) (s : St) → Ready placed s (suc left) k → Counts left → (c : MemoryRegion) (p : ℕ) (v : Survey)
-      → Piece (suc left) q (areaOf (chunkEdit e c) p)
-      → let i = entryIndex (3 - suc left) (c .start .0) in let x = surveyChunk (λ j n y. surveyRange left h s j n y) h s (3 - suc left) k e c v in
+  chunk-adds : (depth q k : ℕ) (e : Edit) (s : St) → Ready placed s (suc depth) k → Counts depth → (c : MemoryRegion) (p : ℕ) (v : Survey)
+      → Piece (suc depth) q (areaOf (chunkEdit e c) p)
+      → let i = entryIndex (3 - suc depth) (c .start .0) in let x = surveyChunk (λ j n y. surveyRange depth h s j n y) h s k (3 - suc depth) e c v in
       x .broken ≡ false
-      → Adds v x (length (lowerNumbers (e .set) (e .clear) (λ d u. tableNumbers (e .set) (e .clear) left d u) left c (slotShows h s (suc left) k i)
-      ++ ownNumbers (e .set) (e .clear) (suc left) c (slotShows h s (suc left) k i)))
-  chunk-adds left q k e s R counts c p v piece ok = go (holds placed R i inside)
+      → Adds v x (length (lowerNumbers (e .set) (e .clear) (λ d u. tableNumbers (e .set) (e .clear) depth d u) depth c (slotShows h s (suc depth) k i)
+      ++ ownNumbers (e .set) (e .clear) (suc depth) c (slotShows h s (suc depth) k i)))
+  chunk-adds depth q k e s R counts c p v piece ok = go (holds placed R i inside)
     where
       i : ℕ
-      i = entryIndex (3 - suc left) (c .start .0)
+      i = entryIndex (3 - suc depth) (c .start .0)
 
       inside : i < 512
-      inside = slot-below (3 - suc left) (c .start .0)
+      inside = slot-below (3 - suc depth) (c .start .0)
 
       rec : MemoryRegion → Tree → List ℕ
-      rec d u = tableNumbers (e .set) (e .clear) left d u
+      rec d u = tableNumbers (e .set) (e .clear) depth d u
 
       x : Survey
-      x = surveyChunk (λ j n y. surveyRange left h s j n y) h s (3 - suc left) k e c v
+      x = surveyChunk (λ j n y. surveyRange depth h s j n y) h s k (3 - suc depth) e c v
 
       numbers : Tree → List ℕ
-      numbers u = lowerNumbers (e .set) (e .clear) rec left c u ++ ownNumbers (e .set) (e .clear) (suc left) c u
+      numbers u = lowerNumbers (e .set) (e .clear) rec depth c u ++ ownNumbers (e .set) (e .clear) (suc depth) c u
 
-      go : Holds placed s left k i → Adds v x (length (numbers (slotShows h s (suc left) k i)))
+      go : Holds placed s depth k i → Adds v x (length (numbers (slotShows h s (suc depth) k i)))
       go (holds-table j r both leads shows) =
-          let is = chunk-table (λ a n y. surveyRange left h s a n y) h s (3 - suc left) k e c v j leads in
+          let is = chunk-table (λ a n y. surveyRange depth h s a n y) h s k (3 - suc depth) e c v j leads in
           let adds = counts q j p (chunkEdit e c) s v (record { inside = piece .inside; room = piece .room }) (entered-ready placed R i inside r)
           (sym (ap (λ (y : Survey). y .broken) is) ∙ ok) in
-          let tree = treeAt-node (childOf (h .base .0)) left (slotWord s) j in
-          let same : numbers (slotShows h s (suc left) k i) ≡ rec c (treeFrom h s left j) =
-          ap numbers shows ∙ ap₂ (λ (a b : List ℕ). a ++ b) (lower-into (e .set) (e .clear) rec left c _ ∙ ap (rec c) (opens-node left _))
-          (own-none (e .set) (e .clear) (suc left) c _) ∙ append-nil (rec c _) ∙ ap (rec c) (sym tree) in
+          let tree = treeAt-node (childOf (h .base .0)) depth (slotWord s) j in
+          let same : numbers (slotShows h s (suc depth) k i) ≡ rec c (treeFrom h s depth j) =
+          ap numbers shows ∙ ap₂ (λ (a b : List ℕ). a ++ b) (lower-into (e .set) (e .clear) rec depth c _ ∙ ap (rec c) (opens-node depth _))
+          (own-none (e .set) (e .clear) (suc depth) c _) ∙ append-nil (rec c _) ∙ ap (rec c) (sym tree) in
           subst (λ (xs : List ℕ). Adds v x (length xs)) (sym same)
-          (subst (λ (y : Survey). Adds v y (length (rec c (treeFrom h s left j)))) (sym is) adds)
+          (subst (λ (y : Survey). Adds v y (length (rec c (treeFrom h s depth j)))) (sym is) adds)
       go (holds-leaf old other shows) =
-          let is = chunk-leaf (λ a n y. surveyRange left h s a n y) h s (3 - suc left) k e c v (sym (sub-leaf (h .base .0) (tables s) (3 - suc left) _ (λ q. other (q .1)))) in
-          let fine = subst (FineTree (suc left)) shows (slot-fine placed (R .pool) (suc left) k i (R .used) (R .low) inside) in
+          let is = chunk-leaf (λ a n y. surveyRange depth h s a n y) h s k (3 - suc depth) e c v (sym (sub-leaf (h .base .0) (tables s) (3 - suc depth) _ (λ q. other (q .1)))) in
+          let fine = subst (FineTree (suc depth)) shows (slot-fine placed (R .pool) (suc depth) k i (R .used) (R .low) inside) in
           subst (λ (u : Tree). Adds v x (length (numbers u))) (sym shows)
           (subst (λ (y : Survey). Adds v y (length (numbers (leaf (wordAt s k i))))) (sym is)
-          (leaf-adds h e c (wordAt s k i) v left (omega (arith, R .low)) fine (sym (ap (λ (y : Survey). y .broken) is) ∙ ok)))
+          (leaf-adds h e c (wordAt s k i) v depth (omega (arith, R .low)) fine (sym (ap (λ (y : Survey). y .broken) is) ∙ ok)))
 
   -- THE NUMBERS
-  pub survey-numbers : (left : ℕ) → left ≤ 3 → Counts left
+  pub survey-numbers : (depth : ℕ) → depth ≤ 3 → Counts depth
   unfolding surveyRange tableNumbers
   survey-numbers zero low q k p e s v area R ok =
-      chunks-add 0 q (areaOf e p) (surveyChunk (λ j n x. x) h s 3 k e) (ownNumbers (e .set) (e .clear) 0) (treeFrom h s 0 k)
+      chunks-add 0 q (areaOf e p) (surveyChunk (λ j n x. x) h s k 3 e) (ownNumbers (e .set) (e .clear) 0) (treeFrom h s 0 k)
       (λ c y x piece kept. page c y x piece kept) (e .region) p v (pieces 0 q (areaOf e p) low p (e .region) area) ok
     where
-      page : (c : MemoryRegion) (y : ℕ) (x : Survey) → Piece 0 (child q (slotAt 0 c)) (chunkMap (areaOf e p) c y) → surveyChunk (λ j n z. z) h s 3 k e c x .broken ≡ false
-          → Adds x (surveyChunk (λ j n z. z) h s 3 k e c x) (length (ownNumbers (e .set) (e .clear) 0 c (slotIn (treeFrom h s 0 k) (entryIndex 3 (c .start .0)))))
+      page : (c : MemoryRegion) (y : ℕ) (x : Survey) → Piece 0 (child q (slotAt 0 c)) (chunkMap (areaOf e p) c y) → surveyChunk (λ j n z. z) h s k 3 e c x .broken ≡ false
+          → Adds x (surveyChunk (λ j n z. z) h s k 3 e c x) (length (ownNumbers (e .set) (e .clear) 0 c (slotIn (treeFrom h s 0 k) (entryIndex 3 (c .start .0)))))
       page c y x piece kept =
           let i : ℕ = entryIndex 3 (c .start .0) in
           let inside = slot-below 3 (c .start .0) in
-          let is = chunk-leaf (λ j n z. z) h s 3 k e c x (sym (sub-leaf (h .base .0) (tables s) 3 _ (λ q. omega (arith, q .0)))) in
+          let is = chunk-leaf (λ j n z. z) h s k 3 e c x (sym (sub-leaf (h .base .0) (tables s) 3 _ (λ q. omega (arith, q .0)))) in
           let shows = slot-leaf (codecOf h placed) (view s) 0 k i (R .low) (word-in s k i inside) (λ table. omega (arith, R .low, table .0)) in
           let fine = subst (FineTree 0) shows (slot-fine placed (R .pool) 0 k i (R .used) (R .low) inside) in
-          subst (λ (u : Tree). Adds x (surveyChunk (λ j n z. z) h s 3 k e c x) (length (ownNumbers (e .set) (e .clear) 0 c u))) (sym (slot-of h s 0 k i ∙ shows))
+          subst (λ (u : Tree). Adds x (surveyChunk (λ j n z. z) h s k 3 e c x) (length (ownNumbers (e .set) (e .clear) 0 c u))) (sym (slot-of h s 0 k i ∙ shows))
           (subst (λ (z : Survey). Adds x z (length (ownNumbers (e .set) (e .clear) 0 c (leaf (wordAt s k i))))) (sym is)
           (page-adds h e c (wordAt s k i) x fine (page-whole (child q (slotAt 0 c)) (chunkMap (areaOf e p) c y) piece) (sym (ap (λ (z : Survey). z .broken) is) ∙ kept)))
-  survey-numbers (suc left) low q k p e s v area R ok =
-      let t : Tree = treeFrom h s (suc left) k in
-      let cs : List MemoryRegion = chunks (3 - suc left) (e .region .start .0) (e .region .end .0) in
-      let lower : MemoryRegion → Tree → List ℕ = lowerNumbers (e .set) (e .clear) (λ d u. tableNumbers (e .set) (e .clear) left d u) left in
-      let own : MemoryRegion → Tree → List ℕ = ownNumbers (e .set) (e .clear) (suc left) in
-      let adds = chunks-add (suc left) q (areaOf e p) (surveyChunk (λ j n x. surveyRange left h s j n x) h s (3 - suc left) k e) (λ c u. lower c u ++ own c u) t
-      (λ c y x piece kept. subst (λ (u : Tree). Adds x (surveyChunk (λ j n z. surveyRange left h s j n z) h s (3 - suc left) k e c x) (length (lower c u ++ own c u)))
-      (sym (slot-of h s (suc left) k (entryIndex (3 - suc left) (c .start .0))))
-      (chunk-adds left (child q (slotAt (suc left) c)) k e s R (survey-numbers left (omega arith)) c y x
+  survey-numbers (suc depth) low q k p e s v area R ok =
+      let t : Tree = treeFrom h s (suc depth) k in
+      let cs : List MemoryRegion = chunks (3 - suc depth) (e .region .start .0) (e .region .end .0) in
+      let lower : MemoryRegion → Tree → List ℕ = lowerNumbers (e .set) (e .clear) (λ d u. tableNumbers (e .set) (e .clear) depth d u) depth in
+      let own : MemoryRegion → Tree → List ℕ = ownNumbers (e .set) (e .clear) (suc depth) in
+      let adds = chunks-add (suc depth) q (areaOf e p) (surveyChunk (λ j n x. surveyRange depth h s j n x) h s k (3 - suc depth) e) (λ c u. lower c u ++ own c u) t
+      (λ c y x piece kept. subst (λ (u : Tree). Adds x (surveyChunk (λ j n z. surveyRange depth h s j n z) h s k (3 - suc depth) e c x) (length (lower c u ++ own c u)))
+      (sym (slot-of h s (suc depth) k (entryIndex (3 - suc depth) (c .start .0))))
+      (chunk-adds depth (child q (slotAt (suc depth) c)) k e s R (survey-numbers depth (omega arith)) c y x
       (record { inside = piece .inside; some = piece .some; room = piece .room }) kept))
-      (e .region) p v (pieces (suc left) q (areaOf e p) low p (e .region) area) ok in
-      let both = gathered-both (suc left) lower own cs t in
-      let joined = length-append (gathered (suc left) lower cs t) (gathered (suc left) own cs t) in
+      (e .region) p v (pieces (suc depth) q (areaOf e p) low p (e .region) area) ok in
+      let both = gathered-both (suc depth) lower own cs t in
+      let joined = length-append (gathered (suc depth) lower cs t) (gathered (suc depth) own cs t) in
       record { kept = adds .kept; numbers = omega (arith, adds .numbers) }

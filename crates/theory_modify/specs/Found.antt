@@ -62,7 +62,7 @@ newWord set clear level w = ofKind (kindOf level w) (edited set clear w) w
 pub record Broken (h : Handle) (set clear lo hi : ℕ) (x : Ends) (y w : ℕ) : Type 0 where
   pub word : x .word ≡ w
   pub valid : valid w ≡ true
-  pub rule : (¬ (Within lo hi (x .left) y)) ⊎ (mayChange h w (newWord set clear (3 - x .left) w) ≡ false)
+  pub rule : (¬ (Within lo hi (x .depth) y)) ⊎ (mayChange h w (newWord set clear (3 - x .depth) w) ≡ false)
 
 -- the lowest page from lo up to hi that breaks
 pub record First (breaks : ℕ → ℕ → Type 0) (lo hi w : ℕ) : Type 0 where
@@ -141,23 +141,23 @@ finds-breach {B} {lo} {hi} {v} w x a b space at = record {
 
 -- ---- entries, and the ends of larger ones
 
-walk-low : (f : ℕ → ℕ) (left : ℕ) (t : Tree) → walkTree f left t .left ≤ left
+walk-low : (f : ℕ → ℕ) (depth : ℕ) (t : Tree) → walkTree f depth t .depth ≤ depth
 unfolding walkTree
 walk-low f zero (leaf w) = omega arith
-walk-low f (suc left) (leaf w) = omega arith
+walk-low f (suc depth) (leaf w) = omega arith
 walk-low f zero (node u) = omega arith
-walk-low f (suc left) (node u) = let r = walk-low f left (u (f left)) in omega arith
+walk-low f (suc depth) (node u) = let r = walk-low f depth (u (f depth)) in omega arith
 
-multiple-low : (n left a : ℕ) → n ≤ left → a % span left ≡ 0 → a % span n ≡ 0
+multiple-low : (n depth a : ℕ) → n ≤ depth → a % span depth ≡ 0 → a % span n ≡ 0
 multiple-low n zero a l e = let same : n ≡ 0 = omega arith in rw same e
-multiple-low n (suc left) a l e = go (le-or n left) (λ k d. multiple-low n left a k d)
+multiple-low n (suc depth) a l e = go (le-or n depth) (λ k d. multiple-low n depth a k d)
   where
-    lower : a % span left ≡ 0
-    lower = let z : a + 0 * span left ≡ a = omega arith in subst (λ (x : ℕ). x % span left ≡ 0) z (multiple-child left a 0 e)
+    lower : a % span depth ≡ 0
+    lower = let z : a + 0 * span depth ≡ a = omega arith in subst (λ (x : ℕ). x % span depth ≡ 0) z (multiple-child depth a 0 e)
 
-    go : (n ≤ left) ⊎ (left < n) → (n ≤ left → a % span left ≡ 0 → a % span n ≡ 0) → a % span n ≡ 0
+    go : (n ≤ depth) ⊎ (depth < n) → (n ≤ depth → a % span depth ≡ 0 → a % span n ≡ 0) → a % span n ≡ 0
     go (inl k) rec = rec k lower
-    go (inr k) rec = let same : n ≡ suc left = omega arith in rw same e
+    go (inr k) rec = let same : n ≡ suc depth = omega arith in rw same e
 
 -- the entry of a page before a multiple of its size ends there at the latest, that of a page from there on begins there at the earliest
 entry-before : (n y a : ℕ) → n ≤ 3 → a % span n ≡ 0 → y < a → y - y % span n + span n ≤ a
@@ -176,82 +176,82 @@ entry-from (suc (suc zero)) y a low at l = omega arith
 entry-from (suc (suc (suc zero))) y a low at l = omega arith
 entry-from (suc (suc (suc (suc n)))) y a low at l = absurd (omega arith)
 
--- pages cut at `mid`, where the pages end or an entry with `left` levels below does
-module _ (left n y lo mid hi : ℕ) (low : left ≤ 3) (small : n ≤ left) (ends : (mid ≡ hi) ⊎ (mid % span left ≡ 0)) where
+-- pages cut at `mid`, where the pages end or an entry with `depth` levels below does
+module _ (depth n y lo mid hi : ℕ) (low : depth ≤ 3) (small : n ≤ depth) (ends : (mid ≡ hi) ⊎ (mid % span depth ≡ 0)) where
   within-lower : y < mid → Within lo hi n y → Within lo mid n y
   within-lower l W = record { from = W .from; upto = go ends }
     where
-      go : (mid ≡ hi) ⊎ (mid % span left ≡ 0) → y - y % span n + span n ≤ mid
+      go : (mid ≡ hi) ⊎ (mid % span depth ≡ 0) → y - y % span n + span n ≤ mid
       go (inl same) = omega (arith, W .upto)
-      go (inr end) = entry-before n y mid (omega arith) (multiple-low n left mid small end) l
+      go (inr end) = entry-before n y mid (omega arith) (multiple-low n depth mid small end) l
 
   within-later : mid ≤ y → y < hi → Within lo hi n y → Within mid hi n y
   within-later l b W = record { from = go ends; upto = W .upto }
     where
-      go : (mid ≡ hi) ⊎ (mid % span left ≡ 0) → mid ≤ y - y % span n
+      go : (mid ≡ hi) ⊎ (mid % span depth ≡ 0) → mid ≤ y - y % span n
       go (inl same) = absurd (omega arith)
-      go (inr end) = entry-from n y mid (omega arith) (multiple-low n left mid small end) l
+      go (inr end) = entry-from n y mid (omega arith) (multiple-low n depth mid small end) l
 
 within-wider : {lo lo′ hi hi′ n y : ℕ} → lo′ ≤ lo → hi ≤ hi′ → Within lo hi n y → Within lo′ hi′ n y
 within-wider a b W = record { from = omega (arith, W .from); upto = omega (arith, W .upto) }
 
-broken-as : {h : Handle} {set clear lo hi lo′ hi′ : ℕ} (x : Ends) {y w : ℕ} → (Within lo′ hi′ (x .left) y → Within lo hi (x .left) y) → Broken h set clear lo hi x y w
+broken-as : {h : Handle} {set clear lo hi lo′ hi′ : ℕ} (x : Ends) {y w : ℕ} → (Within lo′ hi′ (x .depth) y → Within lo hi (x .depth) y) → Broken h set clear lo hi x y w
     → Broken h set clear lo′ hi′ x y w
 broken-as {h} {set} {clear} {lo} {hi} {lo′} {hi′} x {y} {w} back B = record { word = B .word; valid = B .valid; rule = either (B .rule) }
   where
-    either : (¬ (Within lo hi (x .left) y)) ⊎ (mayChange h w (newWord set clear (3 - x .left) w) ≡ false)
-        → (¬ (Within lo′ hi′ (x .left) y)) ⊎ (mayChange h w (newWord set clear (3 - x .left) w) ≡ false)
+    either : (¬ (Within lo hi (x .depth) y)) ⊎ (mayChange h w (newWord set clear (3 - x .depth) w) ≡ false)
+        → (¬ (Within lo′ hi′ (x .depth) y)) ⊎ (mayChange h w (newWord set clear (3 - x .depth) w) ≡ false)
     either (inl split) = inl (λ W. split (back W))
     either (inr bits) = inr bits
 
 -- ---- the chunks of a table
 
-module _ (h : Handle) (set clear left q : ℕ) (m : Map) (low : left ≤ 3) (f : MemoryRegion → Survey → Survey) (slots : ℕ → Tree) where
+module _ (h : Handle) (set clear depth q : ℕ) (m : Map) (low : depth ≤ 3) (f : MemoryRegion → Survey → Survey) (slots : ℕ → Tree) where
   abbrev endsOf : ℕ → Ends
-  endsOf y = walkTree (slotOf y) left (slots (slotOf y left))
+  endsOf y = walkTree (slotOf y) depth (slots (slotOf y depth))
 
   abbrev endsIn : MemoryRegion → ℕ → Ends
-  endsIn c y = walkTree (slotOf y) left (slots (entryIndex (3 - left) (c .start .0)))
+  endsIn c y = walkTree (slotOf y) depth (slots (entryIndex (3 - depth) (c .start .0)))
 
   abbrev EachFinds : Type 0
-  EachFinds = (c : MemoryRegion) (p : ℕ) (x : Survey) → Piece left (child q (slotAt left c)) (chunkMap m c p)
+  EachFinds = (c : MemoryRegion) (p : ℕ) (x : Survey) → Piece depth (child q (slotAt depth c)) (chunkMap m c p)
       → Finds (λ y w. Broken h set clear (c .start .0 / 4096) (c .end .0 / 4096) (endsIn c y) y w) (c .start .0 / 4096) (c .end .0 / 4096) x (f c x)
 
   -- a chunk ends where the region does or its entry
-  ends-at : {level e z : ℕ} {cs : List MemoryRegion} → Tiles level e z cs → (i p : ℕ) → Pieces left q m (suc i) p cs → z ≤ e → z / 4096 ≤ first left (child q i) + span left
-      → (z / 4096 ≡ e / 4096) ⊎ (z / 4096 % span left ≡ 0)
+  ends-at : {level e z : ℕ} {cs : List MemoryRegion} → Tiles level e z cs → (i p : ℕ) → Pieces depth q m (suc i) p cs → z ≤ e → z / 4096 ≤ first depth (child q i) + span depth
+      → (z / 4096 ≡ e / 4096) ⊎ (z / 4096 % span depth ≡ 0)
   ends-at (none l) i p all under high = inl (omega arith)
   ends-at (more {s = z} {m = b} above fits inside rest) i p all under high =
-      let o = child-order left q i (slotAt left (region z b)) (omega (arith, all .0 .from)) in
-      let end : z / 4096 ≡ first left (child q i) + span left = omega (arith, all .0 .piece .inside .low) in
-      inr (ap (λ (n : ℕ). n % span left) end ∙ end-rest left (child q i))
+      let o = child-order depth q i (slotAt depth (region z b)) (omega (arith, all .0 .from)) in
+      let end : z / 4096 ≡ first depth (child q i) + span depth = omega (arith, all .0 .piece .inside .low) in
+      inr (ap (λ (n : ℕ). n % span depth) end ∙ end-rest depth (child q i))
 
   -- a chunk's page stands in the chunk's slot
-  ends-same : (c : MemoryRegion) (p y : ℕ) → Piece left (child q (slotAt left c)) (chunkMap m c p) → c .start .0 / 4096 ≤ y → y < c .end .0 / 4096 → endsIn c y ≡ endsOf y
+  ends-same : (c : MemoryRegion) (p y : ℕ) → Piece depth (child q (slotAt depth c)) (chunkMap m c p) → c .start .0 / 4096 ≤ y → y < c .end .0 / 4096 → endsIn c y ≡ endsOf y
   ends-same c p y piece l b =
-      let at = in-of left (child q (slotAt left c)) y (omega (arith, piece .inside .low)) (omega (arith, piece .inside .high)) in
-      ap (λ (i : ℕ). walkTree (slotOf y) left (slots i)) (index-slot left (c .start .0) low ∙ sym (slot-in left q (slotAt left c) y (slot-lt (c .start .0 / 4096) left) at))
+      let at = in-of depth (child q (slotAt depth c)) y (omega (arith, piece .inside .low)) (omega (arith, piece .inside .high)) in
+      ap (λ (i : ℕ). walkTree (slotOf y) depth (slots i)) (index-slot depth (c .start .0) low ∙ sym (slot-in depth q (slotAt depth c) y (slot-lt (c .start .0 / 4096) depth) at))
 
-  fold-finds : EachFinds → {level s e : ℕ} {cs : List MemoryRegion} → Tiles level e s cs → (a p : ℕ) (x : Survey) → Pieces left q m a p cs → s ≤ e
+  fold-finds : EachFinds → {level s e : ℕ} {cs : List MemoryRegion} → Tiles level e s cs → (a p : ℕ) (x : Survey) → Pieces depth q m a p cs → s ≤ e
       → Finds (λ y w. Broken h set clear (s / 4096) (e / 4096) (endsOf y) y w) (s / 4096) (e / 4096) x (eachOf f cs x)
   unfolding eachOf
   fold-finds each (none l) a p x all some = finds-none refl refl (λ y w k b at. omega arith)
   fold-finds each {e = e} (more {s = s} {m = z} {l = cs} above under fits rest) a p x all some =
       let c : MemoryRegion = region s z in
-      let piece : Piece left (child q (slotAt left c)) (chunkMap m c p) = all .0 .piece in
-      let ends : (z / 4096 ≡ e / 4096) ⊎ (z / 4096 % span left ≡ 0) = ends-at rest (slotAt left c) (p + (z - s)) (all .1) under (piece .inside .high) in
-      let small : (y : ℕ) → endsOf y .left ≤ left = λ y. walk-low (slotOf y) left (slots (slotOf y left)) in
+      let piece : Piece depth (child q (slotAt depth c)) (chunkMap m c p) = all .0 .piece in
+      let ends : (z / 4096 ≡ e / 4096) ⊎ (z / 4096 % span depth ≡ 0) = ends-at rest (slotAt depth c) (p + (z - s)) (all .1) under (piece .inside .high) in
+      let small : (y : ℕ) → endsOf y .depth ≤ depth = λ y. walk-low (slotOf y) depth (slots (slotOf y depth)) in
       let here = each c p x piece in
-      let later = fold-finds each rest (suc (slotAt left c)) (p + (z - s)) (f c x) (all .1) under in
+      let later = fold-finds each rest (suc (slotAt depth c)) (p + (z - s)) (f c x) (all .1) under in
       finds-join (omega arith) (omega arith)
       (finds-as
-      (λ y w k b at. broken-as (endsOf y) (within-lower left (endsOf y .left) y (s / 4096) (z / 4096) (e / 4096) low (small y) ends b)
+      (λ y w k b at. broken-as (endsOf y) (within-lower depth (endsOf y .depth) y (s / 4096) (z / 4096) (e / 4096) low (small y) ends b)
       (subst (λ (i : Ends). Broken h set clear (s / 4096) (z / 4096) i y w) (ends-same c p y piece k b) at))
       (λ y w k b at. subst (λ (i : Ends). Broken h set clear (s / 4096) (z / 4096) i y w) (sym (ends-same c p y piece k b))
       (broken-as (endsOf y) (within-wider (omega arith) (omega arith)) at))
       here)
       (finds-as
-      (λ y w k b at. broken-as (endsOf y) (within-later left (endsOf y .left) y (s / 4096) (z / 4096) (e / 4096) low (small y) ends k b) at)
+      (λ y w k b at. broken-as (endsOf y) (within-later depth (endsOf y .depth) y (s / 4096) (z / 4096) (e / 4096) low (small y) ends k b) at)
       (λ y w k b at. broken-as (endsOf y) (within-wider (omega arith) (omega arith)) at)
       later)
 
@@ -266,25 +266,25 @@ may-stay : (h : Handle) (w : ℕ) → mayChange h w w ≡ true
 unfolding mayChange only
 may-stay h w = rw (xor-self w)
 
-module _ (left : ℕ) (c : MemoryRegion) (low : left ≤ 3) (start : c .start .0 % 4096 ≡ 0) (end : c .end .0 % 4096 ≡ 0) where
+module _ (depth : ℕ) (c : MemoryRegion) (low : depth ≤ 3) (start : c .start .0 % 4096 ≡ 0) (end : c .end .0 % 4096 ≡ 0) where
   abbrev size : ℕ
-  size = sizeAt (3 - left)
+  size = sizeAt (3 - depth)
 
   -- the region is made of whole entries
-  whole-ends : whole (3 - left) c ≡ true → (c .start .0 / 4096 % span left ≡ 0) × (c .end .0 / 4096 % span left ≡ 0)
+  whole-ends : whole (3 - depth) c ≡ true → (c .start .0 / 4096 % span depth ≡ 0) × (c .end .0 / 4096 % span depth ≡ 0)
   unfolding whole
   whole-ends all =
       let two = both (eqb (c .start .0 % size) 0) (eqb (c .end .0 % size) 0) all in
       let a = eqb→eq (c .start .0 % size) 0 (rw (two .0) tt) in
       let b = eqb→eq (c .end .0 % size) 0 (rw (two .1) tt) in
-      (omega (arith, entry-rest left (c .start .0) low start), omega (arith, entry-rest left (c .end .0) low end))
+      (omega (arith, entry-rest depth (c .start .0) low start), omega (arith, entry-rest depth (c .end .0) low end))
 
-  ends-whole : c .start .0 / 4096 % span left ≡ 0 → c .end .0 / 4096 % span left ≡ 0 → whole (3 - left) c ≡ true
+  ends-whole : c .start .0 / 4096 % span depth ≡ 0 → c .end .0 / 4096 % span depth ≡ 0 → whole (3 - depth) c ≡ true
   unfolding whole
   ends-whole a b =
       rw (
-        eq-eqb (c .start .0 % size) 0 (omega (arith, entry-rest left (c .start .0) low start)),
-        eq-eqb (c .end .0 % size) 0 (omega (arith, entry-rest left (c .end .0) low end)),
+        eq-eqb (c .start .0 % size) 0 (omega (arith, entry-rest depth (c .start .0) low start)),
+        eq-eqb (c .end .0 % size) 0 (omega (arith, entry-rest depth (c .end .0) low end)),
       )
 
 module _ (h : Handle) (e : Edit) (c : MemoryRegion) (w : ℕ) (v : Survey) where
@@ -296,11 +296,11 @@ module _ (h : Handle) (e : Edit) (c : MemoryRegion) (w : ℕ) (v : Survey) where
 
   -- the walk of each of its pages ends in the word
   abbrev Breaks : ℕ → ℕ → ℕ → Type 0
-  Breaks left y u = Broken h (e .set) (e .clear) lo hi (record { word = w; left = left }) y u
+  Breaks depth y u = Broken h (e .set) (e .clear) lo hi (record { word = w; depth = depth }) y u
 
-  module _ (left q p : ℕ) (low : left ≤ 3) (fine : Fine left w) (piece : Piece left q (areaOf (chunkEdit e c) p)) where
+  module _ (depth q p : ℕ) (low : depth ≤ 3) (fine : Fine depth w) (piece : Piece depth q (areaOf (chunkEdit e c) p)) where
     abbrev level : ℕ
-    level = 3 - left
+    level = 3 - depth
 
     abbrev new : ℕ
     new = editWord level (chunkEdit e c) w
@@ -310,31 +310,31 @@ module _ (h : Handle) (e : Edit) (c : MemoryRegion) (w : ℕ) (v : Survey) where
 
     -- covered as a whole: it is not split
     module _ (all : whole level c ≡ true) where
-      within : (y : ℕ) → lo ≤ y → y < hi → Within lo hi left y
+      within : (y : ℕ) → lo ≤ y → y < hi → Within lo hi depth y
       within y k b =
-          let ends = whole-ends left c low (piece .inside .startPage) (piece .inside .endPage) all in
-          record { from = entry-from left y lo low (ends .0) k; upto = entry-before left y hi low (ends .1) b }
+          let ends = whole-ends depth c low (piece .inside .startPage) (piece .inside .endPage) all in
+          record { from = entry-from depth y lo low (ends .0) k; upto = entry-before depth y hi low (ends .1) b }
 
-      allowed : mayChange h w new ≡ true → (y u : ℕ) → lo ≤ y → y < hi → Breaks left y u → ⊥
+      allowed : mayChange h w new ≡ true → (y u : ℕ) → lo ≤ y → y < hi → Breaks depth y u → ⊥
       allowed may y u k b B = go (B .rule)
         where
-          go : (¬ (Within lo hi left y)) ⊎ (mayChange h u (newWord (e .set) (e .clear) level u) ≡ false) → ⊥
+          go : (¬ (Within lo hi depth y)) ⊎ (mayChange h u (newWord (e .set) (e .clear) level u) ≡ false) → ⊥
           go (inl split) = split (within y k b)
           go (inr bits) = clash may (ap (mayChange h w) (sym same-new) ∙ ap (λ (x : ℕ). mayChange h x (newWord (e .set) (e .clear) level x)) (B .word) ∙ bits)
 
       abbrev more-numbers : Survey
       more-numbers = record { splits = v .splits; numbers = v .numbers + 1; broken = v .broken; word = v .word }
 
-      whole-finds : Finds (Breaks left) lo hi v (surveyWhole h level (chunkEdit e c) w v)
+      whole-finds : Finds (Breaks depth) lo hi v (surveyWhole h level (chunkEdit e c) w v)
       whole-finds = go (eq-or new w)
         where
-          go : (new ≡ w) ⊎ (new ≢ w) → Finds (Breaks left) lo hi v (surveyWhole h level (chunkEdit e c) w v)
-          go (inl same) = subst (Finds (Breaks left) lo hi v) (whole-same h level (chunkEdit e c) w v refl same)
+          go : (new ≡ w) ⊎ (new ≢ w) → Finds (Breaks depth) lo hi v (surveyWhole h level (chunkEdit e c) w v)
+          go (inl same) = subst (Finds (Breaks depth) lo hi v) (whole-same h level (chunkEdit e c) w v refl same)
               (finds-none refl refl (allowed (ap (mayChange h w) same ∙ may-stay h w)))
           go (inr other) = byBool (mayChange h w new)
-              (λ may. subst (Finds (Breaks left) lo hi v) (whole-allowed h level (chunkEdit e c) w v refl other may)
+              (λ may. subst (Finds (Breaks depth) lo hi v) (whole-allowed h level (chunkEdit e c) w v refl other may)
               (finds-none {x = more-numbers} refl refl (allowed may)))
-              (λ bits. subst (Finds (Breaks left) lo hi v) (whole-breach h level (chunkEdit e c) w v refl other bits)
+              (λ bits. subst (Finds (Breaks depth) lo hi v) (whole-breach h level (chunkEdit e c) w v refl other bits)
               (finds-breach w more-numbers refl refl (omega (arith, piece .some, piece .inside .startPage, piece .inside .endPage))
               (record {
                 word = refl;
@@ -343,135 +343,135 @@ module _ (h : Handle) (e : Edit) (c : MemoryRegion) (w : ℕ) (v : Survey) where
               })))
 
   -- covered in part: a valid one is split
-  module _ (left q p : ℕ) (low : suc left ≤ 3) (fine : Fine (suc left) w) (piece : Piece (suc left) q (areaOf (chunkEdit e c) p)) (part : whole (3 - suc left) c ≡ false) where
+  module _ (depth q p : ℕ) (low : suc depth ≤ 3) (fine : Fine (suc depth) w) (piece : Piece (suc depth) q (areaOf (chunkEdit e c) p)) (part : whole (3 - suc depth) c ≡ false) where
     abbrev under : ℕ
-    under = 3 - suc left
+    under = 3 - suc depth
 
-    splits-it : ¬ (Within lo hi (suc left) lo)
+    splits-it : ¬ (Within lo hi (suc depth) lo)
     splits-it W =
-        let mine = in-rest (suc left) q lo
-        (in-of (suc left) q lo (piece .inside .low) (omega (arith, piece .inside .high, piece .some, piece .inside .startPage, piece .inside .endPage))) in
-        let begins : lo % span (suc left) ≡ 0 = omega (arith, W .from) in
-        let ends : hi ≡ first (suc left) q + span (suc left) = omega (arith, W .upto, piece .inside .high) in
-        clash (ends-whole (suc left) c low (piece .inside .startPage) (piece .inside .endPage) begins (ap (λ (n : ℕ). n % span (suc left)) ends ∙ end-rest (suc left) q)) part
+        let mine = in-rest (suc depth) q lo
+        (in-of (suc depth) q lo (piece .inside .low) (omega (arith, piece .inside .high, piece .some, piece .inside .startPage, piece .inside .endPage))) in
+        let begins : lo % span (suc depth) ≡ 0 = omega (arith, W .from) in
+        let ends : hi ≡ first (suc depth) q + span (suc depth) = omega (arith, W .upto, piece .inside .high) in
+        clash (ends-whole (suc depth) c low (piece .inside .startPage) (piece .inside .endPage) begins (ap (λ (n : ℕ). n % span (suc depth)) ends ∙ end-rest (suc depth) q)) part
 
     abbrev more-splits : Survey
     more-splits = record { splits = v .splits + splitsIn (3 - under) c; numbers = v .numbers; broken = v .broken; word = v .word }
 
-    part-finds : Finds (Breaks (suc left)) lo hi v (surveyPart under c w v)
+    part-finds : Finds (Breaks (suc depth)) lo hi v (surveyPart under c w v)
     part-finds = byBool (valid w)
-        (λ y. subst (Finds (Breaks (suc left)) lo hi v) (part-block under c w v refl refl (valid-block left w low fine y))
+        (λ y. subst (Finds (Breaks (suc depth)) lo hi v) (part-block under c w v refl refl (valid-block depth w low fine y))
         (finds-breach w more-splits refl refl (omega (arith, piece .some, piece .inside .startPage, piece .inside .endPage))
         (record { word = refl; valid = y; rule = inl splits-it })))
         (λ n. let o = valid-no w n in
-        subst (Finds (Breaks (suc left)) lo hi v) (part-other under c w v refl refl (inr (inr (kind-clear under w (λ a. omega arith) (λ a. omega arith)))))
+        subst (Finds (Breaks (suc depth)) lo hi v) (part-other under c w v refl refl (inr (inr (kind-clear under w (λ a. omega arith) (λ a. omega arith)))))
         (finds-none {x = more-splits} refl refl (λ y u k b B. clash (B .valid) (ap valid (sym (B .word)) ∙ n))))
 
   -- either way
-  leaf-finds : (left q p : ℕ) → left ≤ 3 → Fine left w → Piece left q (areaOf (chunkEdit e c) p) → Finds (Breaks left) lo hi v (surveyEntry h (3 - left) (chunkEdit e c) w v)
+  leaf-finds : (depth q p : ℕ) → depth ≤ 3 → Fine depth w → Piece depth q (areaOf (chunkEdit e c) p) → Finds (Breaks depth) lo hi v (surveyEntry h (3 - depth) (chunkEdit e c) w v)
   leaf-finds zero q p low fine piece =
       let all = page-whole q (areaOf (chunkEdit e c) p) piece in
       subst (Finds (Breaks 0) lo hi v) (entry-whole h 3 (chunkEdit e c) w v all) (whole-finds 0 q p low fine piece all)
-  leaf-finds (suc left) q p low fine piece = byBool (whole (3 - suc left) c)
-      (λ all. subst (Finds (Breaks (suc left)) lo hi v) (entry-whole h (3 - suc left) (chunkEdit e c) w v all) (whole-finds (suc left) q p low fine piece all))
-      (λ part. subst (Finds (Breaks (suc left)) lo hi v) (entry-part h (3 - suc left) (chunkEdit e c) w v part) (part-finds left q p low fine piece part))
+  leaf-finds (suc depth) q p low fine piece = byBool (whole (3 - suc depth) c)
+      (λ all. subst (Finds (Breaks (suc depth)) lo hi v) (entry-whole h (3 - suc depth) (chunkEdit e c) w v all) (whole-finds (suc depth) q p low fine piece all))
+      (λ part. subst (Finds (Breaks (suc depth)) lo hi v) (entry-part h (3 - suc depth) (chunkEdit e c) w v part) (part-finds depth q p low fine piece part))
 
 -- ---- a table of a sound pool
 
-walk-leaf : (f : ℕ → ℕ) (left w : ℕ) → walkTree f left (leaf w) ≡ record { word = w; left = left }
+walk-leaf : (f : ℕ → ℕ) (depth w : ℕ) → walkTree f depth (leaf w) ≡ record { word = w; depth = depth }
 unfolding walkTree
 walk-leaf f zero w = refl
-walk-leaf f (suc left) w = refl
+walk-leaf f (suc depth) w = refl
 
-walk-node : (f : ℕ → ℕ) (left : ℕ) (u : ℕ → Tree) → walkTree f (suc left) (node u) ≡ walkTree f left (u (f left))
+walk-node : (f : ℕ → ℕ) (depth : ℕ) (u : ℕ → Tree) → walkTree f (suc depth) (node u) ≡ walkTree f depth (u (f depth))
 unfolding walkTree
-walk-node f left u = refl
+walk-node f depth u = refl
 
 module _ {h : Handle} (placed : Placed h) where
-  -- the pages of an edit's region that break, in a tree with `left` levels below
+  -- the pages of an edit's region that break, in a tree with `depth` levels below
   abbrev pub BreaksIn : Edit → ℕ → Tree → ℕ → ℕ → Type 0
-  BreaksIn e left t y w = Broken h (e .set) (e .clear) (e .region .start .0 / 4096) (e .region .end .0 / 4096) (walkTree (slotOf y) left t) y w
+  BreaksIn e depth t y w = Broken h (e .set) (e .clear) (e .region .start .0 / 4096) (e .region .end .0 / 4096) (walkTree (slotOf y) depth t) y w
 
   abbrev Scans : ℕ → Type 0
-  Scans left = (q k p : ℕ) (e : Edit) (s : St) (v : Survey) → Area left q (areaOf e p) → Ready placed s left k → e .region .start .0 ≤ e .region .end .0
-      → Finds (BreaksIn e (suc left) (treeFrom h s left k)) (e .region .start .0 / 4096) (e .region .end .0 / 4096) v (surveyRange left h s k e v)
+  Scans depth = (q k p : ℕ) (e : Edit) (s : St) (v : Survey) → Area depth q (areaOf e p) → Ready placed s depth k → e .region .start .0 ≤ e .region .end .0
+      → Finds (BreaksIn e (suc depth) (treeFrom h s depth k)) (e .region .start .0 / 4096) (e .region .end .0 / 4096) v (surveyRange depth h s k e v)
 
   -- a chunk of a table: where its slot shows t
-  abbrev ChunkFinds : (left : ℕ) → Edit → MemoryRegion → Tree → Survey → Survey → Type 0
-  ChunkFinds left e c t v x = Finds (BreaksIn (chunkEdit e c) left t) (c .start .0 / 4096) (c .end .0 / 4096) v x
+  abbrev ChunkFinds : (depth : ℕ) → Edit → MemoryRegion → Tree → Survey → Survey → Type 0
+  ChunkFinds depth e c t v x = Finds (BreaksIn (chunkEdit e c) depth t) (c .start .0 / 4096) (c .end .0 / 4096) v x
 
-  leaf-chunk : (left q p : ℕ) (e : Edit) (c : MemoryRegion) (w : ℕ) (v : Survey) → left ≤ 3 → Fine left w → Piece left q (areaOf (chunkEdit e c) p)
-      → ChunkFinds left e c (leaf w) v (surveyEntry h (3 - left) (chunkEdit e c) w v)
-  leaf-chunk left q p e c w v low fine piece =
+  leaf-chunk : (depth q p : ℕ) (e : Edit) (c : MemoryRegion) (w : ℕ) (v : Survey) → depth ≤ 3 → Fine depth w → Piece depth q (areaOf (chunkEdit e c) p)
+      → ChunkFinds depth e c (leaf w) v (surveyEntry h (3 - depth) (chunkEdit e c) w v)
+  leaf-chunk depth q p e c w v low fine piece =
       finds-as
-      (λ y u k b at. subst (λ (i : Ends). Broken h (e .set) (e .clear) (c .start .0 / 4096) (c .end .0 / 4096) i y u) (sym (walk-leaf (slotOf y) left w)) at)
-      (λ y u k b at. subst (λ (i : Ends). Broken h (e .set) (e .clear) (c .start .0 / 4096) (c .end .0 / 4096) i y u) (walk-leaf (slotOf y) left w) at)
-      (leaf-finds h e c w v left q p low fine piece)
+      (λ y u k b at. subst (λ (i : Ends). Broken h (e .set) (e .clear) (c .start .0 / 4096) (c .end .0 / 4096) i y u) (sym (walk-leaf (slotOf y) depth w)) at)
+      (λ y u k b at. subst (λ (i : Ends). Broken h (e .set) (e .clear) (c .start .0 / 4096) (c .end .0 / 4096) i y u) (walk-leaf (slotOf y) depth w) at)
+      (leaf-finds h e c w v depth q p low fine piece)
 
-  chunk-finds : (left q k : ℕ) (e : Edit) (s : St) → Ready placed s (suc left) k → Scans left → (c : MemoryRegion) (p : ℕ) (v : Survey)
-      → Piece (suc left) q (areaOf (chunkEdit e c) p)
-      → ChunkFinds (suc left) e c (slotShows h s (suc left) k (entryIndex (3 - suc left) (c .start .0))) v
-      (surveyChunk (λ j n y. surveyRange left h s j n y) h s (3 - suc left) k e c v)
-  chunk-finds left q k e s R scans c p v piece = go (holds placed R i inside)
+  chunk-finds : (depth q k : ℕ) (e : Edit) (s : St) → Ready placed s (suc depth) k → Scans depth → (c : MemoryRegion) (p : ℕ) (v : Survey)
+      → Piece (suc depth) q (areaOf (chunkEdit e c) p)
+      → ChunkFinds (suc depth) e c (slotShows h s (suc depth) k (entryIndex (3 - suc depth) (c .start .0))) v
+      (surveyChunk (λ j n y. surveyRange depth h s j n y) h s k (3 - suc depth) e c v)
+  chunk-finds depth q k e s R scans c p v piece = go (holds placed R i inside)
     where
       i : ℕ
-      i = entryIndex (3 - suc left) (c .start .0)
+      i = entryIndex (3 - suc depth) (c .start .0)
 
       inside : i < 512
-      inside = slot-below (3 - suc left) (c .start .0)
+      inside = slot-below (3 - suc depth) (c .start .0)
 
       x : Survey
-      x = surveyChunk (λ j n y. surveyRange left h s j n y) h s (3 - suc left) k e c v
+      x = surveyChunk (λ j n y. surveyRange depth h s j n y) h s k (3 - suc depth) e c v
 
-      go : Holds placed s left k i → ChunkFinds (suc left) e c (slotShows h s (suc left) k i) v x
+      go : Holds placed s depth k i → ChunkFinds (suc depth) e c (slotShows h s (suc depth) k i) v x
       go (holds-table j r both leads shows) =
-          let is = chunk-table (λ a n y. surveyRange left h s a n y) h s (3 - suc left) k e c v j leads in
+          let is = chunk-table (λ a n y. surveyRange depth h s a n y) h s k (3 - suc depth) e c v j leads in
           let found = scans q j p (chunkEdit e c) s v (record { inside = piece .inside; room = piece .room }) (entered-ready placed R i inside r) (omega (arith, piece .some)) in
-          let tree : treeFrom h s left j ≡ slotShows h s (suc left) k i = treeAt-node (childOf (h .base .0)) left (slotWord s) j ∙ sym shows in
-          subst (λ (u : Tree). ChunkFinds (suc left) e c u v x) tree (subst (ChunkFinds (suc left) e c (treeFrom h s left j) v) (sym is) found)
+          let tree : treeFrom h s depth j ≡ slotShows h s (suc depth) k i = treeAt-node (childOf (h .base .0)) depth (slotWord s) j ∙ sym shows in
+          subst (λ (u : Tree). ChunkFinds (suc depth) e c u v x) tree (subst (ChunkFinds (suc depth) e c (treeFrom h s depth j) v) (sym is) found)
       go (holds-leaf old other shows) =
-          let is = chunk-leaf (λ a n y. surveyRange left h s a n y) h s (3 - suc left) k e c v (sym (sub-leaf (h .base .0) (tables s) (3 - suc left) _ (λ q. other (q .1)))) in
-          let fine = subst (FineTree (suc left)) shows (slot-fine placed (R .pool) (suc left) k i (R .used) (R .low) inside) in
-          subst (λ (u : Tree). ChunkFinds (suc left) e c u v x) (sym shows)
-          (subst (ChunkFinds (suc left) e c (leaf (wordAt s k i)) v) (sym is) (leaf-chunk (suc left) q p e c (wordAt s k i) v (omega (arith, R .low)) fine piece))
+          let is = chunk-leaf (λ a n y. surveyRange depth h s a n y) h s k (3 - suc depth) e c v (sym (sub-leaf (h .base .0) (tables s) (3 - suc depth) _ (λ q. other (q .1)))) in
+          let fine = subst (FineTree (suc depth)) shows (slot-fine placed (R .pool) (suc depth) k i (R .used) (R .low) inside) in
+          subst (λ (u : Tree). ChunkFinds (suc depth) e c u v x) (sym shows)
+          (subst (ChunkFinds (suc depth) e c (leaf (wordAt s k i)) v) (sym is) (leaf-chunk (suc depth) q p e c (wordAt s k i) v (omega (arith, R .low)) fine piece))
 
   -- a table's chunks
-  table-finds : (left q k p : ℕ) (e : Edit) (s : St) (v : Survey) (f : MemoryRegion → Survey → Survey) → left ≤ 3 → Area left q (areaOf e p)
+  table-finds : (depth q k p : ℕ) (e : Edit) (s : St) (v : Survey) (f : MemoryRegion → Survey → Survey) → depth ≤ 3 → Area depth q (areaOf e p)
       → e .region .start .0 ≤ e .region .end .0
-      → ((c : MemoryRegion) (y : ℕ) (x : Survey) → Piece left (child q (slotAt left c)) (areaOf (chunkEdit e c) y)
-      → ChunkFinds left e c (slotShows h s left k (entryIndex (3 - left) (c .start .0))) x (f c x))
-      → Finds (BreaksIn e (suc left) (treeFrom h s left k)) (e .region .start .0 / 4096) (e .region .end .0 / 4096) v (eachChunk (3 - left) f (e .region) v)
+      → ((c : MemoryRegion) (y : ℕ) (x : Survey) → Piece depth (child q (slotAt depth c)) (areaOf (chunkEdit e c) y)
+      → ChunkFinds depth e c (slotShows h s depth k (entryIndex (3 - depth) (c .start .0))) x (f c x))
+      → Finds (BreaksIn e (suc depth) (treeFrom h s depth k)) (e .region .start .0 / 4096) (e .region .end .0 / 4096) v (eachChunk (3 - depth) f (e .region) v)
   unfolding eachChunk
-  table-finds left q k p e s v f low area some each =
-      let all = fold-finds h (e .set) (e .clear) left q (areaOf e p) low f (λ i. slotShows h s left k i)
+  table-finds depth q k p e s v f low area some each =
+      let all = fold-finds h (e .set) (e .clear) depth q (areaOf e p) low f (λ i. slotShows h s depth k i)
       (λ c y x piece. each c y x (record { inside = piece .inside; some = piece .some; room = piece .room }))
-      (chunks-tile (3 - left) (e .region .start .0) (e .region .end .0)) 0 p v (pieces left q (areaOf e p) low p (e .region) area) some in
-      let tree = treeAt-node (childOf (h .base .0)) left (slotWord s) k in
-      subst (λ (u : Tree). Finds (BreaksIn e (suc left) u) (e .region .start .0 / 4096) (e .region .end .0 / 4096) v
-      (eachOf f (chunks (3 - left) (e .region .start .0) (e .region .end .0)) v)) (sym tree)
+      (chunks-tile (3 - depth) (e .region .start .0) (e .region .end .0)) 0 p v (pieces depth q (areaOf e p) low p (e .region) area) some in
+      let tree = treeAt-node (childOf (h .base .0)) depth (slotWord s) k in
+      subst (λ (u : Tree). Finds (BreaksIn e (suc depth) u) (e .region .start .0 / 4096) (e .region .end .0 / 4096) v
+      (eachOf f (chunks (3 - depth) (e .region .start .0) (e .region .end .0)) v)) (sym tree)
       (finds-as
       (λ y u l b at. subst (λ (i : Ends). Broken h (e .set) (e .clear) (e .region .start .0 / 4096) (e .region .end .0 / 4096) i y u)
-      (sym (walk-node (slotOf y) left (λ i. slotShows h s left k i))) at)
+      (sym (walk-node (slotOf y) depth (λ i. slotShows h s depth k i))) at)
       (λ y u l b at. subst (λ (i : Ends). Broken h (e .set) (e .clear) (e .region .start .0 / 4096) (e .region .end .0 / 4096) i y u)
-      (walk-node (slotOf y) left (λ i. slotShows h s left k i)) at)
+      (walk-node (slotOf y) depth (λ i. slotShows h s depth k i)) at)
       all)
 
   -- THE LOWEST PAGE
-  pub survey-finds : (left : ℕ) → left ≤ 3 → Scans left
+  pub survey-finds : (depth : ℕ) → depth ≤ 3 → Scans depth
   unfolding surveyRange
   survey-finds zero low q k p e s v area R some =
-      table-finds 0 q k p e s v (surveyChunk (λ j n x. x) h s 3 k e) low area some (λ c y x piece. page c y x piece)
+      table-finds 0 q k p e s v (surveyChunk (λ j n x. x) h s k 3 e) low area some (λ c y x piece. page c y x piece)
     where
       page : (c : MemoryRegion) (y : ℕ) (x : Survey) → Piece 0 (child q (slotAt 0 c)) (areaOf (chunkEdit e c) y)
-          → ChunkFinds 0 e c (slotShows h s 0 k (entryIndex 3 (c .start .0))) x (surveyChunk (λ j n z. z) h s 3 k e c x)
+          → ChunkFinds 0 e c (slotShows h s 0 k (entryIndex 3 (c .start .0))) x (surveyChunk (λ j n z. z) h s k 3 e c x)
       page c y x piece =
           let i : ℕ = entryIndex 3 (c .start .0) in
           let inside = slot-below 3 (c .start .0) in
-          let is = chunk-leaf (λ j n z. z) h s 3 k e c x (sym (sub-leaf (h .base .0) (tables s) 3 _ (λ q. omega (arith, q .0)))) in
+          let is = chunk-leaf (λ j n z. z) h s k 3 e c x (sym (sub-leaf (h .base .0) (tables s) 3 _ (λ q. omega (arith, q .0)))) in
           let shows = slot-leaf (codecOf h placed) (view s) 0 k i (R .low) (word-in s k i inside) (λ table. omega (arith, R .low, table .0)) in
           let fine = subst (FineTree 0) shows (slot-fine placed (R .pool) 0 k i (R .used) (R .low) inside) in
-          subst (λ (u : Tree). ChunkFinds 0 e c u x (surveyChunk (λ j n z. z) h s 3 k e c x)) (sym shows)
+          subst (λ (u : Tree). ChunkFinds 0 e c u x (surveyChunk (λ j n z. z) h s k 3 e c x)) (sym shows)
           (subst (ChunkFinds 0 e c (leaf (wordAt s k i)) x) (sym is) (leaf-chunk 0 (child q (slotAt 0 c)) y e c (wordAt s k i) x (omega arith) fine piece))
-  survey-finds (suc left) low q k p e s v area R some =
-      table-finds (suc left) q k p e s v (surveyChunk (λ j n x. surveyRange left h s j n x) h s (3 - suc left) k e) low area some
-      (λ c y x piece. chunk-finds left (child q (slotAt (suc left) c)) k e s R (survey-finds left (omega arith)) c y x piece)
+  survey-finds (suc depth) low q k p e s v area R some =
+      table-finds (suc depth) q k p e s v (surveyChunk (λ j n x. surveyRange depth h s j n x) h s k (3 - suc depth) e) low area some
+      (λ c y x piece. chunk-finds depth (child q (slotAt (suc depth) c)) k e s R (survey-finds depth (omega arith)) c y x piece)

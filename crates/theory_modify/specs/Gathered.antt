@@ -37,29 +37,29 @@ module _ (set clear : ℕ) where
   unfolding changedNumber
   number-hole c w v = rw v
 
-  pub own-whole : (left : ℕ) (c : MemoryRegion) (w : ℕ) → whole (3 - suc left) c ≡ true → ownNumbers set clear (suc left) c (leaf w) ≡ changedNumber set clear c w
+  pub own-whole : (depth : ℕ) (c : MemoryRegion) (w : ℕ) → whole (3 - suc depth) c ≡ true → ownNumbers set clear (suc depth) c (leaf w) ≡ changedNumber set clear c w
   unfolding ownNumbers
-  own-whole left c w e = rw e
+  own-whole depth c w e = rw e
 
-  pub own-part : (left : ℕ) (c : MemoryRegion) (w : ℕ) → whole (3 - suc left) c ≡ false → ownNumbers set clear (suc left) c (leaf w) ≡ []
+  pub own-part : (depth : ℕ) (c : MemoryRegion) (w : ℕ) → whole (3 - suc depth) c ≡ false → ownNumbers set clear (suc depth) c (leaf w) ≡ []
   unfolding ownNumbers
-  own-part left c w e = rw e
+  own-part depth c w e = rw e
 
-  pub own-none : (left : ℕ) (c : MemoryRegion) (f : ℕ → Tree) → ownNumbers set clear left c (node f) ≡ []
+  pub own-none : (depth : ℕ) (c : MemoryRegion) (f : ℕ → Tree) → ownNumbers set clear depth c (node f) ≡ []
   unfolding ownNumbers
   own-none zero c f = refl
-  own-none (suc left) c f = refl
+  own-none (suc depth) c f = refl
 
-  module _ (rec : MemoryRegion → Tree → List ℕ) (left : ℕ) (c : MemoryRegion) where
-    pub lower-whole : (w : ℕ) → whole (3 - suc left) c ≡ true → lowerNumbers set clear rec left c (leaf w) ≡ []
+  module _ (rec : MemoryRegion → Tree → List ℕ) (depth : ℕ) (c : MemoryRegion) where
+    pub lower-whole : (w : ℕ) → whole (3 - suc depth) c ≡ true → lowerNumbers set clear rec depth c (leaf w) ≡ []
     unfolding lowerNumbers
     lower-whole w e = rw e
 
-    pub lower-part : (w : ℕ) → whole (3 - suc left) c ≡ false → lowerNumbers set clear rec left c (leaf w) ≡ rec c (opened left (leaf w))
+    pub lower-part : (w : ℕ) → whole (3 - suc depth) c ≡ false → lowerNumbers set clear rec depth c (leaf w) ≡ rec c (opened depth (leaf w))
     unfolding lowerNumbers opened
     lower-part w e = rw e
 
-    pub lower-into : (f : ℕ → Tree) → lowerNumbers set clear rec left c (node f) ≡ rec c (opened left (node f))
+    pub lower-into : (f : ℕ → Tree) → lowerNumbers set clear rec depth c (node f) ≡ rec c (opened depth (node f))
     unfolding lowerNumbers opened
     lower-into f = refl
 
@@ -83,25 +83,25 @@ module _ (set clear : ℕ) where
   leaf-page c (leaf w) = refl
   leaf-page c (node f) = refl
 
-  sweep-none : (d : MemoryRegion) (left : ℕ) (f : MemoryRegion → ℕ → Tree → Tree) (cs : List MemoryRegion) (p : ℕ) (g : ℕ → Tree) → leafNumbers d (sweep left f cs p (node g)) ≡ []
+  sweep-none : (d : MemoryRegion) (depth : ℕ) (f : MemoryRegion → ℕ → Tree → Tree) (cs : List MemoryRegion) (p : ℕ) (g : ℕ → Tree) → leafNumbers d (sweep depth f cs p (node g)) ≡ []
   unfolding sweep atSlot leafNumbers
-  sweep-none d left f [] p g = refl
-  sweep-none d left f (c ∷ cs) p g = sweep-none d left f cs (p + (c .end .0 - c .start .0)) _
+  sweep-none d depth f [] p g = refl
+  sweep-none d depth f (c ∷ cs) p g = sweep-none d depth f cs (p + (c .end .0 - c .start .0)) _
 
-  table-none : (d : MemoryRegion) (left : ℕ) (c : MemoryRegion) (p : ℕ) (g : ℕ → Tree) → leafNumbers d (chunkedTable (documentModify set clear) left c p (node g)) ≡ []
+  table-none : (d : MemoryRegion) (depth : ℕ) (c : MemoryRegion) (p : ℕ) (g : ℕ → Tree) → leafNumbers d (chunkedTable (documentModify set clear) depth c p (node g)) ≡ []
   unfolding chunkedTable
-  table-none d left c p g = sweep-none d left _ (chunks (3 - left) (c .start .0) (c .end .0)) p g
+  table-none d depth c p g = sweep-none d depth _ (chunks (3 - depth) (c .start .0) (c .end .0)) p g
 
-  open-none : (d : MemoryRegion) (left : ℕ) (c : MemoryRegion) (p : ℕ) (u : Tree) → leafNumbers d (chunkedTable (documentModify set clear) left c p (opened left u)) ≡ []
+  open-none : (d : MemoryRegion) (depth : ℕ) (c : MemoryRegion) (p : ℕ) (u : Tree) → leafNumbers d (chunkedTable (documentModify set clear) depth c p (opened depth u)) ≡ []
   unfolding opened
-  open-none d left c p (leaf w) = ap (λ (t : Tree). leafNumbers d (chunkedTable (documentModify set clear) left c p t)) (fill-node left w) ∙ table-none d left c p (fillSlot left w)
-  open-none d left c p (node f) = table-none d left c p f
+  open-none d depth c p (leaf w) = ap (λ (t : Tree). leafNumbers d (chunkedTable (documentModify set clear) depth c p t)) (fill-node depth w) ∙ table-none d depth c p (fillSlot depth w)
+  open-none d depth c p (node f) = table-none d depth c p f
 
-  pub leaf-after : (left : ℕ) (c : MemoryRegion) (p : ℕ) (u : Tree) → leafNumbers c (downTo set clear left c p u) ≡ ownNumbers set clear (suc left) c u
-  leaf-after left c p (leaf w) = byBool (whole (3 - suc left) c)
-      (λ e. ap (leafNumbers c) (down-whole set clear left c p w e) ∙ leaf-number c w ∙ sym (own-whole left c w e))
-      (λ e. ap (leafNumbers c) (down-part set clear left c p w e) ∙ open-none c left c p (leaf w) ∙ sym (own-part left c w e))
-  leaf-after left c p (node f) = ap (leafNumbers c) (down-into set clear left c p f) ∙ open-none c left c p (node f) ∙ sym (own-none (suc left) c f)
+  pub leaf-after : (depth : ℕ) (c : MemoryRegion) (p : ℕ) (u : Tree) → leafNumbers c (downTo set clear depth c p u) ≡ ownNumbers set clear (suc depth) c u
+  leaf-after depth c p (leaf w) = byBool (whole (3 - suc depth) c)
+      (λ e. ap (leafNumbers c) (down-whole set clear depth c p w e) ∙ leaf-number c w ∙ sym (own-whole depth c w e))
+      (λ e. ap (leafNumbers c) (down-part set clear depth c p w e) ∙ open-none c depth c p (leaf w) ∙ sym (own-part depth c w e))
+  leaf-after depth c p (node f) = ap (leafNumbers c) (down-into set clear depth c p f) ∙ open-none c depth c p (node f) ∙ sym (own-none (suc depth) c f)
 
 -- ---- what is gathered from a table
 
@@ -123,59 +123,59 @@ unfolding atSlot slotIn
 at-others i j f (leaf w) other = refl
 at-others i j f (node g) other = rw (ne-eqb j i other)
 
-pub gathered-both : (left : ℕ) (f g : MemoryRegion → Tree → List ℕ) (cs : List MemoryRegion) (t : Tree)
-    → length (gathered left (λ c u. f c u ++ g c u) cs t) ≡ length (gathered left f cs t) + length (gathered left g cs t)
+pub gathered-both : (depth : ℕ) (f g : MemoryRegion → Tree → List ℕ) (cs : List MemoryRegion) (t : Tree)
+    → length (gathered depth (λ c u. f c u ++ g c u) cs t) ≡ length (gathered depth f cs t) + length (gathered depth g cs t)
 unfolding gathered
-gathered-both left f g [] t = refl
-gathered-both left f g (c ∷ cs) t =
-    let u : Tree = slotIn t (entryIndex (3 - left) (c .start .0)) in
-    let a = length-append (f c u ++ g c u) (gathered left (λ d v. f d v ++ g d v) cs t) in
+gathered-both depth f g [] t = refl
+gathered-both depth f g (c ∷ cs) t =
+    let u : Tree = slotIn t (entryIndex (3 - depth) (c .start .0)) in
+    let a = length-append (f c u ++ g c u) (gathered depth (λ d v. f d v ++ g d v) cs t) in
     let b = length-append (f c u) (g c u) in
-    let x = length-append (f c u) (gathered left f cs t) in
-    let y = length-append (g c u) (gathered left g cs t) in
-    omega (arith, gathered-both left f g cs t)
+    let x = length-append (f c u) (gathered depth f cs t) in
+    let y = length-append (g c u) (gathered depth g cs t) in
+    omega (arith, gathered-both depth f g cs t)
 
-pub gathered-none : (left : ℕ) (f : MemoryRegion → Tree → List ℕ) (cs : List MemoryRegion) (t : Tree)
-    → ((c : MemoryRegion) → f c (slotIn t (entryIndex (3 - left) (c .start .0))) ≡ []) → gathered left f cs t ≡ []
+pub gathered-none : (depth : ℕ) (f : MemoryRegion → Tree → List ℕ) (cs : List MemoryRegion) (t : Tree)
+    → ((c : MemoryRegion) → f c (slotIn t (entryIndex (3 - depth) (c .start .0))) ≡ []) → gathered depth f cs t ≡ []
 unfolding gathered
-gathered-none left f [] t none = refl
-gathered-none left f (c ∷ cs) t none = ap₂ (λ (a b : List ℕ). a ++ b) (none c) (gathered-none left f cs t none)
+gathered-none depth f [] t none = refl
+gathered-none depth f (c ∷ cs) t none = ap₂ (λ (a b : List ℕ). a ++ b) (none c) (gathered-none depth f cs t none)
 
-module _ (left q : ℕ) (m : Map) (low : left ≤ 3) where
+module _ (depth q : ℕ) (m : Map) (low : depth ≤ 3) where
   -- it depends on the slots from a on
-  pub gathered-from : (f : MemoryRegion → Tree → List ℕ) (cs : List MemoryRegion) (a p : ℕ) (t u : Tree) → Pieces left q m a p cs
-      → ((j : ℕ) → a ≤ j → slotIn t j ≡ slotIn u j) → gathered left f cs t ≡ gathered left f cs u
+  pub gathered-from : (f : MemoryRegion → Tree → List ℕ) (cs : List MemoryRegion) (a p : ℕ) (t u : Tree) → Pieces depth q m a p cs
+      → ((j : ℕ) → a ≤ j → slotIn t j ≡ slotIn u j) → gathered depth f cs t ≡ gathered depth f cs u
   unfolding gathered
   gathered-from f [] a p t u all same = refl
   gathered-from f (c ∷ cs) a p t u all same =
-      let i : ℕ = entryIndex (3 - left) (c .start .0) in
-      let at = index-slot left (c .start .0) low in
+      let i : ℕ = entryIndex (3 - depth) (c .start .0) in
+      let at = index-slot depth (c .start .0) low in
       ap₂ (λ (x y : List ℕ). x ++ y) (ap (f c) (same i (omega (arith, all .0 .from))))
-      (gathered-from f cs (suc (slotAt left c)) (p + (c .end .0 - c .start .0)) t u (all .1) (λ j l. same j (omega (arith, all .0 .from))))
+      (gathered-from f cs (suc (slotAt depth c)) (p + (c .end .0 - c .start .0)) t u (all .1) (λ j l. same j (omega (arith, all .0 .from))))
 
-  pub sweep-before : (f : MemoryRegion → ℕ → Tree → Tree) (cs : List MemoryRegion) (a p j : ℕ) (t : Tree) → Pieces left q m a p cs → j < a
-      → slotIn (sweep left f cs p t) j ≡ slotIn t j
+  pub sweep-before : (f : MemoryRegion → ℕ → Tree → Tree) (cs : List MemoryRegion) (a p j : ℕ) (t : Tree) → Pieces depth q m a p cs → j < a
+      → slotIn (sweep depth f cs p t) j ≡ slotIn t j
   unfolding sweep
   sweep-before f [] a p j t all l = refl
   sweep-before f (c ∷ cs) a p j t all l =
-      let i : ℕ = entryIndex (3 - left) (c .start .0) in
-      let at = index-slot left (c .start .0) low in
-      sweep-before f cs (suc (slotAt left c)) (p + (c .end .0 - c .start .0)) j (atSlot i (f c p) t) (all .1) (omega (arith, all .0 .from))
+      let i : ℕ = entryIndex (3 - depth) (c .start .0) in
+      let at = index-slot depth (c .start .0) low in
+      sweep-before f cs (suc (slotAt depth c)) (p + (c .end .0 - c .start .0)) j (atSlot i (f c p) t) (all .1) (omega (arith, all .0 .from))
       ∙ at-others i j (f c p) t (λ e. omega (arith, all .0 .from))
 
   -- from a table after a sweep over the same chunks
   pub gathered-after : (f : MemoryRegion → ℕ → Tree → Tree) (g g′ : MemoryRegion → Tree → List ℕ) → ((c : MemoryRegion) (p : ℕ) (u : Tree) → g c (f c p u) ≡ g′ c u)
-      → (cs : List MemoryRegion) (a p : ℕ) (v : ℕ → Tree) → Pieces left q m a p cs → gathered left g cs (sweep left f cs p (node v)) ≡ gathered left g′ cs (node v)
+      → (cs : List MemoryRegion) (a p : ℕ) (v : ℕ → Tree) → Pieces depth q m a p cs → gathered depth g cs (sweep depth f cs p (node v)) ≡ gathered depth g′ cs (node v)
   unfolding gathered sweep
   gathered-after f g g′ each [] a p v all = refl
   gathered-after f g g′ each (c ∷ cs) a p v all =
-      let i : ℕ = entryIndex (3 - left) (c .start .0) in
+      let i : ℕ = entryIndex (3 - depth) (c .start .0) in
       let p′ : ℕ = p + (c .end .0 - c .start .0) in
-      let index = index-slot left (c .start .0) low in
+      let index = index-slot depth (c .start .0) low in
       ap₂ (λ (x y : List ℕ). x ++ y)
-      (ap (g c) (sweep-before f cs (suc (slotAt left c)) p′ i (atSlot i (f c p) (node v)) (all .1) (omega arith) ∙ at-slot i (f c p) v) ∙ each c p (v i)
+      (ap (g c) (sweep-before f cs (suc (slotAt depth c)) p′ i (atSlot i (f c p) (node v)) (all .1) (omega arith) ∙ at-slot i (f c p) v) ∙ each c p (v i)
       ∙ ap (g′ c) (sym (in-node v i)))
-      (ap (λ (t : Tree). gathered left g cs (sweep left f cs p′ t)) (at-node i (f c p) v)
-      ∙ gathered-after f g g′ each cs (suc (slotAt left c)) p′ (λ j. slotIn (atSlot i (f c p) (node v)) j) (all .1)
-      ∙ ap (gathered left g′ cs) (sym (at-node i (f c p) v))
-      ∙ gathered-from g′ cs (suc (slotAt left c)) p′ (atSlot i (f c p) (node v)) (node v) (all .1) (λ j l. at-others i j (f c p) (node v) (λ e. omega arith)))
+      (ap (λ (t : Tree). gathered depth g cs (sweep depth f cs p′ t)) (at-node i (f c p) v)
+      ∙ gathered-after f g g′ each cs (suc (slotAt depth c)) p′ (λ j. slotIn (atSlot i (f c p) (node v)) j) (all .1)
+      ∙ ap (gathered depth g′ cs) (sym (at-node i (f c p) v))
+      ∙ gathered-from g′ cs (suc (slotAt depth c)) p′ (atSlot i (f c p) (node v)) (node v) (all .1) (λ j l. at-others i j (f c p) (node v) (λ e. omega arith)))

@@ -52,129 +52,129 @@ use Rattle.theory_modify.specs.Notes.{putAll, put-none, put-one, put-app
 
 module _ {h : Handle} (placed : Placed h) where
   module _ {S : Type 0} (stateOf : S → St) (each : MemoryRegion → ℕ → S → S) (eachTree : MemoryRegion → ℕ → Tree → Tree) (count : MemoryRegion → ℕ → Tree → ℕ)
-      (left q k : ℕ) (m : Map) (notesOf : S → Numbered) (live : Bool) (numbers : MemoryRegion → Tree → List ℕ) where
+      (depth q k : ℕ) (m : Map) (notesOf : S → Numbered) (live : Bool) (numbers : MemoryRegion → Tree → List ℕ) where
     -- each chunk puts the numbers of its slot
     abbrev EachPuts : Type 0
-    EachPuts = (c : MemoryRegion) (p : ℕ) (x : S) → Piece left (child q (slotAt left c)) (chunkMap m c p) → Ready placed (stateOf x) left k
-        → let t = slotShows h (stateOf x) left k (entryIndex (3 - left) (c .start .0)) in
+    EachPuts = (c : MemoryRegion) (p : ℕ) (x : S) → Piece depth (child q (slotAt depth c)) (chunkMap m c p) → Ready placed (stateOf x) depth k
+        → let t = slotShows h (stateOf x) depth k (entryIndex (3 - depth) (c .start .0)) in
         count c p t ≤ free (stateOf x .ledger) → notesOf (each c p x) ≡ putAll live (numbers c t) (notesOf x)
 
-    enough : (c : MemoryRegion) (cs : List MemoryRegion) (p : ℕ) (x : S) → tallied left count (c ∷ cs) p (treeFrom h (stateOf x) left k) ≤ free (stateOf x .ledger)
-        → count c p (slotShows h (stateOf x) left k (entryIndex (3 - left) (c .start .0))) ≤ free (stateOf x .ledger)
+    enough : (c : MemoryRegion) (cs : List MemoryRegion) (p : ℕ) (x : S) → tallied depth count (c ∷ cs) p (treeFrom h (stateOf x) depth k) ≤ free (stateOf x .ledger)
+        → count c p (slotShows h (stateOf x) depth k (entryIndex (3 - depth) (c .start .0))) ≤ free (stateOf x .ledger)
     unfolding tallied
     enough c cs p x room =
-        let here = ap (count c p) (slot-of h (stateOf x) left k (entryIndex (3 - left) (c .start .0))) in
+        let here = ap (count c p) (slot-of h (stateOf x) depth k (entryIndex (3 - depth) (c .start .0))) in
         omega arith
 
-    loop-puts : left ≤ 3 → EachWorks placed stateOf each eachTree count left q k m → EachPuts → (cs : List MemoryRegion) (a p : ℕ) (x : S) → Pieces left q m a p cs
-        → Ready placed (stateOf x) left k → let t = treeFrom h (stateOf x) left k in
-        tallied left count cs p t ≤ free (stateOf x .ledger) → notesOf (through each cs p x) ≡ putAll live (gathered left numbers cs t) (notesOf x)
+    loop-puts : depth ≤ 3 → EachWorks placed stateOf each eachTree count depth q k m → EachPuts → (cs : List MemoryRegion) (a p : ℕ) (x : S) → Pieces depth q m a p cs
+        → Ready placed (stateOf x) depth k → let t = treeFrom h (stateOf x) depth k in
+        tallied depth count cs p t ≤ free (stateOf x .ledger) → notesOf (through each cs p x) ≡ putAll live (gathered depth numbers cs t) (notesOf x)
     unfolding through gathered
     loop-puts low works puts [] a p x all R room = sym (put-none live (notesOf x))
     loop-puts low works puts (c ∷ cs) a p x all R room =
-        let i : ℕ = entryIndex (3 - left) (c .start .0) in
+        let i : ℕ = entryIndex (3 - depth) (c .start .0) in
         let p′ : ℕ = p + (c .end .0 - c .start .0) in
-        let t : Tree = treeFrom h (stateOf x) left k in
-        let first = stepped placed stateOf each eachTree count left q k m low works c cs a p x all R room in
-        loop-puts low works puts cs (suc (slotAt left c)) p′ (each c p x) (all .1) (first .ready) (first .room)
+        let t : Tree = treeFrom h (stateOf x) depth k in
+        let first = stepped placed stateOf each eachTree count depth q k m low works c cs a p x all R room in
+        loop-puts low works puts cs (suc (slotAt depth c)) p′ (each c p x) (all .1) (first .ready) (first .room)
         ∙ ap₂ (putAll live)
-        (gathered-from left q m low numbers cs (suc (slotAt left c)) p′ (treeFrom h (stateOf (each c p x)) left k) t (all .1) (first .same))
+        (gathered-from depth q m low numbers cs (suc (slotAt depth c)) p′ (treeFrom h (stateOf (each c p x)) depth k) t (all .1) (first .same))
         (puts c p x (all .0 .piece) R (enough c cs p x room)
-        ∙ ap (λ (u : Tree). putAll live (numbers c u) (notesOf x)) (sym (slot-of h (stateOf x) left k i)))
-        ∙ sym (put-append live (numbers c (slotIn t i)) (gathered left numbers cs t) (notesOf x))
+        ∙ ap (λ (u : Tree). putAll live (numbers c u) (notesOf x)) (sym (slot-of h (stateOf x) depth k i)))
+        ∙ sym (put-append live (numbers c (slotIn t i)) (gathered depth numbers cs t) (notesOf x))
 
   -- ---- a table's own entries
 
   abbrev ofNoted : Noted → Numbered
   ofNoted n = numbered (n .count) (n .list)
 
-  module _ (left k : ℕ) (e : Edit) (ledger : List ℕ) (c : MemoryRegion) (n : Noted) (R : Ready placed (st (n .words) ledger) left k) where
+  module _ (depth k : ℕ) (e : Edit) (ledger : List ℕ) (c : MemoryRegion) (n : Noted) (R : Ready placed (st (n .words) ledger) depth k) where
     abbrev s : St
     s = st (n .words) ledger
 
     abbrev i : ℕ
-    i = entryIndex (3 - left) (c .start .0)
+    i = entryIndex (3 - depth) (c .start .0)
 
     abbrev w : ℕ
     w = wordAt s k i
 
     abbrev new : ℕ
-    new = editWord (3 - left) e w
+    new = editWord (3 - depth) e w
 
     abbrev t : Tree
-    t = slotShows h s left k i
+    t = slotShows h s depth k i
 
     abbrev Puts : Type 0
-    Puts = ofNoted (ownChunk (3 - left) k e c n) ≡ putAll (e .live) (leafNumbers (e .set) (e .clear) c t) (ofNoted n)
+    Puts = ofNoted (ownChunk k (3 - depth) e c n) ≡ putAll (e .live) (leafNumbers (e .set) (e .clear) c t) (ofNoted n)
 
     inside : i < 512
-    inside = slot-below (3 - left) (c .start .0)
+    inside = slot-below (3 - depth) (c .start .0)
 
     puts-none : new ≡ w → leafNumbers (e .set) (e .clear) c t ≡ [] → Puts
     puts-none same none =
-        ap ofNoted (sym (own-same (3 - left) k e c n refl refl same)) ∙ sym (ap (λ (xs : List ℕ). putAll (e .live) xs (ofNoted n)) none ∙ put-none (e .live) (ofNoted n))
+        ap ofNoted (sym (own-same k (3 - depth) e c n refl refl same)) ∙ sym (ap (λ (xs : List ℕ). putAll (e .live) xs (ofNoted n)) none ∙ put-none (e .live) (ofNoted n))
 
     module _ (shows : t ≡ leaf w) where
-      fine : Fine left w
-      fine = subst (FineTree left) shows (slot-fine placed (R .pool) left k i (R .used) (R .low) inside)
+      fine : Fine depth w
+      fine = subst (FineTree depth) shows (slot-fine placed (R .pool) depth k i (R .used) (R .low) inside)
 
       numbers-are : leafNumbers (e .set) (e .clear) c t ≡ changedNumber (e .set) (e .clear) c w
       numbers-are = ap (leafNumbers (e .set) (e .clear) c) shows ∙ leaf-number (e .set) (e .clear) c w
 
       leaf-puts : Puts
-      leaf-puts = byBool (valid w) (λ v. go v (valid-edited e w left (omega (arith, R .low)) fine v) (eq-or new w))
-          (λ v. puts-none (hole-stays e w (3 - left) v) (numbers-are ∙ number-hole (e .set) (e .clear) c w v))
+      leaf-puts = byBool (valid w) (λ v. go v (valid-edited e w depth (omega (arith, R .low)) fine v) (eq-or new w))
+          (λ v. puts-none (hole-stays e w (3 - depth) v) (numbers-are ∙ number-hole (e .set) (e .clear) c w v))
         where
           go : valid w ≡ true → new ≡ edited (e .set) (e .clear) w → (new ≡ w) ⊎ (new ≢ w) → Puts
           go v is (inl same) = puts-none same (numbers-are ∙ number-same (e .set) (e .clear) c w v (sym is ∙ same))
           go v is (inr other) =
               let l : Numbered = putNumber (e .live) _ (n .count) (n .list) in
-              ap ofNoted (sym (own-changed (3 - left) k e c n refl refl other refl {count = l .count} {list = l .list} refl))
+              ap ofNoted (sym (own-changed k (3 - depth) e c n refl refl other refl {count = l .count} {list = l .list} refl))
               ∙ sym (ap (λ (xs : List ℕ). putAll (e .live) xs (ofNoted n)) (numbers-are ∙ number-changed (e .set) (e .clear) c w v (λ q. other (is ∙ q)))
               ∙ put-one (e .live) _ (ofNoted n))
 
-  own-puts : (left k : ℕ) (e : Edit) (ledger : List ℕ) (c : MemoryRegion) (n : Noted) (R : Ready placed (st (n .words) ledger) left k) → Puts left k e ledger c n R
+  own-puts : (depth k : ℕ) (e : Edit) (ledger : List ℕ) (c : MemoryRegion) (n : Noted) (R : Ready placed (st (n .words) ledger) depth k) → Puts depth k e ledger c n R
   own-puts zero k e ledger c n R =
       let old : ¬ (TableWord (levelAt (st (n .words) ledger) k) (w 0 k e ledger c n R)) = λ table. omega (arith, R .low, table .0) in
       leaf-puts 0 k e ledger c n R
       (slot-leaf (codecOf h placed) (view (st (n .words) ledger)) 0 k (i 0 k e ledger c n R) (R .low)
       (word-in (st (n .words) ledger) k (i 0 k e ledger c n R) (inside 0 k e ledger c n R)) old)
-  own-puts (suc left) k e ledger c n R = go (holds placed R (i (suc left) k e ledger c n R) (inside (suc left) k e ledger c n R))
+  own-puts (suc depth) k e ledger c n R = go (holds placed R (i (suc depth) k e ledger c n R) (inside (suc depth) k e ledger c n R))
     where
-      go : Holds placed (st (n .words) ledger) left k (i (suc left) k e ledger c n R) → Puts (suc left) k e ledger c n R
+      go : Holds placed (st (n .words) ledger) depth k (i (suc depth) k e ledger c n R) → Puts (suc depth) k e ledger c n R
       go (holds-table j r both leads shows) =
-          puts-none (suc left) k e ledger c n R (table-stays (3 - suc left) e _ (omega (arith, R .low)) both)
+          puts-none (suc depth) k e ledger c n R (table-stays (3 - suc depth) e _ (omega (arith, R .low)) both)
           (ap (leafNumbers (e .set) (e .clear) c) shows ∙ leaf-none (e .set) (e .clear) c _)
-      go (holds-leaf old other shows) = leaf-puts (suc left) k e ledger c n R shows
+      go (holds-leaf old other shows) = leaf-puts (suc depth) k e ledger c n R shows
 
   abbrev pub ofWork : Work → Numbered
   ofWork w = numbered (w .count) (w .list)
 
-  own-pass-puts : (left q k p : ℕ) (e : Edit) (w : Work) → left ≤ 3 → Bits h e → Area left q (areaOf e p) → Ready placed (w .state) left k
-      → ofWork (ownWork (3 - left) k e w)
-      ≡ putAll (e .live) (gathered left (leafNumbers (e .set) (e .clear)) (chunks (3 - left) (e .region .start .0) (e .region .end .0)) (treeFrom h (w .state) left k)) (ofWork w)
+  own-pass-puts : (depth q k p : ℕ) (e : Edit) (w : Work) → depth ≤ 3 → Bits h e → Area depth q (areaOf e p) → Ready placed (w .state) depth k
+      → ofWork (ownWork k (3 - depth) e w)
+      ≡ putAll (e .live) (gathered depth (leafNumbers (e .set) (e .clear)) (chunks (3 - depth) (e .region .start .0) (e .region .end .0)) (treeFrom h (w .state) depth k)) (ofWork w)
   unfolding ownWork ownRange
-  own-pass-puts left q k p e w low bits area R =
-      let cs : List MemoryRegion = chunks (3 - left) (e .region .start .0) (e .region .end .0) in
-      let none = none-taken left cs p (treeFrom h (w .state) left k) in
+  own-pass-puts depth q k p e w low bits area R =
+      let cs : List MemoryRegion = chunks (3 - depth) (e .region .start .0) (e .region .end .0) in
+      let none = none-taken depth cs p (treeFrom h (w .state) depth k) in
       let n : Noted = noted (w .state .words) (w .list) (w .count) in
-      ap ofNoted (sym (through-chunks (3 - left) (ownChunk (3 - left) k e) (e .region) p n))
-      ∙ loop-puts (λ (x : Noted). st (x .words) (w .state .ledger)) (λ c x y. ownChunk (3 - left) k e c y) (λ c x u. ownTo (e .set) (e .clear) u) (λ c x u. 0)
-      left q k (areaOf e p) ofNoted (e .live) (leafNumbers (e .set) (e .clear)) low
-      (λ c x y piece ready enough. own-works placed left k e (w .state .ledger) bits c y ready) (λ c x y piece ready enough. own-puts left k e (w .state .ledger) c y ready)
-      cs 0 p n (pieces left q (areaOf e p) low p (e .region) area) R (omega arith)
+      ap ofNoted (sym (through-chunks (3 - depth) (ownChunk k (3 - depth) e) (e .region) p n))
+      ∙ loop-puts (λ (x : Noted). st (x .words) (w .state .ledger)) (λ c x y. ownChunk k (3 - depth) e c y) (λ c x u. ownTo (e .set) (e .clear) u) (λ c x u. 0)
+      depth q k (areaOf e p) ofNoted (e .live) (leafNumbers (e .set) (e .clear)) low
+      (λ c x y piece ready enough. own-works placed depth k e (w .state .ledger) bits c y ready) (λ c x y piece ready enough. own-puts depth k e (w .state .ledger) c y ready)
+      cs 0 p n (pieces depth q (areaOf e p) low p (e .region) area) R (omega arith)
 
   -- ---- the chunks that go down
 
   abbrev pub Lists : ℕ → Type 0
-  Lists left = (q k p : ℕ) (e : Edit) (w : Work) → Bits h e → Area left q (areaOf e p) → Ready placed (w .state) left k → let t = treeFrom h (w .state) left k in
-      editTakes e left p t ≤ free (w .state .ledger)
-      → ofWork (modifyRange left h k e w) ≡ putAll (e .live) (tableNumbers (e .set) (e .clear) left (e .region) t) (ofWork w)
+  Lists depth = (q k p : ℕ) (e : Edit) (w : Work) → Bits h e → Area depth q (areaOf e p) → Ready placed (w .state) depth k → let t = treeFrom h (w .state) depth k in
+      editTakes e depth p t ≤ free (w .state .ledger)
+      → ofWork (modifyRange depth h k e w) ≡ putAll (e .live) (tableNumbers (e .set) (e .clear) depth (e .region) t) (ofWork w)
 
-  module _ (left q k : ℕ) (e : Edit) (bits : Bits h e) (edits : Edits placed left) (lists : Lists left) (c : MemoryRegion) (p : ℕ) (x : Work)
-      (piece : Piece (suc left) q (areaOf (chunkEdit e c) p)) (R : Ready placed (x .state) (suc left) k) where
+  module _ (depth q k : ℕ) (e : Edit) (bits : Bits h e) (edits : Edits placed depth) (lists : Lists depth) (c : MemoryRegion) (p : ℕ) (x : Work)
+      (piece : Piece (suc depth) q (areaOf (chunkEdit e c) p)) (R : Ready placed (x .state) (suc depth) k) where
     abbrev level : ℕ
-    level = 3 - suc left
+    level = 3 - suc depth
 
     abbrev j : ℕ
     j = entryIndex level (c .start .0)
@@ -183,32 +183,32 @@ module _ {h : Handle} (placed : Placed h) where
     y = wordAt (x .state) k j
 
     abbrev u : Tree
-    u = slotShows h (x .state) (suc left) k j
+    u = slotShows h (x .state) (suc depth) k j
 
     abbrev count : Tree → ℕ
-    count v = needed (documentModify (e .set) (e .clear)) (suc left) c p v
+    count v = needed (documentModify (e .set) (e .clear)) (suc depth) c p v
 
     abbrev table : MemoryRegion → Tree → List ℕ
-    table d v = tableNumbers (e .set) (e .clear) left d v
+    table d v = tableNumbers (e .set) (e .clear) depth d v
 
     abbrev lower : Tree → List ℕ
-    lower v = lowerNumbers (e .set) (e .clear) table left c v
+    lower v = lowerNumbers (e .set) (e .clear) table depth c v
 
     abbrev Downs : Type 0
-    Downs = ofWork (stepAt level h k e c x) ≡ putAll (e .live) (lower u) (ofWork x)
+    Downs = ofWork (stepAt h k level e c x) ≡ putAll (e .live) (lower u) (ofWork x)
 
     slot : j < 512
     slot = slot-below level (c .start .0)
 
-    puts-down : count u ≤ free (x .state .ledger) → own level c y ≡ false → lower u ≡ table c (opened left u)
-        → count u ≡ splits u + editTakes (chunkEdit e c) left p (opened left u) → Downs
+    puts-down : count u ≤ free (x .state .ledger) → own level c y ≡ false → lower u ≡ table c (opened depth u)
+        → count u ≡ splits u + editTakes (chunkEdit e c) depth p (opened depth u) → Downs
     puts-down room goes numbers all =
         let O = opens placed R j slot (omega arith) in
         let fewer = O .room in
         let w : Work = work (O .state) (x .list) (x .count) in
-        ap ofWork (sym (goes-down placed left q k e bits edits c p x piece R O goes))
+        ap ofWork (sym (goes-down placed depth q k e bits edits c p x piece R O goes))
         ∙ lists q (O .table) p (chunkEdit e c) w (record { set = bits .set; clear = bits .clear }) (record { inside = piece .inside; room = piece .room }) (O .ready)
-        (subst (λ (v : Tree). editTakes (chunkEdit e c) left p v ≤ free (O .state .ledger)) (sym (O .shows)) (omega arith))
+        (subst (λ (v : Tree). editTakes (chunkEdit e c) depth p v ≤ free (O .state .ledger)) (sym (O .shows)) (omega arith))
         ∙ ap (λ (xs : List ℕ). putAll (e .live) xs (ofWork x)) (ap (table c) (O .shows) ∙ sym numbers)
 
     down-puts : count u ≤ free (x .state .ledger) → Downs
@@ -221,35 +221,35 @@ module _ {h : Handle} (placed : Placed h) where
         clear : ℕ
         clear = e .clear
 
-        go : Holds placed (x .state) left k j → Downs
+        go : Holds placed (x .state) depth k j → Downs
         go (holds-table a r both leads shows) =
             puts-down room (sym (own-table level c y both))
-            (ap lower shows ∙ lower-into set clear table left c _ ∙ sym (ap (λ (v : Tree). table c (opened left v)) shows))
-            (ap count shows ∙ takes-into set clear left c p _ ∙ sym (ap (λ (v : Tree). splits v + editTakes (chunkEdit e c) left p (opened left v)) shows))
+            (ap lower shows ∙ lower-into set clear table depth c _ ∙ sym (ap (λ (v : Tree). table c (opened depth v)) shows))
+            (ap count shows ∙ takes-into set clear depth c p _ ∙ sym (ap (λ (v : Tree). splits v + editTakes (chunkEdit e c) depth p (opened depth v)) shows))
         go (holds-leaf old other shows) = byBool (whole level c)
-            (λ all. ap ofWork (sym (step-own h level k e c x refl (sym (own-leaf level c y other) ∙ all)))
-            ∙ sym (ap (λ (xs : List ℕ). putAll (e .live) xs (ofWork x)) (ap lower shows ∙ lower-whole set clear table left c y all) ∙ put-none (e .live) (ofWork x)))
+            (λ all. ap ofWork (sym (step-own h k level e c x refl (sym (own-leaf level c y other) ∙ all)))
+            ∙ sym (ap (λ (xs : List ℕ). putAll (e .live) xs (ofWork x)) (ap lower shows ∙ lower-whole set clear table depth c y all) ∙ put-none (e .live) (ofWork x)))
             (λ part. puts-down room (sym (own-leaf level c y other) ∙ part)
-            (ap lower shows ∙ lower-part set clear table left c y part ∙ sym (ap (λ (v : Tree). table c (opened left v)) shows))
-            (ap count shows ∙ takes-part set clear left c p y part ∙ sym (ap (λ (v : Tree). splits v + editTakes (chunkEdit e c) left p (opened left v)) shows)))
+            (ap lower shows ∙ lower-part set clear table depth c y part ∙ sym (ap (λ (v : Tree). table c (opened depth v)) shows))
+            (ap count shows ∙ takes-part set clear depth c p y part ∙ sym (ap (λ (v : Tree). splits v + editTakes (chunkEdit e c) depth p (opened depth v)) shows)))
 
-  down-pass-puts : (left q k p : ℕ) (e : Edit) (w : Work) → suc left ≤ 3 → Edits placed left → Lists left → Bits h e → Area (suc left) q (areaOf e p)
-      → Ready placed (w .state) (suc left) k → let t = treeFrom h (w .state) (suc left) k in let cs = chunks (3 - suc left) (e .region .start .0) (e .region .end .0) in
-      editTakes e (suc left) p t ≤ free (w .state .ledger)
-      → ofWork (eachChunk (3 - suc left) (stepAt (3 - suc left) h k e) (e .region) w)
-      ≡ putAll (e .live) (gathered (suc left) (lowerNumbers (e .set) (e .clear) (λ d v. tableNumbers (e .set) (e .clear) left d v) left) cs t) (ofWork w)
+  down-pass-puts : (depth q k p : ℕ) (e : Edit) (w : Work) → suc depth ≤ 3 → Edits placed depth → Lists depth → Bits h e → Area (suc depth) q (areaOf e p)
+      → Ready placed (w .state) (suc depth) k → let t = treeFrom h (w .state) (suc depth) k in let cs = chunks (3 - suc depth) (e .region .start .0) (e .region .end .0) in
+      editTakes e (suc depth) p t ≤ free (w .state .ledger)
+      → ofWork (eachChunk (3 - suc depth) (stepAt h k (3 - suc depth) e) (e .region) w)
+      ≡ putAll (e .live) (gathered (suc depth) (lowerNumbers (e .set) (e .clear) (λ d v. tableNumbers (e .set) (e .clear) depth d v) depth) cs t) (ofWork w)
   unfolding neededTable
-  down-pass-puts left q k p e w low edits lists bits area R room =
-      let cs : List MemoryRegion = chunks (3 - suc left) (e .region .start .0) (e .region .end .0) in
-      ap ofWork (sym (through-chunks (3 - suc left) (stepAt (3 - suc left) h k e) (e .region) p w))
-      ∙ loop-puts (λ (x : Work). x .state) (λ c x y. stepAt (3 - suc left) h k e c y) (downTo (e .set) (e .clear) left)
-      (λ c x v. needed (documentModify (e .set) (e .clear)) (suc left) c x v) (suc left) q k (areaOf e p) ofWork (e .live)
-      (lowerNumbers (e .set) (e .clear) (λ d v. tableNumbers (e .set) (e .clear) left d v) left) low
-      (λ c x y piece ready enough. down-works placed left (child q (slotAt (suc left) c)) k e bits edits c x y
+  down-pass-puts depth q k p e w low edits lists bits area R room =
+      let cs : List MemoryRegion = chunks (3 - suc depth) (e .region .start .0) (e .region .end .0) in
+      ap ofWork (sym (through-chunks (3 - suc depth) (stepAt h k (3 - suc depth) e) (e .region) p w))
+      ∙ loop-puts (λ (x : Work). x .state) (λ c x y. stepAt h k (3 - suc depth) e c y) (downTo (e .set) (e .clear) depth)
+      (λ c x v. needed (documentModify (e .set) (e .clear)) (suc depth) c x v) (suc depth) q k (areaOf e p) ofWork (e .live)
+      (lowerNumbers (e .set) (e .clear) (λ d v. tableNumbers (e .set) (e .clear) depth d v) depth) low
+      (λ c x y piece ready enough. down-works placed depth (child q (slotAt (suc depth) c)) k e bits edits c x y
       (record { inside = piece .inside; some = piece .some; room = piece .room }) ready enough)
-      (λ c x y piece ready enough. down-puts left (child q (slotAt (suc left) c)) k e bits edits lists c x y
+      (λ c x y piece ready enough. down-puts depth (child q (slotAt (suc depth) c)) k e bits edits lists c x y
       (record { inside = piece .inside; some = piece .some; room = piece .room }) ready enough)
-      cs 0 p w (pieces (suc left) q (areaOf e p) low p (e .region) area) R room
+      cs 0 p w (pieces (suc depth) q (areaOf e p) low p (e .region) area) R room
 
   -- ---- a table
 
@@ -257,35 +257,35 @@ module _ {h : Handle} (placed : Placed h) where
   unfolding tableNumbers
   lists-pages q k p e w bits area R room =
       let cs : List MemoryRegion = chunks 3 (e .region .start .0) (e .region .end .0) in
-      ap ofWork (sym (modify-pages 3 h k e w (omega arith) (omega arith)))
+      ap ofWork (sym (modify-pages h k 3 e w (omega arith) (omega arith)))
       ∙ own-pass-puts 0 q k p e w (omega arith) bits area R
       ∙ ap (λ (f : MemoryRegion → Tree → List ℕ). putAll (e .live) (gathered 0 f cs (treeFrom h (w .state) 0 k)) (ofWork w)) (λ i c v. leaf-page (e .set) (e .clear) c v i)
 
-  lists-up : (left : ℕ) → suc left ≤ 3 → Edits placed left → Lists left → Lists (suc left)
+  lists-up : (depth : ℕ) → suc depth ≤ 3 → Edits placed depth → Lists depth → Lists (suc depth)
   unfolding tableNumbers
-  lists-up left low edits lists q k p e w bits area R room =
-      let level : ℕ = 3 - suc left in
-      let t : Tree = treeFrom h (w .state) (suc left) k in
-      let is : t ≡ node (λ i. slotShows h (w .state) (suc left) k i) = treeAt-node (childOf (h .base .0)) (suc left) (slotWord (w .state)) k in
-      let mid : Work = eachChunk level (stepAt level h k e) (e .region) w in
-      let D = down-pass placed left q k p e w low edits bits area R room in
+  lists-up depth low edits lists q k p e w bits area R room =
+      let level : ℕ = 3 - suc depth in
+      let t : Tree = treeFrom h (w .state) (suc depth) k in
+      let is : t ≡ node (λ i. slotShows h (w .state) (suc depth) k i) = treeAt-node (childOf (h .base .0)) (suc depth) (slotWord (w .state)) k in
+      let mid : Work = eachChunk level (stepAt h k level e) (e .region) w in
+      let D = down-pass placed depth q k p e w low edits bits area R room in
       let cs : List MemoryRegion = chunks level (e .region .start .0) (e .region .end .0) in
-      let all = pieces (suc left) q (areaOf e p) low p (e .region) area in
-      let up : 3 - level ≡ suc left = omega arith in
-      let whole : ownWork level k e mid ≡ modifyRange (suc left) h k e w = modify-open level h k e w (omega arith) ∙ ap (λ (d : ℕ). modifyRange d h k e w) up in
-      let lower : List ℕ = gathered (suc left) (lowerNumbers (e .set) (e .clear) (λ d v. tableNumbers (e .set) (e .clear) left d v) left) cs t in
-      let after : gathered (suc left) (leafNumbers (e .set) (e .clear)) cs (treeFrom h (mid .state) (suc left) k)
-      ≡ gathered (suc left) (ownNumbers (e .set) (e .clear) (suc left)) cs t =
-      ap (gathered (suc left) (leafNumbers (e .set) (e .clear)) cs) (D .work .tree ∙ ap (sweep (suc left) (downTo (e .set) (e .clear) left) cs p) is)
-      ∙ gathered-after (suc left) q (areaOf e p) low (downTo (e .set) (e .clear) left) (leafNumbers (e .set) (e .clear)) (ownNumbers (e .set) (e .clear) (suc left))
-      (leaf-after (e .set) (e .clear) left) cs 0 p _ all
-      ∙ ap (gathered (suc left) (ownNumbers (e .set) (e .clear) (suc left)) cs) (sym is) in
+      let all = pieces (suc depth) q (areaOf e p) low p (e .region) area in
+      let up : 3 - level ≡ suc depth = omega arith in
+      let whole : ownWork k level e mid ≡ modifyRange (suc depth) h k e w = modify-open h k level e w (omega arith) ∙ ap (λ (d : ℕ). modifyRange d h k e w) up in
+      let lower : List ℕ = gathered (suc depth) (lowerNumbers (e .set) (e .clear) (λ d v. tableNumbers (e .set) (e .clear) depth d v) depth) cs t in
+      let after : gathered (suc depth) (leafNumbers (e .set) (e .clear)) cs (treeFrom h (mid .state) (suc depth) k)
+      ≡ gathered (suc depth) (ownNumbers (e .set) (e .clear) (suc depth)) cs t =
+      ap (gathered (suc depth) (leafNumbers (e .set) (e .clear)) cs) (D .work .tree ∙ ap (sweep (suc depth) (downTo (e .set) (e .clear) depth) cs p) is)
+      ∙ gathered-after (suc depth) q (areaOf e p) low (downTo (e .set) (e .clear) depth) (leafNumbers (e .set) (e .clear)) (ownNumbers (e .set) (e .clear) (suc depth))
+      (leaf-after (e .set) (e .clear) depth) cs 0 p _ all
+      ∙ ap (gathered (suc depth) (ownNumbers (e .set) (e .clear) (suc depth)) cs) (sym is) in
       ap ofWork (sym whole)
-      ∙ own-pass-puts (suc left) q k p e mid low bits area (worked-ready placed R D)
-      ∙ ap₂ (putAll (e .live)) after (down-pass-puts left q k p e w low edits lists bits area R room)
-      ∙ sym (put-append (e .live) lower (gathered (suc left) (ownNumbers (e .set) (e .clear) (suc left)) cs t) (ofWork w))
+      ∙ own-pass-puts (suc depth) q k p e mid low bits area (worked-ready placed R D)
+      ∙ ap₂ (putAll (e .live)) after (down-pass-puts depth q k p e w low edits lists bits area R room)
+      ∙ sym (put-append (e .live) lower (gathered (suc depth) (ownNumbers (e .set) (e .clear) (suc depth)) cs t) (ofWork w))
 
   -- WHAT A MODIFY OF A TABLE LISTS
-  pub range-lists : (left : ℕ) → left ≤ 3 → Lists left
+  pub range-lists : (depth : ℕ) → depth ≤ 3 → Lists depth
   range-lists zero low = lists-pages
-  range-lists (suc left) low = lists-up left low (range-edits placed left (omega arith)) (range-lists left (omega arith))
+  range-lists (suc depth) low = lists-up depth low (range-edits placed depth (omega arith)) (range-lists depth (omega arith))

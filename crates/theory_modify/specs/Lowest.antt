@@ -44,7 +44,7 @@ abbrev endsOf : Handle → Tree → ℕ → Ends
 endsOf h t y = walkTree (slotOf y) (suc (leftOf h)) t
 
 reach-ends : {h : Handle} {s : St} → Shaped h s → SoundPool h s → (va : ℕ)
-    → reachOf h s va ≡ at (3 - endsOf h (rootTree h s) (va / 4096) .left) (endsOf h (rootTree h s) (va / 4096) .word)
+    → reachOf h s va ≡ at (3 - endsOf h (rootTree h s) (va / 4096) .depth) (endsOf h (rootTree h s) (va / 4096) .word)
 unfolding met
 reach-ends {h} {s} shape P va =
     reach-tree shape P va
@@ -99,37 +99,37 @@ module _ {h : Handle} {c : Call} {s : St} (passed : Passed h c s) where
     abbrev x : Ends
     x = ends (va / 4096)
 
-    low-end : x .left ≤ 3
+    low-end : x .depth ≤ 3
     low-end = omega (arith, ends-fine (va / 4096) .low)
 
-    reached : reachOf h s va ≡ at (3 - x .left) (x .word)
+    reached : reachOf h s va ≡ at (3 - x .depth) (x .word)
     reached = reach-ends (passed .shape) (passed .pool) va
 
-    new-word : (w : ℕ) → newWord (e .set) (e .clear) (3 - x .left) w ≡ editWord (3 - x .left) e w
-    new-word w = new-is (3 - x .left) e w
+    new-word : (w : ℕ) → newWord (e .set) (e .clear) (3 - x .depth) w ≡ editWord (3 - x .depth) e w
+    new-word w = new-is (3 - x .depth) e w
 
     -- an address where the call breaks the rule is one of a page that does
     to-page : (w : ℕ) → Breaks h c s va w → Broken h (e .set) (e .clear) lo hi x (va / 4096) w
     to-page w B = record { word = at-word same; valid = valid-of w (B .stands .valid); rule = either (B .rule) }
       where
-        same : at (3 - x .left) (x .word) ≡ at (B .level) w
+        same : at (3 - x .depth) (x .word) ≡ at (B .level) w
         same = sym reached ∙ B .stands .ends
 
         either : (¬ (Covered c (B .level) va)) ⊎ (mayChange h w (editWord (B .level) e w) ≡ false)
-            → (¬ (Within lo hi (x .left) (va / 4096))) ⊎ (mayChange h w (newWord (e .set) (e .clear) (3 - x .left) w) ≡ false)
-        either (inl split) = inl (λ W. split (subst (λ (l : ℕ). Covered c l va) (at-level same) (within-covered (x .left) va low-end W)))
+            → (¬ (Within lo hi (x .depth) (va / 4096))) ⊎ (mayChange h w (newWord (e .set) (e .clear) (3 - x .depth) w) ≡ false)
+        either (inl split) = inl (λ W. split (subst (λ (l : ℕ). Covered c l va) (at-level same) (within-covered (x .depth) va low-end W)))
         either (inr bits) = inr (ap (mayChange h w) (new-word w ∙ ap (λ (l : ℕ). editWord l e w) (at-level same)) ∙ bits)
 
     of-page : (w : ℕ) → InRegion c va → Broken h (e .set) (e .clear) lo hi x (va / 4096) w → Breaks h c s va w
     of-page w in-region B = record {
-      level = 3 - x .left;
-      stands = record { region = in-region; ends = reached ∙ ap (at (3 - x .left)) (B .word); valid = valid-yes w (B .valid) };
+      level = 3 - x .depth;
+      stands = record { region = in-region; ends = reached ∙ ap (at (3 - x .depth)) (B .word); valid = valid-yes w (B .valid) };
       rule = either (B .rule);
     }
       where
-        either : (¬ (Within lo hi (x .left) (va / 4096))) ⊎ (mayChange h w (newWord (e .set) (e .clear) (3 - x .left) w) ≡ false)
-            → (¬ (Covered c (3 - x .left) va)) ⊎ (mayChange h w (editWord (3 - x .left) e w) ≡ false)
-        either (inl split) = inl (λ C. split (covered-within (x .left) va low-end C))
+        either : (¬ (Within lo hi (x .depth) (va / 4096))) ⊎ (mayChange h w (newWord (e .set) (e .clear) (3 - x .depth) w) ≡ false)
+            → (¬ (Covered c (3 - x .depth) va)) ⊎ (mayChange h w (editWord (3 - x .depth) e w) ≡ false)
+        either (inl split) = inl (λ C. split (covered-within (x .depth) va low-end C))
         either (inr bits) = inr (ap (mayChange h w) (sym (new-word w)) ∙ bits)
 
   -- ---- the survey
@@ -215,23 +215,23 @@ module _ {h : Handle} {c : Call} {s : St} (passed : Passed h c s) where
         go (inr a) b = absurd (split (λ C. omega (arith, C .from)))
         go (inl a) (inr b) = absurd (split (λ C. omega (arith, C .upto)))
 
-    same-end : at (3 - ends (va / 4096) .left) (ends (va / 4096) .word) ≡ at level w
+    same-end : at (3 - ends (va / 4096) .depth) (ends (va / 4096) .word) ≡ at level w
     same-end = sym (reached va) ∙ S .ends
 
     -- the tree after the modify has the edited word at the same level
-    pub kept-walk : endsOf h (treeAfter h c s) (va / 4096) ≡ record { word = editWord level e w; left = ends (va / 4096) .left }
+    pub kept-walk : endsOf h (treeAfter h c s) (va / 4096) ≡ record { word = editWord level e w; depth = ends (va / 4096) .depth }
     kept-walk =
         let y : ℕ = va / 4096 in
         let page = region-page passed va (S .region) in
         let v : valid (ends y .word) ≡ true = ap valid (at-word same-end) ∙ valid-of w (S .valid) in
-        let W : Within lo hi (ends y .left) y = covered-within (ends y .left) va (low-end va) (subst (λ (l : ℕ). Covered c l va) (sym (at-level same-end)) kept-covered) in
+        let W : Within lo hi (ends y .depth) y = covered-within (ends y .depth) va (low-end va) (subst (λ (l : ℕ). Covered c l va) (sym (at-level same-end)) kept-covered) in
         let new : edited (e .set) (e .clear) (ends y .word) ≡ editWord level e w =
-        sym (valid-edited e (ends y .word) (ends y .left) (low-end va) (ends-fine y .fine) v) ∙ ap₂ (λ (l x : ℕ). editWord l e x) (at-level same-end) (at-word same-end) in
+        sym (valid-edited e (ends y .word) (ends y .depth) (low-end va) (ends-fine y .fine) v) ∙ ap₂ (λ (l x : ℕ). editWord l e x) (at-level same-end) (at-word same-end) in
         modify-stays (leftOf h) (rootIn h) (pagesOf c) (rootTree h s) y (root-fine (shaped-placed (passed .shape)) (passed .pool)) (region-spans passed va (S .region))
         (page .from) (page .below) v W
-        ∙ ap (λ (x : ℕ). record { word = x; left = ends y .left }) new
+        ∙ ap (λ (x : ℕ). record { word = x; depth = ends y .depth }) new
 
-    pub kept-level : 3 - ends (va / 4096) .left ≡ level
+    pub kept-level : 3 - ends (va / 4096) .depth ≡ level
     kept-level = at-level same-end
 
 -- ---- an accepted live call
@@ -248,8 +248,8 @@ module _ {h : Handle} {c : Call} {s s′ : St} {list list′ : List ℕ} {n k : 
       → (reachOf h s′ va ≡ at level (editWord level (askedOf c) w)) × (mayChange h w (editWord level (askedOf c) w) ≡ true) × Covered c level va
   live-safe {va} {level} {w} S = (
     reach-ends (call-shaped modifies) (call-sound modifies) va
-        ∙ ap (λ (t : Tree). at (3 - endsOf h t (va / 4096) .left) (endsOf h t (va / 4096) .word)) (call-tree modifies)
-        ∙ ap (λ (x : Ends). at (3 - x .left) (x .word)) (kept-walk was kept va level w S)
+        ∙ ap (λ (t : Tree). at (3 - endsOf h t (va / 4096) .depth) (endsOf h t (va / 4096) .word)) (call-tree modifies)
+        ∙ ap (λ (x : Ends). at (3 - x .depth) (x .word)) (kept-walk was kept va level w S)
         ∙ ap (λ (l : ℕ). at l (editWord level (askedOf c) w)) (kept-level was kept va level w S),
     kept-change was kept va level w S,
     kept-covered was kept va level w S,

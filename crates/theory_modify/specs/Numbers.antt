@@ -17,8 +17,8 @@ use Rattle.theory_tree.specs.Needed.{slotIn}
 
 -- what `each` gives for a chunk and its slot of a table, one chunk after the other
 unfoldable pub gathered : ℕ → (MemoryRegion → Tree → List ℕ) → List MemoryRegion → Tree → List ℕ
-gathered left each [] t = []
-gathered left each (c ∷ cs) t = each c (slotIn t (entryIndex (3 - left) (c .start .0))) ++ gathered left each cs t
+gathered depth each [] t = []
+gathered depth each (c ∷ cs) t = each c (slotIn t (entryIndex (3 - depth) (c .start .0))) ++ gathered depth each cs t
 
 module _ (set clear : ℕ) where
   -- an entry that is edited: its page number if it is valid and its word changes
@@ -29,26 +29,26 @@ module _ (set clear : ℕ) where
   unfoldable pub ownNumbers : ℕ → MemoryRegion → Tree → List ℕ
   ownNumbers zero c (leaf w) = changedNumber c w
   ownNumbers zero c (node f) = []
-  ownNumbers (suc left) c (leaf w) = cond (whole (3 - suc left) c) (changedNumber c w) []
-  ownNumbers (suc left) c (node f) = []
+  ownNumbers (suc depth) c (leaf w) = cond (whole (3 - suc depth) c) (changedNumber c w) []
+  ownNumbers (suc depth) c (node f) = []
 
   -- the table below an entry: the one that is there, or that of a split; `rec` gives a table's numbers
   unfoldable pub lowerNumbers : (MemoryRegion → Tree → List ℕ) → ℕ → MemoryRegion → Tree → List ℕ
-  lowerNumbers rec left c (leaf w) = cond (whole (3 - suc left) c) [] (rec c (fillTree left w))
-  lowerNumbers rec left c (node f) = rec c (node f)
+  lowerNumbers rec depth c (leaf w) = cond (whole (3 - suc depth) c) [] (rec c (fillTree depth w))
+  lowerNumbers rec depth c (node f) = rec c (node f)
 
-  -- a table with `left` levels below its own, for the region c
+  -- a table with `depth` levels below its own, for the region c
   unfoldable pub tableNumbers : ℕ → MemoryRegion → Tree → List ℕ
   tableNumbers zero c t = gathered 0 (ownNumbers 0) (chunks 3 (c .start .0) (c .end .0)) t
-  tableNumbers (suc left) c t =
-      let cs = chunks (3 - suc left) (c .start .0) (c .end .0) in
-      gathered (suc left) (lowerNumbers (λ d u. tableNumbers left d u) left) cs t ++ gathered (suc left) (ownNumbers (suc left)) cs t
+  tableNumbers (suc depth) c t =
+      let cs = chunks (3 - suc depth) (c .start .0) (c .end .0) in
+      gathered (suc depth) (lowerNumbers (λ d u. tableNumbers depth d u) depth) cs t ++ gathered (suc depth) (ownNumbers (suc depth)) cs t
 
 -- how often x stands in a list
 unfoldable pub occurs : ℕ → List ℕ → ℕ
 occurs x [] = 0
 occurs x (y ∷ ys) = cond (eqb x y) 1 0 + occurs x ys
 
--- the first page of the entry that shows page y, in a tree with `left` levels below
+-- the first page of the entry that shows page y, in a tree with `depth` levels below
 unfoldable pub firstPage : ℕ → Tree → ℕ → ℕ
-firstPage left t y = y - y % span (walkTree (slotOf y) left t .left)
+firstPage depth t y = y - y % span (walkTree (slotOf y) depth t .depth)

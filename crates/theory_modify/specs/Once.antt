@@ -28,17 +28,17 @@ unfolding occurs
 occurs-append x [] ys = omega arith
 occurs-append x (y ∷ xs) ys = let r = occurs-append x xs ys in omega arith
 
-pub occurs-both : (x left : ℕ) (f g : MemoryRegion → Tree → List ℕ) (cs : List MemoryRegion) (t : Tree)
-    → occurs x (gathered left (λ c u. f c u ++ g c u) cs t) ≡ occurs x (gathered left f cs t) + occurs x (gathered left g cs t)
+pub occurs-both : (x depth : ℕ) (f g : MemoryRegion → Tree → List ℕ) (cs : List MemoryRegion) (t : Tree)
+    → occurs x (gathered depth (λ c u. f c u ++ g c u) cs t) ≡ occurs x (gathered depth f cs t) + occurs x (gathered depth g cs t)
 unfolding gathered occurs
-occurs-both x left f g [] t = refl
-occurs-both x left f g (c ∷ cs) t =
-    let u : Tree = slotIn t (entryIndex (3 - left) (c .start .0)) in
-    let a = occurs-append x (f c u ++ g c u) (gathered left (λ d v. f d v ++ g d v) cs t) in
+occurs-both x depth f g [] t = refl
+occurs-both x depth f g (c ∷ cs) t =
+    let u : Tree = slotIn t (entryIndex (3 - depth) (c .start .0)) in
+    let a = occurs-append x (f c u ++ g c u) (gathered depth (λ d v. f d v ++ g d v) cs t) in
     let b = occurs-append x (f c u) (g c u) in
-    let y = occurs-append x (f c u) (gathered left f cs t) in
-    let z = occurs-append x (g c u) (gathered left g cs t) in
-    omega (arith, occurs-both x left f g cs t)
+    let y = occurs-append x (f c u) (gathered depth f cs t) in
+    let z = occurs-append x (g c u) (gathered depth g cs t) in
+    omega (arith, occurs-both x depth f g cs t)
 
 -- the pages below z whose number is x
 abbrev pub pagesBelow : ℕ → ℕ → ℕ
@@ -68,23 +68,23 @@ module _ (set clear x : ℕ) where
 
   -- ---- a table
 
-  module _ (left q : ℕ) (m : Map) (f : MemoryRegion → Tree → List ℕ) (t : Tree)
-      (each : (c : MemoryRegion) (p : ℕ) (u : Tree) → Piece left (child q (slotAt left c)) (chunkMap m c p) → Few x c (occurs x (f c u))) where
-    pub gathered-few : {level s e : ℕ} {cs : List MemoryRegion} → Tiles level e s cs → (a p : ℕ) → Pieces left q m a p cs → s ≤ e
-        → occurs x (gathered left f cs t) + pagesBelow x (s / 4096) ≤ pagesBelow x (e / 4096)
+  module _ (depth q : ℕ) (m : Map) (f : MemoryRegion → Tree → List ℕ) (t : Tree)
+      (each : (c : MemoryRegion) (p : ℕ) (u : Tree) → Piece depth (child q (slotAt depth c)) (chunkMap m c p) → Few x c (occurs x (f c u))) where
+    pub gathered-few : {level s e : ℕ} {cs : List MemoryRegion} → Tiles level e s cs → (a p : ℕ) → Pieces depth q m a p cs → s ≤ e
+        → occurs x (gathered depth f cs t) + pagesBelow x (s / 4096) ≤ pagesBelow x (e / 4096)
     unfolding gathered occurs
     gathered-few (none l) a p all some = omega arith
     gathered-few {e = e} (more {s = s} {m = z} {l = cs} above under fits rest) a p all some =
         let c : MemoryRegion = region s z in
-        let u : Tree = slotIn t (entryIndex (3 - left) s) in
+        let u : Tree = slotIn t (entryIndex (3 - depth) s) in
         let here = each c p u (all .0 .piece) in
-        let later = gathered-few rest (suc (slotAt left c)) (p + (z - s)) (all .1) under in
-        omega (arith, occurs-append x (f c u) (gathered left f cs t))
+        let later = gathered-few rest (suc (slotAt depth c)) (p + (z - s)) (all .1) under in
+        omega (arith, occurs-append x (f c u) (gathered depth f cs t))
 
   abbrev pub Once : ℕ → Type 0
-  Once left = (q : ℕ) (m : Map) (t : Tree) → Area left q m → m .region .start .0 ≤ m .region .end .0 → Few x (m .region) (occurs x (tableNumbers set clear left (m .region) t))
+  Once depth = (q : ℕ) (m : Map) (t : Tree) → Area depth q m → m .region .start .0 ≤ m .region .end .0 → Few x (m .region) (occurs x (tableNumbers set clear depth (m .region) t))
 
-  pub piece-some : {left q : ℕ} {m : Map} → Piece left q m → m .region .start .0 / 4096 < m .region .end .0 / 4096
+  pub piece-some : {depth q : ℕ} {m : Map} → Piece depth q m → m .region .start .0 / 4096 < m .region .end .0 / 4096
   piece-some piece = omega (arith, piece .some, piece .inside .startPage, piece .inside .endPage)
 
   pub page-few : (c : MemoryRegion) (u : Tree) → c .start .0 / 4096 < c .end .0 / 4096 → Few x c (occurs x (ownNumbers set clear 0 c u))
@@ -94,48 +94,48 @@ module _ (set clear x : ℕ) where
   pub nil-occurs : (xs : List ℕ) → occurs x (xs ++ []) ≡ occurs x xs
   nil-occurs xs = ap (occurs x) (append-nil xs)
 
-  module _ (left q p : ℕ) (m : Map) (c : MemoryRegion) (once : Once left) (piece : Piece (suc left) q (chunkMap m c p)) where
+  module _ (depth q p : ℕ) (m : Map) (c : MemoryRegion) (once : Once depth) (piece : Piece (suc depth) q (chunkMap m c p)) where
     abbrev rec : MemoryRegion → Tree → List ℕ
-    rec d v = tableNumbers set clear left d v
+    rec d v = tableNumbers set clear depth d v
 
     abbrev entryNumbers : Tree → List ℕ
-    entryNumbers u = lowerNumbers set clear rec left c u ++ ownNumbers set clear (suc left) c u
+    entryNumbers u = lowerNumbers set clear rec depth c u ++ ownNumbers set clear (suc depth) c u
 
     -- a chunk that goes down lists what the table below does
-    goes-few : (u v : Tree) → lowerNumbers set clear rec left c u ≡ rec c v → ownNumbers set clear (suc left) c u ≡ [] → Few x c (occurs x (entryNumbers u))
+    goes-few : (u v : Tree) → lowerNumbers set clear rec depth c u ≡ rec c v → ownNumbers set clear (suc depth) c u ≡ [] → Few x c (occurs x (entryNumbers u))
     goes-few u v a b =
         let same : occurs x (entryNumbers u) ≡ occurs x (rec c v) = ap₂ (λ (y z : List ℕ). occurs x (y ++ z)) a b ∙ nil-occurs (rec c v) in
         subst (Few x c) (sym same) (once q (chunkMap m c p) v (record { inside = piece .inside; room = piece .room }) (omega (arith, piece .some)))
 
     pub entry-few : (u : Tree) → Few x c (occurs x (entryNumbers u))
-    entry-few (leaf w) = byBool (whole (3 - suc left) c)
+    entry-few (leaf w) = byBool (whole (3 - suc depth) c)
         (λ e.
         let same : occurs x (entryNumbers (leaf w)) ≡ occurs x (changedNumber set clear c w) =
-        ap₂ (λ (y z : List ℕ). occurs x (y ++ z)) (lower-whole set clear rec left c w e) (own-whole set clear left c w e) in
+        ap₂ (λ (y z : List ℕ). occurs x (y ++ z)) (lower-whole set clear rec depth c w e) (own-whole set clear depth c w e) in
         subst (Few x c) (sym same) (changed-few c w (piece-some piece)))
-        (λ e. goes-few (leaf w) (opened left (leaf w)) (lower-part set clear rec left c w e) (own-part set clear left c w e))
-    entry-few (node f) = goes-few (node f) (opened left (node f)) (lower-into set clear rec left c f) (own-none set clear (suc left) c f)
+        (λ e. goes-few (leaf w) (opened depth (leaf w)) (lower-part set clear rec depth c w e) (own-part set clear depth c w e))
+    entry-few (node f) = goes-few (node f) (opened depth (node f)) (lower-into set clear rec depth c f) (own-none set clear (suc depth) c f)
 
-  pub table-few : (left : ℕ) → left ≤ 3 → Once left
+  pub table-few : (depth : ℕ) → depth ≤ 3 → Once depth
   unfolding tableNumbers
   table-few zero low q m t area some =
       gathered-few 0 q m (ownNumbers set clear 0) t (λ c p u piece. page-few c u (piece-some piece))
       (chunks-tile 3 (m .region .start .0) (m .region .end .0)) 0 (m .frame .0)
       (pieces 0 q m low (m .frame .0) (m .region) (record { inside = area .inside; room = area .room })) some
-  table-few (suc left) low q m t area some =
-      let cs : List MemoryRegion = chunks (3 - suc left) (m .region .start .0) (m .region .end .0) in
-      let lower : MemoryRegion → Tree → List ℕ = lowerNumbers set clear (λ d v. tableNumbers set clear left d v) left in
-      let own : MemoryRegion → Tree → List ℕ = ownNumbers set clear (suc left) in
-      let few = gathered-few (suc left) q m (λ c u. lower c u ++ own c u) t
-      (λ c p u piece. entry-few left (child q (slotAt (suc left) c)) p m c (table-few left (omega arith)) piece u)
-      (chunks-tile (3 - suc left) (m .region .start .0) (m .region .end .0)) 0 (m .frame .0)
-      (pieces (suc left) q m low (m .frame .0) (m .region) (record { inside = area .inside; room = area .room })) some in
-      omega (arith, occurs-both x (suc left) lower own cs t, occurs-append x (gathered (suc left) lower cs t) (gathered (suc left) own cs t))
+  table-few (suc depth) low q m t area some =
+      let cs : List MemoryRegion = chunks (3 - suc depth) (m .region .start .0) (m .region .end .0) in
+      let lower : MemoryRegion → Tree → List ℕ = lowerNumbers set clear (λ d v. tableNumbers set clear depth d v) depth in
+      let own : MemoryRegion → Tree → List ℕ = ownNumbers set clear (suc depth) in
+      let few = gathered-few (suc depth) q m (λ c u. lower c u ++ own c u) t
+      (λ c p u piece. entry-few depth (child q (slotAt (suc depth) c)) p m c (table-few depth (omega arith)) piece u)
+      (chunks-tile (3 - suc depth) (m .region .start .0) (m .region .end .0)) 0 (m .frame .0)
+      (pieces (suc depth) q m low (m .frame .0) (m .region) (record { inside = area .inside; room = area .room })) some in
+      omega (arith, occurs-both x (suc depth) lower own cs t, occurs-append x (gathered (suc depth) lower cs t) (gathered (suc depth) own cs t))
 
   -- EACH NUMBER ONCE
-  pub numbers-once : (left q : ℕ) (m : Map) (t : Tree) → left ≤ 3 → Area left q m → m .region .start .0 ≤ m .region .end .0
-      → occurs x (tableNumbers set clear left (m .region) t) ≤ 1
-  numbers-once left q m t low area some =
-      let few = table-few left low q m t area some in
+  pub numbers-once : (depth q : ℕ) (m : Map) (t : Tree) → depth ≤ 3 → Area depth q m → m .region .start .0 ≤ m .region .end .0
+      → occurs x (tableNumbers set clear depth (m .region) t) ≤ 1
+  numbers-once depth q m t low area some =
+      let few = table-few depth low q m t area some in
       let room = area .room in
       omega arith

@@ -42,30 +42,30 @@ at-other i j f g (node u) other = node-ext (λ x. go x (eq-or x i))
     go x (inl e) = rw (eq-eqb x i e, ne-eqb x j (λ q. other (sym e ∙ q)))
     go x (inr n) = rw (ne-eqb x i n)
 
-module _ (left q : ℕ) (m : Map) (low : left ≤ 3) where
+module _ (depth q : ℕ) (m : Map) (low : depth ≤ 3) where
   -- a slot that comes before the chunks
-  sweep-past : (f : MemoryRegion → ℕ → Tree → Tree) (g : Tree → Tree) (cs : List MemoryRegion) (i a p : ℕ) (t : Tree) → Pieces left q m a p cs → i < a
-      → atSlot i g (sweep left f cs p t) ≡ sweep left f cs p (atSlot i g t)
+  sweep-past : (f : MemoryRegion → ℕ → Tree → Tree) (g : Tree → Tree) (cs : List MemoryRegion) (i a p : ℕ) (t : Tree) → Pieces depth q m a p cs → i < a
+      → atSlot i g (sweep depth f cs p t) ≡ sweep depth f cs p (atSlot i g t)
   unfolding sweep
   sweep-past f g [] i a p t all l = refl
   sweep-past f g (c ∷ cs) i a p t all l =
-      let index = index-slot left (c .start .0) low in
+      let index = index-slot depth (c .start .0) low in
       let p′ : ℕ = p + (c .end .0 - c .start .0) in
-      let j : ℕ = entryIndex (3 - left) (c .start .0) in
-      sweep-past f g cs i (suc (slotAt left c)) p′ (atSlot j (f c p) t) (all .1) (omega (arith, all .0 .from))
-      ∙ ap (sweep left f cs p′) (at-other i j (f c p) g t (λ e. omega (arith, all .0 .from)))
+      let j : ℕ = entryIndex (3 - depth) (c .start .0) in
+      sweep-past f g cs i (suc (slotAt depth c)) p′ (atSlot j (f c p) t) (all .1) (omega (arith, all .0 .from))
+      ∙ ap (sweep depth f cs p′) (at-other i j (f c p) g t (λ e. omega (arith, all .0 .from)))
 
-  pub sweep-twice : (f g : MemoryRegion → ℕ → Tree → Tree) (cs : List MemoryRegion) (a p : ℕ) (t : Tree) → Pieces left q m a p cs
-      → sweep left g cs p (sweep left f cs p t) ≡ sweep left (λ c x u. g c x (f c x u)) cs p t
+  pub sweep-twice : (f g : MemoryRegion → ℕ → Tree → Tree) (cs : List MemoryRegion) (a p : ℕ) (t : Tree) → Pieces depth q m a p cs
+      → sweep depth g cs p (sweep depth f cs p t) ≡ sweep depth (λ c x u. g c x (f c x u)) cs p t
   unfolding sweep
   sweep-twice f g [] a p t all = refl
   sweep-twice f g (c ∷ cs) a p t all =
-      let index = index-slot left (c .start .0) low in
+      let index = index-slot depth (c .start .0) low in
       let p′ : ℕ = p + (c .end .0 - c .start .0) in
-      let i : ℕ = entryIndex (3 - left) (c .start .0) in
-      ap (sweep left g cs p′)
-      (sweep-past f (g c p) cs i (suc (slotAt left c)) p′ (atSlot i (f c p) t) (all .1) (omega arith) ∙ ap (sweep left f cs p′) (at-same i (f c p) (g c p) t))
-      ∙ sweep-twice f g cs (suc (slotAt left c)) p′ (atSlot i (λ u. g c p (f c p u)) t) (all .1)
+      let i : ℕ = entryIndex (3 - depth) (c .start .0) in
+      ap (sweep depth g cs p′)
+      (sweep-past f (g c p) cs i (suc (slotAt depth c)) p′ (atSlot i (f c p) t) (all .1) (omega arith) ∙ ap (sweep depth f cs p′) (at-same i (f c p) (g c p) t))
+      ∙ sweep-twice f g cs (suc (slotAt depth c)) p′ (atSlot i (λ u. g c p (f c p u)) t) (all .1)
 
 -- ---- the two passes
 
@@ -77,31 +77,31 @@ module _ (set clear : ℕ) where
 
   -- a chunk goes down unless it is a whole entry that is no table
   unfoldable pub downTo : ℕ → MemoryRegion → ℕ → Tree → Tree
-  downTo left c p (leaf w) = cond (whole (3 - suc left) c) (leaf w) (chunkedTable (documentModify set clear) left c p (fillTree left w))
-  downTo left c p (node f) = chunkedTable (documentModify set clear) left c p (node f)
+  downTo depth c p (leaf w) = cond (whole (3 - suc depth) c) (leaf w) (chunkedTable (documentModify set clear) depth c p (fillTree depth w))
+  downTo depth c p (node f) = chunkedTable (documentModify set clear) depth c p (node f)
 
-  module _ (left : ℕ) (c : MemoryRegion) (p : ℕ) where
-    pub down-whole : (w : ℕ) → whole (3 - suc left) c ≡ true → downTo left c p (leaf w) ≡ leaf w
+  module _ (depth : ℕ) (c : MemoryRegion) (p : ℕ) where
+    pub down-whole : (w : ℕ) → whole (3 - suc depth) c ≡ true → downTo depth c p (leaf w) ≡ leaf w
     unfolding downTo
     down-whole w e = rw e
 
     -- what goes down, with the tables that it takes
-    pub down-part : (w : ℕ) → whole (3 - suc left) c ≡ false
-        → downTo left c p (leaf w) ≡ chunkedTable (documentModify set clear) left c p (opened left (leaf w))
+    pub down-part : (w : ℕ) → whole (3 - suc depth) c ≡ false
+        → downTo depth c p (leaf w) ≡ chunkedTable (documentModify set clear) depth c p (opened depth (leaf w))
     unfolding downTo opened
     down-part w e = rw e
 
-    pub down-into : (f : ℕ → Tree) → downTo left c p (node f) ≡ chunkedTable (documentModify set clear) left c p (opened left (node f))
+    pub down-into : (f : ℕ → Tree) → downTo depth c p (node f) ≡ chunkedTable (documentModify set clear) depth c p (opened depth (node f))
     unfolding downTo opened
     down-into f = refl
 
-    pub takes-part : (w : ℕ) → whole (3 - suc left) c ≡ false
-        → needed (documentModify set clear) (suc left) c p (leaf w) ≡ splits (leaf w) + neededTable (documentModify set clear) left c p (opened left (leaf w))
+    pub takes-part : (w : ℕ) → whole (3 - suc depth) c ≡ false
+        → needed (documentModify set clear) (suc depth) c p (leaf w) ≡ splits (leaf w) + neededTable (documentModify set clear) depth c p (opened depth (leaf w))
     unfolding needed neededTable documentModify counted
     takes-part w e = rw e
 
     pub takes-into : (f : ℕ → Tree)
-        → needed (documentModify set clear) (suc left) c p (node f) ≡ splits (node f) + neededTable (documentModify set clear) left c p (opened left (node f))
+        → needed (documentModify set clear) (suc depth) c p (node f) ≡ splits (node f) + neededTable (documentModify set clear) depth c p (opened depth (node f))
     unfolding needed neededTable documentModify counted
     takes-into f = refl
 
@@ -111,16 +111,16 @@ module _ (set clear : ℕ) where
   edit-stops w t u v = byBool (valid w) (λ e. rw e) (λ e. rw e)
 
   -- a table stays a table
-  own-sweep : (left : ℕ) (f : MemoryRegion → ℕ → Tree → Tree) (cs : List MemoryRegion) (p : ℕ) (g : ℕ → Tree)
-      → ownTo (sweep left f cs p (node g)) ≡ sweep left f cs p (node g)
+  own-sweep : (depth : ℕ) (f : MemoryRegion → ℕ → Tree → Tree) (cs : List MemoryRegion) (p : ℕ) (g : ℕ → Tree)
+      → ownTo (sweep depth f cs p (node g)) ≡ sweep depth f cs p (node g)
   unfolding sweep atSlot ownTo
-  own-sweep left f [] p g = refl
-  own-sweep left f (c ∷ cs) p g = own-sweep left f cs (p + (c .end .0 - c .start .0)) _
+  own-sweep depth f [] p g = refl
+  own-sweep depth f (c ∷ cs) p g = own-sweep depth f cs (p + (c .end .0 - c .start .0)) _
 
-  own-table : (left : ℕ) (c : MemoryRegion) (p : ℕ) (g : ℕ → Tree)
-      → ownTo (chunkedTable (documentModify set clear) left c p (node g)) ≡ chunkedTable (documentModify set clear) left c p (node g)
+  own-table : (depth : ℕ) (c : MemoryRegion) (p : ℕ) (g : ℕ → Tree)
+      → ownTo (chunkedTable (documentModify set clear) depth c p (node g)) ≡ chunkedTable (documentModify set clear) depth c p (node g)
   unfolding chunkedTable
-  own-table left c p g = own-sweep left _ (chunks (3 - left) (c .start .0) (c .end .0)) p g
+  own-table depth c p g = own-sweep depth _ (chunks (3 - depth) (c .start .0) (c .end .0)) p g
 
   pub own-node : (f : ℕ → Tree) → ownTo (node f) ≡ node f
   unfolding ownTo
@@ -144,27 +144,27 @@ module _ (set clear : ℕ) where
   passes-page c p (leaf w) = refl
   passes-page c p (node f) = refl
 
-  passes : (left : ℕ) (c : MemoryRegion) (p : ℕ) (t : Tree) → ownTo (downTo left c p t) ≡ chunked (documentModify set clear) (suc left) c p t
+  passes : (depth : ℕ) (c : MemoryRegion) (p : ℕ) (t : Tree) → ownTo (downTo depth c p t) ≡ chunked (documentModify set clear) (suc depth) c p t
   unfolding downTo chunked chunkedTable documentModify opened obey
-  passes left c p (leaf w) = byBool (whole (3 - suc left) c)
+  passes depth c p (leaf w) = byBool (whole (3 - suc depth) c)
       (λ e. rw e (own-leaf w ∙ edit-stops w (leaf w) (leaf w) _))
-      (λ e. rw e (ap ownTo (ap (chunkedTable (documentModify set clear) left c p) (fill-node left w)) ∙ own-table left c p (fillSlot left w)
-      ∙ sym (ap (chunkedTable (documentModify set clear) left c p) (fill-node left w))))
-  passes left c p (node f) = own-table left c p f
+      (λ e. rw e (ap ownTo (ap (chunkedTable (documentModify set clear) depth c p) (fill-node depth w)) ∙ own-table depth c p (fillSlot depth w)
+      ∙ sym (ap (chunkedTable (documentModify set clear) depth c p) (fill-node depth w))))
+  passes depth c p (node f) = own-table depth c p f
 
   -- THE DOCUMENT'S MODIFY IN TWO PASSES
   module _ (c : MemoryRegion) (p : ℕ) (t : Tree) where
     abbrev parts : ℕ → List MemoryRegion
-    parts left = chunks (3 - left) (c .start .0) (c .end .0)
+    parts depth = chunks (3 - depth) (c .start .0) (c .end .0)
 
     pub pages-pass : sweep 0 (λ d x u. ownTo u) (parts 0) p t ≡ chunkedTable (documentModify set clear) 0 c p t
     unfolding chunkedTable
     pages-pass = ap (λ (f : MemoryRegion → ℕ → Tree → Tree). sweep 0 f (parts 0) p t) (λ i d x u. passes-page d x u i)
 
-    pub two-passes : (left q : ℕ) (m : Map) → suc left ≤ 3 → Pieces (suc left) q m 0 p (parts (suc left))
-        → sweep (suc left) (λ d x u. ownTo u) (parts (suc left)) p (sweep (suc left) (downTo left) (parts (suc left)) p t)
-        ≡ chunkedTable (documentModify set clear) (suc left) c p t
+    pub two-passes : (depth q : ℕ) (m : Map) → suc depth ≤ 3 → Pieces (suc depth) q m 0 p (parts (suc depth))
+        → sweep (suc depth) (λ d x u. ownTo u) (parts (suc depth)) p (sweep (suc depth) (downTo depth) (parts (suc depth)) p t)
+        ≡ chunkedTable (documentModify set clear) (suc depth) c p t
     unfolding chunkedTable
-    two-passes left q m low all =
-        sweep-twice (suc left) q m low (downTo left) (λ d x u. ownTo u) (parts (suc left)) 0 p t all
-        ∙ ap (λ (f : MemoryRegion → ℕ → Tree → Tree). sweep (suc left) f (parts (suc left)) p t) (λ i d x u. passes left d x u i)
+    two-passes depth q m low all =
+        sweep-twice (suc depth) q m low (downTo depth) (λ d x u. ownTo u) (parts (suc depth)) 0 p t all
+        ∙ ap (λ (f : MemoryRegion → ℕ → Tree → Tree). sweep (suc depth) f (parts (suc depth)) p t) (λ i d x u. passes depth d x u i)

@@ -47,10 +47,10 @@ use Rattle.theory_modify.specs.Passes.{ownTo, downTo, own-valid, own-hol
 -- ---- the document's loop on trees, for an edit of a table's region; p is a frame, which is not read
 
 abbrev pub editTable : Edit → ℕ → ℕ → Tree → Tree
-editTable e left p t = chunkedTable (documentModify (e .set) (e .clear)) left (e .region) p t
+editTable e depth p t = chunkedTable (documentModify (e .set) (e .clear)) depth (e .region) p t
 
 abbrev pub editTakes : Edit → ℕ → ℕ → Tree → ℕ
-editTakes e left p t = neededTable (documentModify (e .set) (e .clear)) left (e .region) p t
+editTakes e depth p t = neededTable (documentModify (e .set) (e .clear)) depth (e .region) p t
 
 -- the region of an edit as a map's
 abbrev pub areaOf : Edit → ℕ → Map
@@ -67,50 +67,50 @@ pub through-chunks : {S : Type 0} (level : ℕ) (f : MemoryRegion → S → S) (
 unfolding eachChunk
 through-chunks level f r p x = through-of f (chunks level (r .start .0) (r .end .0)) p x
 
-pub none-taken : (left : ℕ) (cs : List MemoryRegion) (p : ℕ) (t : Tree) → tallied left (λ c y u. 0) cs p t ≡ 0
+pub none-taken : (depth : ℕ) (cs : List MemoryRegion) (p : ℕ) (t : Tree) → tallied depth (λ c y u. 0) cs p t ≡ 0
 unfolding tallied
-none-taken left [] p t = refl
-none-taken left (c ∷ cs) p t = let z = none-taken left cs (p + (c .end .0 - c .start .0)) t in omega arith
+none-taken depth [] p t = refl
+none-taken depth (c ∷ cs) p t = let z = none-taken depth cs (p + (c .end .0 - c .start .0)) t in omega arith
 
 module _ {h : Handle} (placed : Placed h) where
   -- ---- a table's own entries
 
-  module _ (left k : ℕ) (e : Edit) (ledger : List ℕ) (bits : Bits h e) (c : MemoryRegion) (n : Noted) (R : Ready placed (st (n .words) ledger) left k) where
+  module _ (depth k : ℕ) (e : Edit) (ledger : List ℕ) (bits : Bits h e) (c : MemoryRegion) (n : Noted) (R : Ready placed (st (n .words) ledger) depth k) where
     abbrev s : St
     s = st (n .words) ledger
 
     abbrev i : ℕ
-    i = entryIndex (3 - left) (c .start .0)
+    i = entryIndex (3 - depth) (c .start .0)
 
     abbrev w : ℕ
     w = wordAt s k i
 
     abbrev new : ℕ
-    new = editWord (3 - left) e w
+    new = editWord (3 - depth) e w
 
     abbrev t : Tree
-    t = slotShows h s left k i
+    t = slotShows h s depth k i
 
     abbrev Goal : Type 0
-    Goal = Slotted placed s (st (ownChunk (3 - left) k e c n .words) ledger) left k i (ownTo (e .set) (e .clear) t) 0
+    Goal = Slotted placed s (st (ownChunk k (3 - depth) e c n .words) ledger) depth k i (ownTo (e .set) (e .clear) t) 0
 
     inside : i < 512
-    inside = slot-below (3 - left) (c .start .0)
+    inside = slot-below (3 - depth) (c .start .0)
 
     stays : new ≡ w → ownTo (e .set) (e .clear) t ≡ t → Goal
     stays same tree =
-        subst₂ (λ (x : Noted) (u : Tree). Slotted placed s (st (x .words) ledger) left k i u 0) (own-same (3 - left) k e c n refl refl same) (sym tree) (kept placed R i 0)
+        subst₂ (λ (x : Noted) (u : Tree). Slotted placed s (st (x .words) ledger) depth k i u 0) (own-same k (3 - depth) e c n refl refl same) (sym tree) (kept placed R i 0)
 
     -- a leaf
     module _ (old : ¬ (TableWord (levelAt s k) w)) (shows : t ≡ leaf w) where
-      fine : Fine left w
-      fine = subst (FineTree left) shows (slot-fine placed (R .pool) left k i (R .used) (R .low) inside)
+      fine : Fine depth w
+      fine = subst (FineTree depth) shows (slot-fine placed (R .pool) depth k i (R .used) (R .low) inside)
 
       leaf-edited : valid w ≡ true → Goal
       leaf-edited v = go (eq-or new w)
         where
           is : new ≡ edited (e .set) (e .clear) w
-          is = valid-edited e w left (omega (arith, R .low)) fine v
+          is = valid-edited e w depth (omega (arith, R .low)) fine v
 
           tree : ownTo (e .set) (e .clear) t ≡ leaf new
           tree = ap (ownTo (e .set) (e .clear)) shows ∙ own-valid (e .set) (e .clear) w v ∙ ap leaf (sym is)
@@ -119,58 +119,58 @@ module _ {h : Handle} (placed : Placed h) where
           go (inl same) = stays same (tree ∙ ap leaf same ∙ sym shows)
           go (inr other) =
               let l : Numbered = putNumber (e .live) _ (n .count) (n .list) in
-              subst₂ (λ (x : Noted) (u : Tree). Slotted placed s (st (x .words) ledger) left k i u 0)
-              (own-changed (3 - left) k e c n refl refl other refl {count = l .count} {list = l .list} refl) (sym tree)
+              subst₂ (λ (x : Noted) (u : Tree). Slotted placed s (st (x .words) ledger) depth k i u 0)
+              (own-changed k (3 - depth) e c n refl refl other refl {count = l .count} {list = l .list} refl) (sym tree)
               (stored placed R i 0 new inside old
               (subst (Stands h (levelAt s k)) (sym is)
-              (edited-stands e w h left (levelAt s k) bits (R .low) fine (leaf-from (R .pool) k i inside (R .used) old) v)))
+              (edited-stands e w h depth (levelAt s k) bits (R .low) fine (leaf-from (R .pool) k i inside (R .used) old) v)))
 
       leaf-works : Goal
       leaf-works = byBool (valid w) leaf-edited
-          (λ v. stays (hole-stays e w (3 - left) v) (ap (ownTo (e .set) (e .clear)) shows ∙ own-hole (e .set) (e .clear) w v ∙ sym shows))
+          (λ v. stays (hole-stays e w (3 - depth) v) (ap (ownTo (e .set) (e .clear)) shows ∙ own-hole (e .set) (e .clear) w v ∙ sym shows))
 
-  pub own-works : (left k : ℕ) (e : Edit) (ledger : List ℕ) (bits : Bits h e) (c : MemoryRegion) (n : Noted) (R : Ready placed (st (n .words) ledger) left k)
-      → Goal left k e ledger bits c n R
+  pub own-works : (depth k : ℕ) (e : Edit) (ledger : List ℕ) (bits : Bits h e) (c : MemoryRegion) (n : Noted) (R : Ready placed (st (n .words) ledger) depth k)
+      → Goal depth k e ledger bits c n R
   own-works zero k e ledger bits c n R =
       let old : ¬ (TableWord (levelAt (st (n .words) ledger) k) (w 0 k e ledger bits c n R)) = λ table. omega (arith, R .low, table .0) in
       leaf-works 0 k e ledger bits c n R old
       (slot-leaf (codecOf h placed) (view (st (n .words) ledger)) 0 k (i 0 k e ledger bits c n R) (R .low)
       (word-in (st (n .words) ledger) k (i 0 k e ledger bits c n R) (inside 0 k e ledger bits c n R)) old)
-  own-works (suc left) k e ledger bits c n R = go (holds placed R (i (suc left) k e ledger bits c n R) (inside (suc left) k e ledger bits c n R))
+  own-works (suc depth) k e ledger bits c n R = go (holds placed R (i (suc depth) k e ledger bits c n R) (inside (suc depth) k e ledger bits c n R))
     where
-      go : Holds placed (st (n .words) ledger) left k (i (suc left) k e ledger bits c n R) → Goal (suc left) k e ledger bits c n R
+      go : Holds placed (st (n .words) ledger) depth k (i (suc depth) k e ledger bits c n R) → Goal (suc depth) k e ledger bits c n R
       go (holds-table j r both leads shows) =
-          stays (suc left) k e ledger bits c n R (table-stays (3 - suc left) e _ (omega (arith, R .low)) both)
+          stays (suc depth) k e ledger bits c n R (table-stays (3 - suc depth) e _ (omega (arith, R .low)) both)
           (ap (ownTo (e .set) (e .clear)) shows ∙ own-node (e .set) (e .clear) _ ∙ sym shows)
-      go (holds-leaf old other shows) = leaf-works (suc left) k e ledger bits c n R old shows
+      go (holds-leaf old other shows) = leaf-works (suc depth) k e ledger bits c n R old shows
 
-  own-pass : (left q k p : ℕ) (e : Edit) (w : Work) → left ≤ 3 → Bits h e → Area left q (areaOf e p) → Ready placed (w .state) left k
-      → Worked placed (w .state) (ownWork (3 - left) k e w .state) left k
-      (sweep left (λ c x u. ownTo (e .set) (e .clear) u) (chunks (3 - left) (e .region .start .0) (e .region .end .0)) p (treeFrom h (w .state) left k)) 0
+  own-pass : (depth q k p : ℕ) (e : Edit) (w : Work) → depth ≤ 3 → Bits h e → Area depth q (areaOf e p) → Ready placed (w .state) depth k
+      → Worked placed (w .state) (ownWork k (3 - depth) e w .state) depth k
+      (sweep depth (λ c x u. ownTo (e .set) (e .clear) u) (chunks (3 - depth) (e .region .start .0) (e .region .end .0)) p (treeFrom h (w .state) depth k)) 0
   unfolding ownWork ownRange
-  own-pass left q k p e w low bits area R =
-      let t : Tree = treeFrom h (w .state) left k in
-      let cs : List MemoryRegion = chunks (3 - left) (e .region .start .0) (e .region .end .0) in
-      let none : tallied left (λ c x u. 0) cs p t ≡ 0 = none-taken left cs p t in
+  own-pass depth q k p e w low bits area R =
+      let t : Tree = treeFrom h (w .state) depth k in
+      let cs : List MemoryRegion = chunks (3 - depth) (e .region .start .0) (e .region .end .0) in
+      let none : tallied depth (λ c x u. 0) cs p t ≡ 0 = none-taken depth cs p t in
       let n : Noted = noted (w .state .words) (w .list) (w .count) in
-      let W = loop placed (λ (x : Noted). st (x .words) (w .state .ledger)) (λ c x y. ownChunk (3 - left) k e c y) (λ c x u. ownTo (e .set) (e .clear) u) (λ c x u. 0)
-      left q k (areaOf e p) low (λ c x y piece ready enough. own-works left k e (w .state .ledger) bits c y ready) cs 0 p n (pieces left q (areaOf e p) low p (e .region) area) R
+      let W = loop placed (λ (x : Noted). st (x .words) (w .state .ledger)) (λ c x y. ownChunk k (3 - depth) e c y) (λ c x u. ownTo (e .set) (e .clear) u) (λ c x u. 0)
+      depth q k (areaOf e p) low (λ c x y piece ready enough. own-works depth k e (w .state .ledger) bits c y ready) cs 0 p n (pieces depth q (areaOf e p) low p (e .region) area) R
       (omega arith) in
-      subst₂ (λ (x : Noted) (cost : ℕ). Worked placed (w .state) (st (x .words) (w .state .ledger)) left k (sweep left (λ c y u. ownTo (e .set) (e .clear) u) cs p t) cost)
-      (through-chunks (3 - left) (ownChunk (3 - left) k e) (e .region) p n) none W
+      subst₂ (λ (x : Noted) (cost : ℕ). Worked placed (w .state) (st (x .words) (w .state .ledger)) depth k (sweep depth (λ c y u. ownTo (e .set) (e .clear) u) cs p t) cost)
+      (through-chunks (3 - depth) (ownChunk k (3 - depth) e) (e .region) p n) none W
 
   -- ---- the chunks that go down
 
-  -- a modify of a table with `left` levels below its own does on lists what it does on the table's tree
+  -- a modify of a table with `depth` levels below its own does on lists what it does on the table's tree
   abbrev pub Edits : ℕ → Type 0
-  Edits left = (q k p : ℕ) (e : Edit) (w : Work) → Bits h e → Area left q (areaOf e p) → Ready placed (w .state) left k → let t = treeFrom h (w .state) left k in
-      editTakes e left p t ≤ free (w .state .ledger)
-      → Worked placed (w .state) (modifyRange left h k e w .state) left k (editTable e left p t) (editTakes e left p t)
+  Edits depth = (q k p : ℕ) (e : Edit) (w : Work) → Bits h e → Area depth q (areaOf e p) → Ready placed (w .state) depth k → let t = treeFrom h (w .state) depth k in
+      editTakes e depth p t ≤ free (w .state .ledger)
+      → Worked placed (w .state) (modifyRange depth h k e w .state) depth k (editTable e depth p t) (editTakes e depth p t)
 
-  module _ (left q k : ℕ) (e : Edit) (bits : Bits h e) (edits : Edits left) (c : MemoryRegion) (p : ℕ) (x : Work) (piece : Piece (suc left) q (areaOf (chunkEdit e c) p))
-      (R : Ready placed (x .state) (suc left) k) where
+  module _ (depth q k : ℕ) (e : Edit) (bits : Bits h e) (edits : Edits depth) (c : MemoryRegion) (p : ℕ) (x : Work) (piece : Piece (suc depth) q (areaOf (chunkEdit e c) p))
+      (R : Ready placed (x .state) (suc depth) k) where
     abbrev level : ℕ
-    level = 3 - suc left
+    level = 3 - suc depth
 
     abbrev j : ℕ
     j = entryIndex level (c .start .0)
@@ -179,37 +179,37 @@ module _ {h : Handle} (placed : Placed h) where
     y = wordAt (x .state) k j
 
     abbrev u : Tree
-    u = slotShows h (x .state) (suc left) k j
+    u = slotShows h (x .state) (suc depth) k j
 
     abbrev count : Tree → ℕ
-    count v = needed (documentModify (e .set) (e .clear)) (suc left) c p v
+    count v = needed (documentModify (e .set) (e .clear)) (suc depth) c p v
 
     abbrev Down : Type 0
-    Down = Slotted placed (x .state) (stepAt level h k e c x .state) (suc left) k j (downTo (e .set) (e .clear) left c p u) (count u)
+    Down = Slotted placed (x .state) (stepAt h k level e c x .state) (suc depth) k j (downTo (e .set) (e .clear) depth c p u) (count u)
 
     slot : j < 512
     slot = slot-below level (c .start .0)
 
     -- on in the table that is found
-    pub goes-down : (O : Opens placed (x .state) left k j) → own level c y ≡ false
-        → modifyRange left h (O .table) (chunkEdit e c) (work (O .state) (x .list) (x .count)) ≡ stepAt level h k e c x
+    pub goes-down : (O : Opens placed (x .state) depth k j) → own level c y ≡ false
+        → modifyRange depth h (O .table) (chunkEdit e c) (work (O .state) (x .list) (x .count)) ≡ stepAt h k level e c x
     goes-down O goes =
-        let last : 3 - (level + 1) ≡ left = omega (arith, R .low) in
+        let last : 3 - (level + 1) ≡ depth = omega (arith, R .low) in
         ap (λ (d : ℕ). modifyRange d h (O .table) (chunkEdit e c) (work (O .state) (x .list) (x .count))) (sym last)
-        ∙ step-into h level k e c x refl goes (O .found) (O .table) refl
+        ∙ step-into h k level e c x refl goes (O .found) (O .table) refl
 
     by-down : count u ≤ free (x .state .ledger) → own level c y ≡ false
-        → downTo (e .set) (e .clear) left c p u ≡ editTable (chunkEdit e c) left p (opened left u) → count u ≡ splits u + editTakes (chunkEdit e c) left p (opened left u) → Down
+        → downTo (e .set) (e .clear) depth c p u ≡ editTable (chunkEdit e c) depth p (opened depth u) → count u ≡ splits u + editTakes (chunkEdit e c) depth p (opened depth u) → Down
     by-down room goes tree all =
         let O = opens placed R j slot (omega arith) in
         let fewer = O .room in
         let w : Work = work (O .state) (x .list) (x .count) in
         let W = edits q (O .table) p (chunkEdit e c) w (record { set = bits .set; clear = bits .clear }) (record { inside = piece .inside; room = piece .room }) (O .ready)
-        (subst (λ (v : Tree). editTakes (chunkEdit e c) left p v ≤ free (O .state .ledger)) (sym (O .shows)) (omega arith)) in
-        let W′ = subst (λ (v : Tree). Worked placed (O .state) (modifyRange left h (O .table) (chunkEdit e c) w .state) left (O .table)
-        (editTable (chunkEdit e c) left p v) (editTakes (chunkEdit e c) left p v)) (O .shows) W in
-        subst (λ (z : Work). Slotted placed (x .state) (z .state) (suc left) k j (downTo (e .set) (e .clear) left c p u) (count u)) (goes-down O goes)
-        (subst₂ (λ (v : Tree) (n : ℕ). Slotted placed (x .state) (modifyRange left h (O .table) (chunkEdit e c) w .state) (suc left) k j v n) (sym tree) (sym all) (O .back W′))
+        (subst (λ (v : Tree). editTakes (chunkEdit e c) depth p v ≤ free (O .state .ledger)) (sym (O .shows)) (omega arith)) in
+        let W′ = subst (λ (v : Tree). Worked placed (O .state) (modifyRange depth h (O .table) (chunkEdit e c) w .state) depth (O .table)
+        (editTable (chunkEdit e c) depth p v) (editTakes (chunkEdit e c) depth p v)) (O .shows) W in
+        subst (λ (z : Work). Slotted placed (x .state) (z .state) (suc depth) k j (downTo (e .set) (e .clear) depth c p u) (count u)) (goes-down O goes)
+        (subst₂ (λ (v : Tree) (n : ℕ). Slotted placed (x .state) (modifyRange depth h (O .table) (chunkEdit e c) w .state) (suc depth) k j v n) (sym tree) (sym all) (O .back W′))
 
     pub down-works : count u ≤ free (x .state .ledger) → Down
     unfolding whole
@@ -221,65 +221,65 @@ module _ {h : Handle} (placed : Placed h) where
         clear : ℕ
         clear = e .clear
 
-        go : Holds placed (x .state) left k j → Down
+        go : Holds placed (x .state) depth k j → Down
         go (holds-table a r both leads shows) =
             by-down room (sym (own-table level c y both))
-            (ap (downTo set clear left c p) shows ∙ down-into set clear left c p _ ∙ sym (ap (λ (v : Tree). editTable (chunkEdit e c) left p (opened left v)) shows))
-            (ap count shows ∙ takes-into set clear left c p _ ∙ sym (ap (λ (v : Tree). splits v + editTakes (chunkEdit e c) left p (opened left v)) shows))
+            (ap (downTo set clear depth c p) shows ∙ down-into set clear depth c p _ ∙ sym (ap (λ (v : Tree). editTable (chunkEdit e c) depth p (opened depth v)) shows))
+            (ap count shows ∙ takes-into set clear depth c p _ ∙ sym (ap (λ (v : Tree). splits v + editTakes (chunkEdit e c) depth p (opened depth v)) shows))
         go (holds-leaf old other shows) = byBool (whole level c)
-            (λ all. subst₂ (λ (z : Work) (v : Tree). Slotted placed (x .state) (z .state) (suc left) k j v (count u))
-            (step-own h level k e c x refl (sym (own-leaf level c y other) ∙ all)) (shows ∙ sym (ap (downTo set clear left c p) shows ∙ down-whole set clear left c p y all))
+            (λ all. subst₂ (λ (z : Work) (v : Tree). Slotted placed (x .state) (z .state) (suc depth) k j v (count u))
+            (step-own h k level e c x refl (sym (own-leaf level c y other) ∙ all)) (shows ∙ sym (ap (downTo set clear depth c p) shows ∙ down-whole set clear depth c p y all))
             (kept placed R j (count u)))
             (λ part. by-down room (sym (own-leaf level c y other) ∙ part)
-            (ap (downTo set clear left c p) shows ∙ down-part set clear left c p y part ∙ sym (ap (λ (v : Tree). editTable (chunkEdit e c) left p (opened left v)) shows))
-            (ap count shows ∙ takes-part set clear left c p y part ∙ sym (ap (λ (v : Tree). splits v + editTakes (chunkEdit e c) left p (opened left v)) shows)))
+            (ap (downTo set clear depth c p) shows ∙ down-part set clear depth c p y part ∙ sym (ap (λ (v : Tree). editTable (chunkEdit e c) depth p (opened depth v)) shows))
+            (ap count shows ∙ takes-part set clear depth c p y part ∙ sym (ap (λ (v : Tree). splits v + editTakes (chunkEdit e c) depth p (opened depth v)) shows)))
 
   -- ---- a table
 
-  pub down-pass : (left q k p : ℕ) (e : Edit) (w : Work) → suc left ≤ 3 → Edits left → Bits h e → Area (suc left) q (areaOf e p) → Ready placed (w .state) (suc left) k
-      → let t = treeFrom h (w .state) (suc left) k in let cs = chunks (3 - suc left) (e .region .start .0) (e .region .end .0) in
-      editTakes e (suc left) p t ≤ free (w .state .ledger)
-      → Worked placed (w .state) (eachChunk (3 - suc left) (stepAt (3 - suc left) h k e) (e .region) w .state) (suc left) k
-      (sweep (suc left) (downTo (e .set) (e .clear) left) cs p t) (editTakes e (suc left) p t)
+  pub down-pass : (depth q k p : ℕ) (e : Edit) (w : Work) → suc depth ≤ 3 → Edits depth → Bits h e → Area (suc depth) q (areaOf e p) → Ready placed (w .state) (suc depth) k
+      → let t = treeFrom h (w .state) (suc depth) k in let cs = chunks (3 - suc depth) (e .region .start .0) (e .region .end .0) in
+      editTakes e (suc depth) p t ≤ free (w .state .ledger)
+      → Worked placed (w .state) (eachChunk (3 - suc depth) (stepAt h k (3 - suc depth) e) (e .region) w .state) (suc depth) k
+      (sweep (suc depth) (downTo (e .set) (e .clear) depth) cs p t) (editTakes e (suc depth) p t)
   unfolding neededTable
-  down-pass left q k p e w low edits bits area R room =
-      let t : Tree = treeFrom h (w .state) (suc left) k in
-      let cs : List MemoryRegion = chunks (3 - suc left) (e .region .start .0) (e .region .end .0) in
-      let W = loop placed (λ (x : Work). x .state) (λ c x y. stepAt (3 - suc left) h k e c y) (downTo (e .set) (e .clear) left)
-      (λ c x v. needed (documentModify (e .set) (e .clear)) (suc left) c x v) (suc left) q k (areaOf e p) low
-      (λ c x y piece ready enough. down-works left (child q (slotAt (suc left) c)) k e bits edits c x y
+  down-pass depth q k p e w low edits bits area R room =
+      let t : Tree = treeFrom h (w .state) (suc depth) k in
+      let cs : List MemoryRegion = chunks (3 - suc depth) (e .region .start .0) (e .region .end .0) in
+      let W = loop placed (λ (x : Work). x .state) (λ c x y. stepAt h k (3 - suc depth) e c y) (downTo (e .set) (e .clear) depth)
+      (λ c x v. needed (documentModify (e .set) (e .clear)) (suc depth) c x v) (suc depth) q k (areaOf e p) low
+      (λ c x y piece ready enough. down-works depth (child q (slotAt (suc depth) c)) k e bits edits c x y
       (record { inside = piece .inside; some = piece .some; room = piece .room }) ready enough)
-      cs 0 p w (pieces (suc left) q (areaOf e p) low p (e .region) area) R room in
-      subst (λ (x : Work). Worked placed (w .state) (x .state) (suc left) k (sweep (suc left) (downTo (e .set) (e .clear) left) cs p t) (editTakes e (suc left) p t))
-      (through-chunks (3 - suc left) (stepAt (3 - suc left) h k e) (e .region) p w) W
+      cs 0 p w (pieces (suc depth) q (areaOf e p) low p (e .region) area) R room in
+      subst (λ (x : Work). Worked placed (w .state) (x .state) (suc depth) k (sweep (suc depth) (downTo (e .set) (e .clear) depth) cs p t) (editTakes e (suc depth) p t))
+      (through-chunks (3 - suc depth) (stepAt h k (3 - suc depth) e) (e .region) p w) W
 
   edits-pages : Edits 0
   unfolding neededTable
   edits-pages q k p e w bits area R room =
       let t : Tree = treeFrom h (w .state) 0 k in
       let W = own-pass 0 q k p e w (omega arith) bits area R in
-      let W′ = subst₂ (λ (x : Work) (v : Tree). Worked placed (w .state) (x .state) 0 k v 0) (modify-pages 3 h k e w (omega arith) (omega arith))
+      let W′ = subst₂ (λ (x : Work) (v : Tree). Worked placed (w .state) (x .state) 0 k v 0) (modify-pages h k 3 e w (omega arith) (omega arith))
       (pages-pass (e .set) (e .clear) (e .region) p t) W in
       record { work = W′ .work; same-tables = W′ .same-tables; same-words = W′ .same-words; spare = omega (arith, W′ .spare) }
 
-  edits-up : (left : ℕ) → suc left ≤ 3 → Edits left → Edits (suc left)
-  edits-up left low edits q k p e w bits area R room =
-      let level : ℕ = 3 - suc left in
-      let t : Tree = treeFrom h (w .state) (suc left) k in
-      let mid : Work = eachChunk level (stepAt level h k e) (e .region) w in
-      let D = down-pass left q k p e w low edits bits area R room in
-      let W = own-pass (suc left) q k p e mid low bits area (worked-ready placed R D) in
+  edits-up : (depth : ℕ) → suc depth ≤ 3 → Edits depth → Edits (suc depth)
+  edits-up depth low edits q k p e w bits area R room =
+      let level : ℕ = 3 - suc depth in
+      let t : Tree = treeFrom h (w .state) (suc depth) k in
+      let mid : Work = eachChunk level (stepAt h k level e) (e .region) w in
+      let D = down-pass depth q k p e w low edits bits area R room in
+      let W = own-pass (suc depth) q k p e mid low bits area (worked-ready placed R D) in
       let cs : List MemoryRegion = chunks level (e .region .start .0) (e .region .end .0) in
-      let all = pieces (suc left) q (areaOf e p) low p (e .region) area in
-      let tree = ap (sweep (suc left) (λ c x u. ownTo (e .set) (e .clear) u) cs p) (D .work .tree) ∙ two-passes (e .set) (e .clear) (e .region) p t left q (areaOf e p) low all in
-      let up : 3 - level ≡ suc left = omega arith in
-      let is : ownWork level k e mid ≡ modifyRange (suc left) h k e w = modify-open level h k e w (omega arith) ∙ ap (λ (d : ℕ). modifyRange d h k e w) up in
+      let all = pieces (suc depth) q (areaOf e p) low p (e .region) area in
+      let tree = ap (sweep (suc depth) (λ c x u. ownTo (e .set) (e .clear) u) cs p) (D .work .tree) ∙ two-passes (e .set) (e .clear) (e .region) p t depth q (areaOf e p) low all in
+      let up : 3 - level ≡ suc depth = omega arith in
+      let is : ownWork k level e mid ≡ modifyRange (suc depth) h k e w = modify-open h k level e w (omega arith) ∙ ap (λ (d : ℕ). modifyRange d h k e w) up in
       let V′ = worked-twice placed R D W in
-      let cost : editTakes e (suc left) p t + 0 ≡ editTakes e (suc left) p t = omega arith in
-      subst (λ (x : Work). Worked placed (w .state) (x .state) (suc left) k (editTable e (suc left) p t) (editTakes e (suc left) p t)) is
-      (subst₂ (λ (v : Tree) (n : ℕ). Worked placed (w .state) (ownWork level k e mid .state) (suc left) k v n) tree cost V′)
+      let cost : editTakes e (suc depth) p t + 0 ≡ editTakes e (suc depth) p t = omega arith in
+      subst (λ (x : Work). Worked placed (w .state) (x .state) (suc depth) k (editTable e (suc depth) p t) (editTakes e (suc depth) p t)) is
+      (subst₂ (λ (v : Tree) (n : ℕ). Worked placed (w .state) (ownWork k level e mid .state) (suc depth) k v n) tree cost V′)
 
   -- A MODIFY OF A TABLE
-  pub range-edits : (left : ℕ) → left ≤ 3 → Edits left
+  pub range-edits : (depth : ℕ) → depth ≤ 3 → Edits depth
   range-edits zero low = edits-pages
-  range-edits (suc left) low = edits-up left low (range-edits left (omega arith))
+  range-edits (suc depth) low = edits-up depth low (range-edits depth (omega arith))

@@ -41,22 +41,22 @@ use Rattle.theory_modify.specs.Range.{editTakes}
 -- ---- a number that each chunk adds to
 
 -- where each chunk adds what it counts in its slot, the chunks add the tally
-fold-tally : {S : Type 0} (m : S → ℕ) (f : MemoryRegion → S → S) (left : ℕ) (count : MemoryRegion → ℕ → Tree → ℕ) (t : Tree)
-    → ((c : MemoryRegion) (p : ℕ) (x : S) → m (f c x) ≡ m x + count c p (slotIn t (entryIndex (3 - left) (c .start .0))))
-    → (cs : List MemoryRegion) (p : ℕ) (x : S) → m (eachOf f cs x) ≡ m x + tallied left count cs p t
+fold-tally : {S : Type 0} (m : S → ℕ) (f : MemoryRegion → S → S) (depth : ℕ) (count : MemoryRegion → ℕ → Tree → ℕ) (t : Tree)
+    → ((c : MemoryRegion) (p : ℕ) (x : S) → m (f c x) ≡ m x + count c p (slotIn t (entryIndex (3 - depth) (c .start .0))))
+    → (cs : List MemoryRegion) (p : ℕ) (x : S) → m (eachOf f cs x) ≡ m x + tallied depth count cs p t
 unfolding eachOf tallied
-fold-tally m f left count t each [] p x = omega arith
-fold-tally m f left count t each (c ∷ cs) p x =
+fold-tally m f depth count t each [] p x = omega arith
+fold-tally m f depth count t each (c ∷ cs) p x =
     let p′ : ℕ = p + (c .end .0 - c .start .0) in
     let here = each c p x in
-    let rest = fold-tally m f left count t each cs p′ (f c x) in
+    let rest = fold-tally m f depth count t each cs p′ (f c x) in
     omega arith
 
-pub chunks-tally : {S : Type 0} (m : S → ℕ) (f : MemoryRegion → S → S) (left : ℕ) (count : MemoryRegion → ℕ → Tree → ℕ) (t : Tree)
-    → ((c : MemoryRegion) (p : ℕ) (x : S) → m (f c x) ≡ m x + count c p (slotIn t (entryIndex (3 - left) (c .start .0))))
-    → (r : MemoryRegion) (p : ℕ) (x : S) → m (eachChunk (3 - left) f r x) ≡ m x + tallied left count (chunks (3 - left) (r .start .0) (r .end .0)) p t
+pub chunks-tally : {S : Type 0} (m : S → ℕ) (f : MemoryRegion → S → S) (depth : ℕ) (count : MemoryRegion → ℕ → Tree → ℕ) (t : Tree)
+    → ((c : MemoryRegion) (p : ℕ) (x : S) → m (f c x) ≡ m x + count c p (slotIn t (entryIndex (3 - depth) (c .start .0))))
+    → (r : MemoryRegion) (p : ℕ) (x : S) → m (eachChunk (3 - depth) f r x) ≡ m x + tallied depth count (chunks (3 - depth) (r .start .0) (r .end .0)) p t
 unfolding eachChunk
-chunks-tally m f left count t each r p x = fold-tally m f left count t each (chunks (3 - left) (r .start .0) (r .end .0)) p x
+chunks-tally m f depth count t each r p x = fold-tally m f depth count t each (chunks (3 - depth) (r .start .0) (r .end .0)) p x
 
 -- ---- an entry that is no table
 
@@ -65,42 +65,42 @@ module _ (set clear : ℕ) where
   unfolding editRule counted
   edit-takes w n = byBool (valid w) (λ e. rw e) (λ e. rw e)
 
-  takes-whole : (left : ℕ) (c : MemoryRegion) (p w : ℕ) → whole (3 - suc left) c ≡ true → needed (documentModify set clear) (suc left) c p (leaf w) ≡ 0
+  takes-whole : (depth : ℕ) (c : MemoryRegion) (p w : ℕ) → whole (3 - suc depth) c ≡ true → needed (documentModify set clear) (suc depth) c p (leaf w) ≡ 0
   unfolding needed documentModify
-  takes-whole left c p w e = rw e (edit-takes w _)
+  takes-whole depth c p w e = rw e (edit-takes w _)
 
-  splits-open : (left : ℕ) (c : MemoryRegion) → whole (3 - suc left) c ≡ false → splitsIn (suc left) c ≡ eachChunk (3 - left) (adding (splitsIn left)) c 1
+  splits-open : (depth : ℕ) (c : MemoryRegion) → whole (3 - suc depth) c ≡ false → splitsIn (suc depth) c ≡ eachChunk (3 - depth) (adding (splitsIn depth)) c 1
   unfolding splitsIn
-  splits-open left c e = rw e
+  splits-open depth c e = rw e
 
-  splits-none : (left : ℕ) (c : MemoryRegion) → whole (3 - suc left) c ≡ true → splitsIn (suc left) c ≡ 0
+  splits-none : (depth : ℕ) (c : MemoryRegion) → whole (3 - suc depth) c ≡ true → splitsIn (suc depth) c ≡ 0
   unfolding splitsIn
-  splits-none left c e = rw e
+  splits-none depth c e = rw e
 
-  takes-fill : (left : ℕ) (c : MemoryRegion) (p w : ℕ) → whole (3 - suc left) c ≡ false
-      → needed (documentModify set clear) (suc left) c p (leaf w) ≡ 1 + neededTable (documentModify set clear) left c p (fillTree left w)
+  takes-fill : (depth : ℕ) (c : MemoryRegion) (p w : ℕ) → whole (3 - suc depth) c ≡ false
+      → needed (documentModify set clear) (suc depth) c p (leaf w) ≡ 1 + neededTable (documentModify set clear) depth c p (fillTree depth w)
   unfolding splits opened
-  takes-fill left c p w e = takes-part set clear left c p w e
+  takes-fill depth c p w e = takes-part set clear depth c p w e
 
-  pub leaf-takes : (left : ℕ) (c : MemoryRegion) (p w : ℕ) → left ≤ 3 → splitsIn left c ≡ needed (documentModify set clear) left c p (leaf w)
+  pub leaf-takes : (depth : ℕ) (c : MemoryRegion) (p w : ℕ) → depth ≤ 3 → splitsIn depth c ≡ needed (documentModify set clear) depth c p (leaf w)
   unfolding splitsIn needed neededTable adding
   leaf-takes zero c p w low = refl
-  leaf-takes (suc left) c p w low = byBool (whole (3 - suc left) c)
-      (λ e. splits-none left c e ∙ sym (takes-whole left c p w e))
-      (λ e. splits-open left c e
-      ∙ chunks-tally (λ (n : ℕ). n) (adding (splitsIn left)) left (λ d y u. needed (documentModify set clear) left d y u) (fillTree left w)
-      (λ d y n. let i : ℕ = entryIndex (3 - left) (d .start .0) in
-      ap (λ (x : ℕ). n + x) (leaf-takes left d y (fillWord left w i) (omega arith)
-      ∙ ap (needed (documentModify set clear) left d y) (sym (slot-fill left w i (slot-below (3 - left) (d .start .0))))))
+  leaf-takes (suc depth) c p w low = byBool (whole (3 - suc depth) c)
+      (λ e. splits-none depth c e ∙ sym (takes-whole depth c p w e))
+      (λ e. splits-open depth c e
+      ∙ chunks-tally (λ (n : ℕ). n) (adding (splitsIn depth)) depth (λ d y u. needed (documentModify set clear) depth d y u) (fillTree depth w)
+      (λ d y n. let i : ℕ = entryIndex (3 - depth) (d .start .0) in
+      ap (λ (x : ℕ). n + x) (leaf-takes depth d y (fillWord depth w i) (omega arith)
+      ∙ ap (needed (documentModify set clear) depth d y) (sym (slot-fill depth w i (slot-below (3 - depth) (d .start .0))))))
       c p 1
-      ∙ sym (takes-fill left c p w e))
+      ∙ sym (takes-fill depth c p w e))
 
-pub takes-enter : (set clear left : ℕ) (c : MemoryRegion) (p : ℕ) (f : ℕ → Tree)
-    → needed (documentModify set clear) (suc left) c p (node f) ≡ neededTable (documentModify set clear) left c p (node f)
+pub takes-enter : (set clear depth : ℕ) (c : MemoryRegion) (p : ℕ) (f : ℕ → Tree)
+    → needed (documentModify set clear) (suc depth) c p (node f) ≡ neededTable (documentModify set clear) depth c p (node f)
 unfolding splits opened
-takes-enter set clear left c p f =
-    let e : needed (documentModify set clear) (suc left) c p (node f) ≡ 0 + neededTable (documentModify set clear) left c p (node f) =
-    takes-into set clear left c p f in omega arith
+takes-enter set clear depth c p f =
+    let e : needed (documentModify set clear) (suc depth) c p (node f) ≡ 0 + neededTable (documentModify set clear) depth c p (node f) =
+    takes-into set clear depth c p f in omega arith
 
 -- ---- what a survey of an entry adds
 
@@ -137,84 +137,84 @@ entry-is-part : (h : Handle) (level : ℕ) (e : Edit) (w : ℕ) (v : Survey) →
     → surveyEntry h level e w v .splits ≡ surveyPart level (e .region) w v .splits
 entry-is-part h level e w v q = ap (λ (x : Survey). x .splits) (sym (entry-part h level e w v q))
 
-entry-splits : (h : Handle) (left : ℕ) (e : Edit) (c : MemoryRegion) (p w : ℕ) (v : Survey) → left ≤ 3
-    → surveyEntry h (3 - left) (chunkEdit e c) w v .splits ≡ v .splits + needed (documentModify (e .set) (e .clear)) left c p (leaf w)
-entry-splits h left e c p w v low = go left low
+entry-splits : (h : Handle) (depth : ℕ) (e : Edit) (c : MemoryRegion) (p w : ℕ) (v : Survey) → depth ≤ 3
+    → surveyEntry h (3 - depth) (chunkEdit e c) w v .splits ≡ v .splits + needed (documentModify (e .set) (e .clear)) depth c p (leaf w)
+entry-splits h depth e c p w v low = go depth low
   where
-    part : (left : ℕ) → left ≤ 3 → whole (3 - left) c ≡ false
-        → surveyEntry h (3 - left) (chunkEdit e c) w v .splits ≡ v .splits + needed (documentModify (e .set) (e .clear)) left c p (leaf w)
-    part left low q =
-        let same : 3 - (3 - left) ≡ left = omega arith in
-        entry-is-part h (3 - left) (chunkEdit e c) w v q ∙ part-splits (3 - left) c w v
-        ∙ ap (λ (n : ℕ). v .splits + n) (ap (λ (d : ℕ). splitsIn d c) same ∙ leaf-takes (e .set) (e .clear) left c p w low)
+    part : (depth : ℕ) → depth ≤ 3 → whole (3 - depth) c ≡ false
+        → surveyEntry h (3 - depth) (chunkEdit e c) w v .splits ≡ v .splits + needed (documentModify (e .set) (e .clear)) depth c p (leaf w)
+    part depth low q =
+        let same : 3 - (3 - depth) ≡ depth = omega arith in
+        entry-is-part h (3 - depth) (chunkEdit e c) w v q ∙ part-splits (3 - depth) c w v
+        ∙ ap (λ (n : ℕ). v .splits + n) (ap (λ (d : ℕ). splitsIn d c) same ∙ leaf-takes (e .set) (e .clear) depth c p w low)
 
-    all : (left : ℕ) → left ≤ 3 → whole (3 - left) c ≡ true → needed (documentModify (e .set) (e .clear)) left c p (leaf w) ≡ 0
+    all : (depth : ℕ) → depth ≤ 3 → whole (3 - depth) c ≡ true → needed (documentModify (e .set) (e .clear)) depth c p (leaf w) ≡ 0
     all zero low q = page-takes (e .set) (e .clear) c p (leaf w)
-    all (suc left) low q = takes-whole (e .set) (e .clear) left c p w q
+    all (suc depth) low q = takes-whole (e .set) (e .clear) depth c p w q
 
-    go : (left : ℕ) → left ≤ 3 → surveyEntry h (3 - left) (chunkEdit e c) w v .splits ≡ v .splits + needed (documentModify (e .set) (e .clear)) left c p (leaf w)
-    go left low = byBool (whole (3 - left) c)
-        (λ q. let z = all left low q in entry-is-whole h (3 - left) (chunkEdit e c) w v q ∙ whole-splits h (3 - left) (chunkEdit e c) w v
-        ∙ (let n : v .splits ≡ v .splits + needed (documentModify (e .set) (e .clear)) left c p (leaf w) = omega arith in n))
-        (part left low)
+    go : (depth : ℕ) → depth ≤ 3 → surveyEntry h (3 - depth) (chunkEdit e c) w v .splits ≡ v .splits + needed (documentModify (e .set) (e .clear)) depth c p (leaf w)
+    go depth low = byBool (whole (3 - depth) c)
+        (λ q. let z = all depth low q in entry-is-whole h (3 - depth) (chunkEdit e c) w v q ∙ whole-splits h (3 - depth) (chunkEdit e c) w v
+        ∙ (let n : v .splits ≡ v .splits + needed (documentModify (e .set) (e .clear)) depth c p (leaf w) = omega arith in n))
+        (part depth low)
 
 -- ---- a table of a sound pool
 
-module _ (rec : ℕ → Edit → Survey → Survey) (h : Handle) (s : St) (level k : ℕ) (e : Edit) (c : MemoryRegion) (v : Survey) where
+module _ (rec : ℕ → Edit → Survey → Survey) (h : Handle) (s : St) (k level : ℕ) (e : Edit) (c : MemoryRegion) (v : Survey) where
   abbrev y : ℕ
   y = wordAt s k (entryIndex level (c .start .0))
 
-  pub chunk-leaf : subOf (h .base .0) (tables s) level y ≡ Leaf → surveyChunk rec h s level k e c v ≡ surveyEntry h level (chunkEdit e c) y v
+  pub chunk-leaf : subOf (h .base .0) (tables s) level y ≡ Leaf → surveyChunk rec h s k level e c v ≡ surveyEntry h level (chunkEdit e c) y v
   unfolding surveyChunk surveySub
   chunk-leaf q = rw q
 
-  pub chunk-table : (j : ℕ) → subOf (h .base .0) (tables s) level y ≡ Table j → surveyChunk rec h s level k e c v ≡ rec j (chunkEdit e c) v
+  pub chunk-table : (j : ℕ) → subOf (h .base .0) (tables s) level y ≡ Table j → surveyChunk rec h s k level e c v ≡ rec j (chunkEdit e c) v
   unfolding surveyChunk surveySub
   chunk-table j q = rw q
 
 module _ {h : Handle} (placed : Placed h) where
   abbrev Counts : ℕ → Type 0
-  Counts left = (k p : ℕ) (e : Edit) (s : St) (v : Survey) → Ready placed s left k
-      → surveyRange left h s k e v .splits ≡ v .splits + editTakes e left p (treeFrom h s left k)
+  Counts depth = (k p : ℕ) (e : Edit) (s : St) (v : Survey) → Ready placed s depth k
+      → surveyRange depth h s k e v .splits ≡ v .splits + editTakes e depth p (treeFrom h s depth k)
 
-  chunk-takes : (left k : ℕ) (e : Edit) (s : St) → Ready placed s (suc left) k → Counts left → (c : MemoryRegion) (p : ℕ) (v : Survey)
-      → surveyChunk (λ j n x. surveyRange left h s j n x) h s (3 - suc left) k e c v .splits
-      ≡ v .splits + needed (documentModify (e .set) (e .clear)) (suc left) c p (slotShows h s (suc left) k (entryIndex (3 - suc left) (c .start .0)))
-  chunk-takes left k e s R counts c p v = go (holds placed R i inside)
+  chunk-takes : (depth k : ℕ) (e : Edit) (s : St) → Ready placed s (suc depth) k → Counts depth → (c : MemoryRegion) (p : ℕ) (v : Survey)
+      → surveyChunk (λ j n x. surveyRange depth h s j n x) h s k (3 - suc depth) e c v .splits
+      ≡ v .splits + needed (documentModify (e .set) (e .clear)) (suc depth) c p (slotShows h s (suc depth) k (entryIndex (3 - suc depth) (c .start .0)))
+  chunk-takes depth k e s R counts c p v = go (holds placed R i inside)
     where
       i : ℕ
-      i = entryIndex (3 - suc left) (c .start .0)
+      i = entryIndex (3 - suc depth) (c .start .0)
 
       inside : i < 512
-      inside = slot-below (3 - suc left) (c .start .0)
+      inside = slot-below (3 - suc depth) (c .start .0)
 
       rec : ℕ → Edit → Survey → Survey
-      rec j n x = surveyRange left h s j n x
+      rec j n x = surveyRange depth h s j n x
 
       count : Tree → ℕ
-      count t = needed (documentModify (e .set) (e .clear)) (suc left) c p t
+      count t = needed (documentModify (e .set) (e .clear)) (suc depth) c p t
 
-      go : Holds placed s left k i → surveyChunk rec h s (3 - suc left) k e c v .splits ≡ v .splits + count (slotShows h s (suc left) k i)
+      go : Holds placed s depth k i → surveyChunk rec h s k (3 - suc depth) e c v .splits ≡ v .splits + count (slotShows h s (suc depth) k i)
       go (holds-table j r both leads shows) =
-          ap (λ (x : Survey). x .splits) (chunk-table rec h s (3 - suc left) k e c v j leads)
+          ap (λ (x : Survey). x .splits) (chunk-table rec h s k (3 - suc depth) e c v j leads)
           ∙ counts j p (chunkEdit e c) s v (entered-ready placed R i inside r)
-          ∙ ap (λ (n : ℕ). v .splits + n) (ap (editTakes (chunkEdit e c) left p) (treeAt-node (childOf (h .base .0)) left (slotWord s) j)
-          ∙ sym (takes-enter (e .set) (e .clear) left c p _) ∙ ap count (sym shows))
+          ∙ ap (λ (n : ℕ). v .splits + n) (ap (editTakes (chunkEdit e c) depth p) (treeAt-node (childOf (h .base .0)) depth (slotWord s) j)
+          ∙ sym (takes-enter (e .set) (e .clear) depth c p _) ∙ ap count (sym shows))
       go (holds-leaf old other shows) =
-          ap (λ (x : Survey). x .splits) (chunk-leaf rec h s (3 - suc left) k e c v (sym (sub-leaf (h .base .0) (tables s) (3 - suc left) _ (λ q. other (q .1)))))
-          ∙ entry-splits h (suc left) e c p _ v (omega (arith, R .low)) ∙ ap (λ (n : ℕ). v .splits + n) (ap count (sym shows))
+          ap (λ (x : Survey). x .splits) (chunk-leaf rec h s k (3 - suc depth) e c v (sym (sub-leaf (h .base .0) (tables s) (3 - suc depth) _ (λ q. other (q .1)))))
+          ∙ entry-splits h (suc depth) e c p _ v (omega (arith, R .low)) ∙ ap (λ (n : ℕ). v .splits + n) (ap count (sym shows))
 
   -- THE SPLITS
-  pub survey-splits : (left : ℕ) → Counts left
+  pub survey-splits : (depth : ℕ) → Counts depth
   unfolding surveyRange neededTable
   survey-splits zero k p e s v R =
       chunks-tally (λ (x : Survey). x .splits) _ 0 (λ c y u. needed (documentModify (e .set) (e .clear)) 0 c y u) (treeFrom h s 0 k)
-      (λ c y x. ap (λ (z : Survey). z .splits) (chunk-leaf _ h s 3 k e c x (sym (sub-leaf (h .base .0) (tables s) 3 _ (λ q. omega (arith, q .0)))))
+      (λ c y x. ap (λ (z : Survey). z .splits) (chunk-leaf _ h s k 3 e c x (sym (sub-leaf (h .base .0) (tables s) 3 _ (λ q. omega (arith, q .0)))))
       ∙ entry-splits h 0 e c y _ x (omega arith)
       ∙ ap (λ (n : ℕ). x .splits + n) (page-takes (e .set) (e .clear) c y _ ∙ sym (page-takes (e .set) (e .clear) c y _)))
       (e .region) p v
-  survey-splits (suc left) k p e s v R =
-      chunks-tally (λ (x : Survey). x .splits) _ (suc left) (λ c y u. needed (documentModify (e .set) (e .clear)) (suc left) c y u) (treeFrom h s (suc left) k)
-      (λ c y x. chunk-takes left k e s R (survey-splits left) c y x
-      ∙ ap (λ (t : Tree). x .splits + needed (documentModify (e .set) (e .clear)) (suc left) c y t) (sym (slot-of h s (suc left) k (entryIndex (3 - suc left) (c .start .0)))))
+  survey-splits (suc depth) k p e s v R =
+      chunks-tally (λ (x : Survey). x .splits) _ (suc depth) (λ c y u. needed (documentModify (e .set) (e .clear)) (suc depth) c y u) (treeFrom h s (suc depth) k)
+      (λ c y x. chunk-takes depth k e s R (survey-splits depth) c y x
+      ∙ ap (λ (t : Tree). x .splits + needed (documentModify (e .set) (e .clear)) (suc depth) c y t) (sym (slot-of h s (suc depth) k (entryIndex (3 - suc depth) (c .start .0)))))
       (e .region) p v

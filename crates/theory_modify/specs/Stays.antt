@@ -18,9 +18,9 @@ use Rattle.theory_modify.specs.Found.{Within}
 in-slot : (g : ℕ → Tree → Tree) (u : ℕ → Tree) (i : ℕ) → i < 512 → cond (ltb i 512) (g i (u i)) (u i) ≡ g i (u i)
 in-slot g u i l = rw (lt-ltb i 512 l)
 
-walk-each : (f : ℕ → ℕ) (left : ℕ) (g : ℕ → Tree → Tree) (u : ℕ → Tree) → f left < 512 → walkTree f (suc left) (eachSlot g (node u)) ≡ walkTree f left (g (f left) (u (f left)))
+walk-each : (f : ℕ → ℕ) (depth : ℕ) (g : ℕ → Tree → Tree) (u : ℕ → Tree) → f depth < 512 → walkTree f (suc depth) (eachSlot g (node u)) ≡ walkTree f depth (g (f depth) (u (f depth)))
 unfolding eachSlot walkTree
-walk-each f left g u l = ap (walkTree f left) (in-slot g u (f left) l)
+walk-each f depth g u l = ap (walkTree f depth) (in-slot g u (f depth) l)
 
 module _ (set clear : ℕ) (m : Map) (y : ℕ) (from : m .from ≤ y) (below : y < m .upto) where
   abbrev rule : ℕ → ℕ → Tree → Rule
@@ -28,53 +28,53 @@ module _ (set clear : ℕ) (m : Map) (y : ℕ) (from : m .from ≤ y) (below : y
 
   -- the word edited, at the same level
   abbrev after : Ends → Ends
-  after x = record { word = edited set clear (x .word); left = x .left }
+  after x = record { word = edited set clear (x .word); depth = x .depth }
 
-  met-here : (left q : ℕ) → In left q y → meets left (first left q) m ≡ true
-  met-here left q at = let i = in-from left q y at in yes-meets left (first left q) m y from below (i .0) (i .1)
+  met-here : (depth q : ℕ) → In depth q y → meets depth (first depth q) m ≡ true
+  met-here depth q at = let i = in-from depth q y at in yes-meets depth (first depth q) m y from below (i .0) (i .1)
 
-  whole-here : (left q : ℕ) → In left q y → Within (m .from) (m .upto) left y → whole left (first left q) m ≡ true
+  whole-here : (depth q : ℕ) → In depth q y → Within (m .from) (m .upto) depth y → whole depth (first depth q) m ≡ true
   unfolding whole
-  whole-here left q at W =
-      let i = in-rest left q y at in
-      rw (le-leb (m .from) (first left q) (omega (arith, W .from)), le-leb (first left q + span left) (m .upto) (omega (arith, W .upto)))
+  whole-here depth q at W =
+      let i = in-rest depth q y at in
+      rw (le-leb (m .from) (first depth q) (omega (arith, W .from)), le-leb (first depth q + span depth) (m .upto) (omega (arith, W .upto)))
 
-  rule-leaf : (left q w : ℕ) → In left q y → valid w ≡ true → Within (m .from) (m .upto) left y → rule left (first left q) (leaf w) ≡ write (edited set clear w)
+  rule-leaf : (depth q w : ℕ) → In depth q y → valid w ≡ true → Within (m .from) (m .upto) depth y → rule depth (first depth q) (leaf w) ≡ write (edited set clear w)
   unfolding modifyRule editRule
   rule-leaf zero q w at v W = rw (met-here zero q at, v)
-  rule-leaf (suc left) q w at v W = rw (met-here (suc left) q at, whole-here (suc left) q at W, v)
+  rule-leaf (suc depth) q w at v W = rw (met-here (suc depth) q at, whole-here (suc depth) q at W, v)
 
-  rule-node : (left q : ℕ) (f : ℕ → Tree) → In (suc left) q y → rule (suc left) (first (suc left) q) (node f) ≡ down
+  rule-node : (depth q : ℕ) (f : ℕ → Tree) → In (suc depth) q y → rule (suc depth) (first (suc depth) q) (node f) ≡ down
   unfolding modifyRule
-  rule-node left q f at = rw (met-here (suc left) q at)
+  rule-node depth q f at = rw (met-here (suc depth) q at)
 
-  table-walk : (left q : ℕ) (f : ℕ → Tree)
-      → walkTree (slotOf y) (suc left) (visitTable rule left q (node f)) ≡ walkTree (slotOf y) left (visit rule left (child q (slotOf y left)) (f (slotOf y left)))
+  table-walk : (depth q : ℕ) (f : ℕ → Tree)
+      → walkTree (slotOf y) (suc depth) (visitTable rule depth q (node f)) ≡ walkTree (slotOf y) depth (visit rule depth (child q (slotOf y depth)) (f (slotOf y depth)))
   unfolding visitTable
-  table-walk left q f = walk-each (slotOf y) left (λ i u. visit rule left (child q i) u) f (slot-lt y left)
+  table-walk depth q f = walk-each (slotOf y) depth (λ i u. visit rule depth (child q i) u) f (slot-lt y depth)
 
-  visit-stays : (left q : ℕ) (t : Tree) → FineTree left t → In left q y → let x = walkTree (slotOf y) left t in valid (x .word) ≡ true → Within (m .from) (m .upto) (x .left) y
-      → walkTree (slotOf y) left (visit rule left q t) ≡ after x
+  visit-stays : (depth q : ℕ) (t : Tree) → FineTree depth t → In depth q y → let x = walkTree (slotOf y) depth t in valid (x .word) ≡ true → Within (m .from) (m .upto) (x .depth) y
+      → walkTree (slotOf y) depth (visit rule depth q t) ≡ after x
   unfolding walkTree
   visit-stays zero q (leaf w) fine at v W = ap (walkTree (slotOf y) zero) (visit-write rule zero q (leaf w) (edited set clear w) (rule-leaf zero q w at v W))
-  visit-stays (suc left) q (leaf w) fine at v W =
-      ap (walkTree (slotOf y) (suc left)) (visit-write rule (suc left) q (leaf w) (edited set clear w) (rule-leaf (suc left) q w at v W))
+  visit-stays (suc depth) q (leaf w) fine at v W =
+      ap (walkTree (slotOf y) (suc depth)) (visit-write rule (suc depth) q (leaf w) (edited set clear w) (rule-leaf (suc depth) q w at v W))
   visit-stays zero q (node f) fine at v W = absurd fine
-  visit-stays (suc left) q (node f) fine at v W =
-      ap (walkTree (slotOf y) (suc left)) (visit-down rule left q (node f) (rule-node left q f at) ∙ ap (visitTable rule left q) (opens-node left f))
-      ∙ table-walk left q f
-      ∙ visit-stays left (child q (slotOf y left)) (f (slotOf y left)) (fine (slotOf y left) (slot-lt y left)) (in-child left q y at) v W
+  visit-stays (suc depth) q (node f) fine at v W =
+      ap (walkTree (slotOf y) (suc depth)) (visit-down rule depth q (node f) (rule-node depth q f at) ∙ ap (visitTable rule depth q) (opens-node depth f))
+      ∙ table-walk depth q f
+      ∙ visit-stays depth (child q (slotOf y depth)) (f (slotOf y depth)) (fine (slotOf y depth) (slot-lt y depth)) (in-child depth q y at) v W
 
-  table-stays : (left q : ℕ) (t : Tree) → FineTable left t → In (suc left) q y → let x = walkTree (slotOf y) (suc left) t in valid (x .word) ≡ true
-      → Within (m .from) (m .upto) (x .left) y → walkTree (slotOf y) (suc left) (visitTable rule left q t) ≡ after x
+  table-stays : (depth q : ℕ) (t : Tree) → FineTable depth t → In (suc depth) q y → let x = walkTree (slotOf y) (suc depth) t in valid (x .word) ≡ true
+      → Within (m .from) (m .upto) (x .depth) y → walkTree (slotOf y) (suc depth) (visitTable rule depth q t) ≡ after x
   unfolding walkTree
-  table-stays left q (leaf w) fine at v W = absurd fine
-  table-stays left q (node f) fine at v W =
-      table-walk left q f ∙ visit-stays left (child q (slotOf y left)) (f (slotOf y left)) (fine (slotOf y left) (slot-lt y left)) (in-child left q y at) v W
+  table-stays depth q (leaf w) fine at v W = absurd fine
+  table-stays depth q (node f) fine at v W =
+      table-walk depth q f ∙ visit-stays depth (child q (slotOf y depth)) (f (slotOf y depth)) (fine (slotOf y depth) (slot-lt y depth)) (in-child depth q y at) v W
 
 -- A CALL ON A ROOT'S TREE
-pub modify-stays : (left r : ℕ) (e : Modify) (t : Tree) (y : ℕ) → FineTable left t → In (suc left) r y → e .from ≤ y → y < e .upto → let x = walkTree (slotOf y) (suc left) t in
-    valid (x .word) ≡ true → Within (e .from) (e .upto) (x .left) y
-    → walkTree (slotOf y) (suc left) (modifyTree left r e t) ≡ record { word = edited (e .set) (e .clear) (x .word); left = x .left }
+pub modify-stays : (depth r : ℕ) (e : Modify) (t : Tree) (y : ℕ) → FineTable depth t → In (suc depth) r y → e .from ≤ y → y < e .upto → let x = walkTree (slotOf y) (suc depth) t in
+    valid (x .word) ≡ true → Within (e .from) (e .upto) (x .depth) y
+    → walkTree (slotOf y) (suc depth) (modifyTree depth r e t) ≡ record { word = edited (e .set) (e .clear) (x .word); depth = x .depth }
 unfolding modifyTree
-modify-stays left r e t y fine at from below v W = table-stays (e .set) (e .clear) (pagesOf e) y from below left r t fine at v W
+modify-stays depth r e t y fine at from below v W = table-stays (e .set) (e .clear) (pagesOf e) y from below depth r t fine at v W

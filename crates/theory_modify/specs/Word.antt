@@ -35,20 +35,20 @@ module _ (e : Edit) (w : ℕ) where
   hole-stays level v = let o = valid-no w v in sym (edit-hole level e w refl (kind-clear level w (λ a. omega arith) (λ a. omega arith)))
 
   -- a valid block or page is edited
-  pub valid-edited : (left : ℕ) → left ≤ 3 → Fine left w → valid w ≡ true → editWord (3 - left) e w ≡ new
+  pub valid-edited : (depth : ℕ) → depth ≤ 3 → Fine depth w → valid w ≡ true → editWord (3 - depth) e w ≡ new
   unfolding edited
   valid-edited zero low fine v = let o = valid-yes w v in let b = fine .page refl o in sym (edit-page 3 e w refl (kind-page 3 w (omega arith) (omega arith)))
   valid-edited (suc zero) low fine v =
       let o = valid-yes w v in let b = fine .clear (omega arith) in sym (edit-block 2 e w refl (kind-block 2 w (inr refl) (omega arith)))
   valid-edited (suc (suc zero)) low fine v =
       let o = valid-yes w v in let b = fine .clear (omega arith) in sym (edit-block 1 e w refl (kind-block 1 w (inl refl) (omega arith)))
-  valid-edited (suc (suc (suc left))) low fine v = absurd (omega (arith, valid-yes w v, fine .top (omega arith) .0))
+  valid-edited (suc (suc (suc depth))) low fine v = absurd (omega (arith, valid-yes w v, fine .top (omega arith) .0))
 
   inset : (h : Handle) → Bits h e → Sub (plainFlags w) (flagSet h) → Sub (edited (e .set) (e .clear) (plainFlags w)) (flagSet h)
   unfolding edited
   inset h bits from = sub-and (bitOr (plainFlags w) (e .set)) (2 ^ 64 - 1 - e .clear) (flagSet h) (sub-or (plainFlags w) (e .set) (flagSet h) from (bits .set .from))
 
-  pub edited-stands : (h : Handle) (left level : ℕ) → Bits h e → level + left ≡ 3 → Fine left w → Sub (plainFlags w) (flagSet h) → valid w ≡ true → Stands h level new
-  edited-stands h left level bits low fine from v =
-      fine-stands h left level new low (fine-edited (e .set) (e .clear) (bits .set .plain) (bits .clear .plain) left w fine v)
+  pub edited-stands : (h : Handle) (depth level : ℕ) → Bits h e → level + depth ≡ 3 → Fine depth w → Sub (plainFlags w) (flagSet h) → valid w ≡ true → Stands h level new
+  edited-stands h depth level bits low fine from v =
+      fine-stands h depth level new low (fine-edited (e .set) (e .clear) (bits .set .plain) (bits .clear .plain) depth w fine v)
       (subst (λ (x : ℕ). Sub x (flagSet h)) (sym (edited-plain (e .set) (e .clear) (bits .set .plain) (bits .clear .plain) w (fine .wide))) (inset h bits from))

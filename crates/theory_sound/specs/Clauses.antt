@@ -24,7 +24,7 @@ levelAt s k = levelOf (numberAt s k)
 -- the ledger number x names slot i of table p: it is 4 + level + 8·(512·p + i + 1)
 pub record NamesSlot (x p i : ℕ) : Type 0 where
   pub slot : i < 512
-  pub number : x ≡ numberOf (levelOf x) p i
+  pub number : x ≡ numberOf p (levelOf x) i
 
 -- table k hangs in slot i of table p
 pub record HangsIn (h : Handle) (s : St) (k p i : ℕ) : Type 0 where

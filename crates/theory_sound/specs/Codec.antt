@@ -44,9 +44,9 @@ over-names k x names = go (eqb-cases (x / 8) 0)
     go (inl t) = absurd (omega arith)
     go (inr t) = rw (t .1)
 
-pub number-pos : (level p i : ℕ) → 0 < numberOf level p i
+pub number-pos : (p level i : ℕ) → 0 < numberOf p level i
 unfolding numberOf
-number-pos level p i = omega arith
+number-pos p level i = omega arith
 
 -- ---- table words and leaves
 
@@ -96,7 +96,7 @@ codecOf h placed = record {
   link = linkOf (h .base .0);
   child = childOf (h .base .0);
   limit = 32768;
-  number = λ x p i. numberOf (suc (levelOf x)) p i;
+  number = λ x p i. numberOf p (suc (levelOf x)) i;
   level-le = λ x. omega arith;
   slot-lt = λ x. omega arith;
   root-over = λ k x root. root-self h (placed .level) k x (root .1);
@@ -104,13 +104,13 @@ codecOf h placed = record {
   zero-leaf = λ x. zero-leaf (flagSet h) (levelOf x);
   link-table = λ c. link-both (h .base .0) c (placed .paged);
   child-link = λ c. child-link (h .base .0) c;
-  number-used = λ x p i. number-pos (suc (levelOf x)) p i;
-  number-well = λ x p i high small inside. number-names (suc (levelOf x)) p i (omega arith) inside;
-  number-level = λ x p i high. level-back (suc (levelOf x)) p i (omega arith);
+  number-used = λ x p i. number-pos p (suc (levelOf x)) i;
+  number-well = λ x p i high small inside. number-names p (suc (levelOf x)) i (omega arith) inside;
+  number-level = λ x p i high. level-back p (suc (levelOf x)) i (omega arith);
   number-over = λ k x p i high small inside.
-      over-names k (numberOf (suc (levelOf x)) p i) (number-names (suc (levelOf x)) p i (omega arith) inside)
-      ∙ parent-back (suc (levelOf x)) p i (omega arith) inside;
-  number-slot = λ x p i high small inside. slot-back (suc (levelOf x)) p i (omega arith) inside;
+      over-names k (numberOf p (suc (levelOf x)) i) (number-names p (suc (levelOf x)) i (omega arith) inside)
+      ∙ parent-back p (suc (levelOf x)) i (omega arith) inside;
+  number-slot = λ x p i high small inside. slot-back p (suc (levelOf x)) i (omega arith) inside;
 }
 
 -- ---- the lists as a state
@@ -140,9 +140,9 @@ table-in s k i both = go (le-or 512 i)
 
 -- ---- the trees that the words show
 
--- the tree of table k, where it has `left` levels below its own, and the root's
+-- the tree of table k, where it has `depth` levels below its own, and the root's
 abbrev pub treeFrom : Handle → St → ℕ → ℕ → Tree
-treeFrom h s left k = treeAt (childOf (h .base .0)) left (slotWord s) k
+treeFrom h s depth k = treeAt (childOf (h .base .0)) depth (slotWord s) k
 
 abbrev pub rootTree : Handle → St → Tree
 rootTree h s = treeFrom h s (3 - h .level) 0

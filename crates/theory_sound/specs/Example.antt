@@ -66,8 +66,8 @@ facts : InUse fresh 0 × (levelAt fresh 0 ≡ 1) × (wordAt fresh 0 0 ≡ 0)
 unfolding fresh
 facts = (omega arith, refl, refl)
 
-pub taken-sound : SoundPool handle (takeAt handle 2 0 0 zeros 1 fresh)
+pub taken-sound : SoundPool handle (takeAt handle 0 2 0 zeros 1 fresh)
 taken-sound =
     step-pool fresh-sound
-    (take-step (shaped-placed fresh-shaped) fresh-sound 2 0 0 zeros 1 (facts .0) (omega arith) (omega (arith, facts .1)) (omega arith) length-zeros found
+    (take-step (shaped-placed fresh-shaped) fresh-sound 0 2 0 zeros 1 (facts .0) (omega arith) (omega (arith, facts .1)) (omega arith) length-zeros found
     (λ j small. rw (zeros-at j) (zero-stands handle 2 (omega arith))) 1 refl (λ table. omega (arith, table .1, facts .2)))

@@ -27,14 +27,14 @@ use Rattle.theory_sound.specs.Lists.{store-here, store-other}
 use Rattle.theory_sound.specs.Step.{Stands, stands-fits, used-inside, Step}
 use Rattle.theory_sound.specs.FreeRun.{Freed, tree-freed}
 
-module _ {h : Handle} {s : St} (shape : Shaped h s) (P : SoundPool h s) (left p i v : ℕ) (inUse : InUse s p) (inside : i < 512)
-    (low : levelAt s p + suc left ≡ 3) {e : ℕ} (r : Refers (codecOf h (shaped-placed shape)) (view s) p i e) where
+module _ {h : Handle} {s : St} (shape : Shaped h s) (P : SoundPool h s) (depth p i v : ℕ) (inUse : InUse s p) (inside : i < 512)
+    (low : levelAt s p + suc depth ≡ 3) {e : ℕ} (r : Refers (codecOf h (shaped-placed shape)) (view s) p i e) where
   -- the word v in the slot, then the subtree of e freed
   abbrev after : St
-  after = freeTree left h e (storeAt p i v s)
+  after = freeTree depth h e (storeAt p i v s)
 
   run : Freed shape (pool-sound (shaped-placed shape) P) e (storeAt p i v s) after
-  run = tree-freed shape (pool-sound (shaped-placed shape) P) left e (storeAt p i v s) (r .used) (omega (arith, low, refers-level r)) (record {
+  run = tree-freed shape (pool-sound (shaped-placed shape) P) depth e (storeAt p i v s) (r .used) (omega (arith, low, refers-level r)) (record {
     size = record { same-tables = refl; same-words = length-set (s .words) (512 * p + i) v };
     words = λ j m under k. store-other s p i v inside j k (λ at. refers-over r m (rw (← at .0) under));
   })
@@ -49,19 +49,19 @@ module _ {h : Handle} {s : St} (shape : Shaped h s) (P : SoundPool h s) (left p 
   }
 
   -- FREE: the slot now shows the leaf v
-  pub free-step : Stands h (levelAt s p) v → Step h (shaped-placed shape) s after (suc left) p i (leaf v)
+  pub free-step : Stands h (levelAt s p) v → Step h (shaped-placed shape) s after (suc depth) p i (leaf v)
   free-step stands = record {
-    move = move-free (pool-sound (shaped-placed shape) P) (suc left) inUse inside low (stands-fits h (shaped-placed shape) (numberAt s p) stands) tree-frees r;
+    move = move-free (pool-sound (shaped-placed shape) P) (suc depth) inUse inside low (stands-fits h (shaped-placed shape) (numberAt s p) stands) tree-frees r;
     same-tables = run .size .same-tables;
     same-words = run .size .same-words ∙ length-set (s .words) (512 * p + i) v;
   }
 
   -- ---- the tables in use fall by the tables under e, and the free ones rise by them
 
-  pub free-used : used (after .ledger) + nodes (treeFrom h s left e) ≡ used (s .ledger)
+  pub free-used : used (after .ledger) + nodes (treeFrom h s depth e) ≡ used (s .ledger)
   free-used =
       let n = tables s in
-      let under = under-nodes (pool-sound (shaped-placed shape) P) n (used-in s) left e (r .used) (omega (arith, low, refers-level r)) in
+      let under = under-nodes (pool-sound (shaped-placed shape) P) n (used-in s) depth e (r .used) (omega (arith, low, refers-level r)) in
       let a = used-sum (s .ledger) in
       let b : used (after .ledger) ≡ sum n (λ k. cond (eqb (numberAt after k) 0) 0 1) =
       used-sum (after .ledger) ∙ ap (λ (m : ℕ). sum m (λ k. cond (eqb (numberAt after k) 0) 0 1)) (run .size .same-tables) in
@@ -85,7 +85,7 @@ module _ {h : Handle} {s : St} (shape : Shaped h s) (P : SoundPool h s) (left p 
           let z : cond {A = ℕ} (eqb (numberAt after k) 0) 0 1 ≡ cond (eqb (numberAt s k) 0) 0 1 = rw (run .rest k off .number) in
           omega arith
 
-  pub free-free : free (after .ledger) ≡ free (s .ledger) + nodes (treeFrom h s left e)
+  pub free-free : free (after .ledger) ≡ free (s .ledger) + nodes (treeFrom h s depth e)
   free-free =
       let a = used-free (s .ledger) in
       let b = used-free (after .ledger) in

@@ -97,12 +97,12 @@ module _ {h : Handle} {s : St} (shape : Shaped h s) (S : Sound (codecOf h (shape
 
   -- what is still to be shown of a table one level down
   abbrev Below : ℕ → Type 0
-  Below left = (e : ℕ) (q : St) → InUse s e → LevelsLeft C (view s) e left → Starts e q → Freed e q (freeTree left h e q)
+  Below depth = (e : ℕ) (q : St) → InUse s e → LevelsLeft C (view s) e depth → Starts e q → Freed e q (freeTree depth h e q)
 
-  module _ (left d n : ℕ) (q q₁ : St) (used : InUse s d) (low : LevelsLeft C (view s) d (suc left)) (start : Starts d q) (slot : n < 512)
-      (done : Done d n q q₁) (below : Below left) where
+  module _ (depth d n : ℕ) (q q₁ : St) (used : InUse s d) (low : LevelsLeft C (view s) d (suc depth)) (start : Starts d q) (slot : n < 512)
+      (done : Done d n q q₁) (below : Below depth) where
     abbrev step : St
-    step = freeSlot (λ j t. freeTree left h j t) h (3 - suc left) d n q₁
+    step = freeSlot (λ j t. freeTree depth h j t) h d (3 - suc depth) n q₁
 
     size : SameSize s q₁
     size = size-trans (start .size) (done .size)
@@ -114,8 +114,8 @@ module _ {h : Handle} {s : St} (shape : Shaped h s) (S : Sound (codecOf h (shape
     -- the slot refers to no table
     slot-plain : slotWord s d n % 4 ≢ 3 → Done d (suc n) q step
     slot-plain other =
-        let stays : q₁ ≡ step = slot-leaf (λ j t. freeTree left h j t) h (3 - suc left) d n q₁ refl
-        (sym (sub-leaf (h .base .0) (tables q₁) (3 - suc left) (wordAt q₁ d n) (λ table. other (ap (λ (w : ℕ). w % 4) (sym reads) ∙ table .1)))) in
+        let stays : q₁ ≡ step = slot-leaf (λ j t. freeTree depth h j t) h d (3 - suc depth) n q₁ refl
+        (sym (sub-leaf (h .base .0) (tables q₁) (3 - suc depth) (wordAt q₁ d n) (λ table. other (ap (λ (w : ℕ). w % 4) (sym reads) ∙ table .1)))) in
         subst (Done d (suc n) q) stays (record {
           gone = λ j i e m r l under. done .gone j i e m r (before i e r l) under;
           rest = λ j off. done .rest j (λ i e m r l under. off i e m r (omega arith) under);
@@ -133,19 +133,19 @@ module _ {h : Handle} {s : St} (shape : Shaped h s) (S : Sound (codecOf h (shape
       size = size-trans (done .size) (run .size);
     })
       where
-        run : Freed e q₁ (freeTree left h e q₁)
+        run : Freed e q₁ (freeTree depth h e q₁)
         run = below e q₁ (r .used) (omega (arith, low, refers-level r)) (record {
           size = size;
           words = λ j m under i.
               done .rest j (λ i′ c m′ rc l under′. omega (arith, l, refers-one rc r under′ under)) .words i ∙ start .words j (suc m) (refers-under r under) i;
         })
 
-        goes : freeTree left h e q₁ ≡ step
-        goes = slot-table (λ j t. freeTree left h j t) h (3 - suc left) d n q₁ refl e
-            (rw (reads ∙ r .says) (sub-link (h .base .0) (tables q₁) (3 - suc left) e (omega arith) (shape .paged) (omega (arith, shape .ended, size .same-tables))
+        goes : freeTree depth h e q₁ ≡ step
+        goes = slot-table (λ j t. freeTree depth h j t) h d (3 - suc depth) n q₁ refl e
+            (rw (reads ∙ r .says) (sub-link (h .base .0) (tables q₁) e (3 - suc depth) (omega arith) (shape .paged) (omega (arith, shape .ended, size .same-tables))
             (omega (arith, used-in s e (r .used), size .same-tables))))
 
-        gone : (j i c m : ℕ) → Refers C (view s) d i c → i < suc n → Under C (view s) c m j → (i ≡ n) ⊎ (i ≢ n) → Zeroed (freeTree left h e q₁) j
+        gone : (j i c m : ℕ) → Refers C (view s) d i c → i < suc n → Under C (view s) c m j → (i ≡ n) ⊎ (i ≢ n) → Zeroed (freeTree depth h e q₁) j
         gone j i c m rc l under (inl same) =
             let one : c ≡ e = sym (refers-child rc) ∙ ap (λ (i : ℕ). C .child (slotWord s d i)) same ∙ refers-child r in
             run .gone j m (rw (← one) under)
@@ -161,26 +161,26 @@ module _ {h : Handle} {s : St} (shape : Shaped h s) (S : Sound (codecOf h (shape
 
   -- ---- the loop, and the whole
 
-  loop : (left d n : ℕ) (q : St) → InUse s d → LevelsLeft C (view s) d (suc left) → Starts d q → n ≤ 512 → Below left
-      → Done d n q (iter (freeSlot (λ j t. freeTree left h j t) h (3 - suc left) d) n q)
+  loop : (depth d n : ℕ) (q : St) → InUse s d → LevelsLeft C (view s) d (suc depth) → Starts d q → n ≤ 512 → Below depth
+      → Done d n q (iter (freeSlot (λ j t. freeTree depth h j t) h d (3 - suc depth)) n q)
   unfolding iter
-  loop left d zero q used low start small below = record {
+  loop depth d zero q used low start small below = record {
     gone = λ j i e m r l under. absurd (omega arith);
     rest = λ j off. kept-self;
     size = record { same-tables = refl; same-words = refl };
   }
-  loop left d (suc n) q used low start small below =
-      slot-more left d n q (iter (freeSlot (λ j t. freeTree left h j t) h (3 - suc left) d) n q) used low start (omega arith)
-      (loop left d n q used low start (omega arith) below) below
+  loop depth d (suc n) q used low start small below =
+      slot-more depth d n q (iter (freeSlot (λ j t. freeTree depth h j t) h d (3 - suc depth)) n q) used low start (omega arith)
+      (loop depth d n q used low start (omega arith) below) below
 
   -- FREE: the run zeroes exactly the tables under d
-  pub tree-freed : (left d : ℕ) (q : St) → InUse s d → LevelsLeft C (view s) d left → Starts d q → Freed d q (freeTree left h d q)
+  pub tree-freed : (depth d : ℕ) (q : St) → InUse s d → LevelsLeft C (view s) d depth → Starts d q → Freed d q (freeTree depth h d q)
   unfolding freeTree
   tree-freed zero d q used low start = clear-freed d q q used (start .size) (record {
     gone = λ j i e m r l under. absurd (omega (arith, refers-level r, low, C .level-le (numberAt s e)));
     rest = λ j off. kept-self;
     size = record { same-tables = refl; same-words = refl };
   })
-  tree-freed (suc left) d q used low start =
-      let done = loop left d 512 q used low start (omega arith) (λ e q used low start. tree-freed left e q used low start) in
+  tree-freed (suc depth) d q used low start =
+      let done = loop depth d 512 q used low start (omega arith) (λ e q used low start. tree-freed depth e q used low start) in
       clear-freed d q _ used (size-trans (start .size) (done .size)) done

@@ -66,7 +66,7 @@ module _ {h : Handle} {s : St} (shape : Shaped h s) (P : SoundPool h s) where
       record {
         used = inUse;
         slot = inside;
-        leads = rw (sym (word-in s k i inside) ∙ r .says) (sub-link (h .base .0) (tables s) (levelAt s k) c (table .0) (shape .paged) (shape .ended) (used-in s c (r .used)));
+        leads = rw (sym (word-in s k i inside) ∙ r .says) (sub-link (h .base .0) (tables s) c (levelAt s k) (table .0) (shape .paged) (shape .ended) (used-in s c (r .used)));
       }
 
   leads-points : {k i c : ℕ} → Leads h s k i c → Points (codecOf h (shaped-placed shape)) (view s) k i c

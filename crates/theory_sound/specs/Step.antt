@@ -41,13 +41,13 @@ not-table placed s k i inside old table = old (table .0, ap (λ (w : ℕ). w % 4
 pub used-inside : {h : Handle} {s : St} → SoundPool h s → (k : ℕ) → InUse s k → Inside s k
 used-inside {s = s} P k used = omega (arith, P .sized, used-in s k used)
 
--- s′ is s after a step at slot i of table p, which has `left` levels below its own; the slot now shows the tree t
-pub record Step (h : Handle) (placed : Placed h) (s s′ : St) (left p i : ℕ) (t : Tree) : Type 0 where
-  pub move : Move (codecOf h placed) (view s) (view s′) left p i t
+-- s′ is s after a step at slot i of table p, which has `depth` levels below its own; the slot now shows the tree t
+pub record Step (h : Handle) (placed : Placed h) (s s′ : St) (depth p i : ℕ) (t : Tree) : Type 0 where
+  pub move : Move (codecOf h placed) (view s) (view s′) depth p i t
   pub same-tables : tables s′ ≡ tables s
   pub same-words : length (s′ .words) ≡ length (s .words)
 
-module _ {h : Handle} {placed : Placed h} {s s′ : St} {left p i : ℕ} {t : Tree} (P : SoundPool h s) (step : Step h placed s s′ left p i t) where
+module _ {h : Handle} {placed : Placed h} {s s′ : St} {depth p i : ℕ} {t : Tree} (P : SoundPool h s) (step : Step h placed s s′ depth p i t) where
   -- SOUND AGAIN
   pub step-pool : SoundPool h s′
   step-pool = sound-pool placed (omega (arith, P .sized, step .same-tables, step .same-words)) (step .move .at .sound)

@@ -31,10 +31,10 @@ module _ {h : Handle} (placed : Placed h) {s : St} (P : SoundPool h s) (p i v : 
   }
 
   -- STORE: a leaf over a leaf. The ledger stays, and so the counts.
-  pub store-step : (left : ℕ) → levelAt s p + left ≡ 3 → ¬ (TableWord (levelAt s p) (wordAt s p i)) → Stands h (levelAt s p) v
-      → Step h placed s (storeAt p i v s) left p i (leaf v)
-  store-step left low old stands = record {
-    move = move-store (pool-sound placed P) left inUse inside low (stands-fits h placed (numberAt s p) stands) stored (not-table placed s p i inside old);
+  pub store-step : (depth : ℕ) → levelAt s p + depth ≡ 3 → ¬ (TableWord (levelAt s p) (wordAt s p i)) → Stands h (levelAt s p) v
+      → Step h placed s (storeAt p i v s) depth p i (leaf v)
+  store-step depth low old stands = record {
+    move = move-store (pool-sound placed P) depth inUse inside low (stands-fits h placed (numberAt s p) stands) stored (not-table placed s p i inside old);
     same-tables = refl;
     same-words = length-set (s .words) (512 * p + i) v;
   }
@@ -58,10 +58,10 @@ module _ {h : Handle} (placed : Placed h) {s : St} (P : SoundPool h s) (p i v : 
         at = omega (arith, used-inside P e (r .used), length-set (s .words) (512 * p + i) v)
 
     -- CLEAR: a table whose words are all 0
-    pub clear-step : (left : ℕ) → levelAt s p + left ≡ 3 → Stands h (levelAt s p) v → ((j : ℕ) → j < 512 → wordAt s e j ≡ 0)
-        → Step h placed s (clear e (storeAt p i v s)) left p i (leaf v)
-    clear-step left low stands zeros = record {
-      move = move-free (pool-sound placed P) left inUse inside low (stands-fits h placed (numberAt s p) stands)
+    pub clear-step : (depth : ℕ) → levelAt s p + depth ≡ 3 → Stands h (levelAt s p) v → ((j : ℕ) → j < 512 → wordAt s e j ≡ 0)
+        → Step h placed s (clear e (storeAt p i v s)) depth p i (leaf v)
+    clear-step depth low stands zeros = record {
+      move = move-free (pool-sound placed P) depth inUse inside low (stands-fits h placed (numberAt s p) stands)
           (free-empty-frees (pool-sound placed P) (r .used) (λ j. empty j (le-or 512 j)) cleared) r;
       same-tables = clear-tables e (storeAt p i v s);
       same-words = clear-words e (storeAt p i v s) at ∙ length-set (s .words) (512 * p + i) v;

@@ -26,28 +26,28 @@ use Rattle.theory_sound.specs.Step.{Stands, stands-fits, not-table, used
 
 -- ---- what is taken, and the counts; nothing is asked of the pool
 
-module _ (h : Handle) (level p i : ℕ) (t : List ℕ) (s : St) (f : ℕ) (found : lowestFree (s .ledger) ≡ At f) where
-  pub take-is : takeTable h level p i t s ≡ taken (At f) (takeAt h level p i t f s)
-  take-is = sym (take-some h level p i t s f refl found)
+module _ (h : Handle) (p level i : ℕ) (t : List ℕ) (s : St) (f : ℕ) (found : lowestFree (s .ledger) ≡ At f) where
+  pub take-is : takeTable h p level i t s ≡ taken (At f) (takeAt h p level i t f s)
+  take-is = sym (take-some h p level i t s f refl found)
 
   -- the lowest free table
   pub take-lowest : Lowest (s .ledger) f
   take-lowest = lowest-found (s .ledger) f found
 
-  pub take-free : suc (free (takeAt h level p i t f s .ledger)) ≡ free (s .ledger)
+  pub take-free : suc (free (takeAt h p level i t f s .ledger)) ≡ free (s .ledger)
   unfolding takeAt
-  take-free = free-take (s .ledger) f (numberOf level p i) (take-lowest .inside) (take-lowest .free) (number-pos level p i)
+  take-free = free-take (s .ledger) f (numberOf p level i) (take-lowest .inside) (take-lowest .free) (number-pos p level i)
 
 -- ---- the step
 
-module _ {h : Handle} (placed : Placed h) {s : St} (P : SoundPool h s) (level p i : ℕ) (t : List ℕ) (f : ℕ)
+module _ {h : Handle} (placed : Placed h) {s : St} (P : SoundPool h s) (p level i : ℕ) (t : List ℕ) (f : ℕ)
     (inUse : InUse s p) (inside : i < 512) (below : level ≡ levelAt s p + 1) (high : level ≤ 3) (full : length t ≡ 512)
     (found : lowestFree (s .ledger) ≡ At f) where
   lowest : Lowest (s .ledger) f
   lowest = lowest-found (s .ledger) f found
 
   abbrev after : St
-  after = takeAt h level p i t f s
+  after = takeAt h p level i t f s
 
   apart : p ≢ f
   apart same = omega (arith, inUse, lowest .free, ap (numberAt s) same)
@@ -55,56 +55,56 @@ module _ {h : Handle} (placed : Placed h) {s : St} (P : SoundPool h s) (level p 
   at : Inside s f
   at = omega (arith, lowest .inside, P .sized)
 
-  pub take-splits : Splits (codecOf h placed) (view s) (view after) p i f (numberOf level p i) (λ j. getD t j 0)
+  pub take-splits : Splits (codecOf h placed) (view s) (view after) p i f (numberOf p level i) (λ j. getD t j 0)
   unfolding takeAt
   take-splits = record {
     linked = store-here filled p i (linkOf (h .base .0) f) inside (omega (arith, used-inside P p inUse, length-table f t (s .words) full at));
-    filled = λ j. store-other filled p i (linkOf (h .base .0) f) inside f j (λ e. apart (sym (e .0))) ∙ put-here s (set (s .ledger) f (numberOf level p i)) t f full at j;
-    number = getD-set-same (s .ledger) f (numberOf level p i) 0 (lowest .inside);
-    words = λ k j other off. store-other filled p i (linkOf (h .base .0) f) inside k j off ∙ put-other s (set (s .ledger) f (numberOf level p i)) t f full at k j other;
-    ledger = λ k other. getD-set-other (s .ledger) f k (numberOf level p i) 0 other;
+    filled = λ j. store-other filled p i (linkOf (h .base .0) f) inside f j (λ e. apart (sym (e .0))) ∙ put-here s (set (s .ledger) f (numberOf p level i)) t f full at j;
+    number = getD-set-same (s .ledger) f (numberOf p level i) 0 (lowest .inside);
+    words = λ k j other off. store-other filled p i (linkOf (h .base .0) f) inside k j off ∙ put-other s (set (s .ledger) f (numberOf p level i)) t f full at k j other;
+    ledger = λ k other. getD-set-other (s .ledger) f k (numberOf p level i) 0 other;
   }
     where
       filled : St
-      filled = st (putTable f t (s .words)) (set (s .ledger) f (numberOf level p i))
+      filled = st (putTable f t (s .words)) (set (s .ledger) f (numberOf p level i))
 
   pub take-tables : tables after ≡ tables s
   unfolding takeAt
-  take-tables = length-set (s .ledger) f (numberOf level p i)
+  take-tables = length-set (s .ledger) f (numberOf p level i)
 
   pub take-words : length (after .words) ≡ length (s .words)
   unfolding takeAt
   take-words = length-set (putTable f t (s .words)) (512 * p + i) (linkOf (h .base .0) f) ∙ length-table f t (s .words) full at
 
   module _ (stands : (j : ℕ) → j < 512 → Stands h level (getD t j 0)) where
-    pub take-fit : Fit (codecOf h placed) (view s) p i f (numberOf level p i) (λ j. getD t j 0)
+    pub take-fit : Fit (codecOf h placed) (view s) p i f (numberOf p level i) (λ j. getD t j 0)
     take-fit = record {
       well = names;
-      used = number-pos level p i;
+      used = number-pos p level i;
       level = own ∙ (let e : level ≡ suc (levelAt s p) = omega arith in e);
-      over = over-names f (numberOf level p i) names ∙ parent-back level p i (omega arith) inside;
-      slot = slot-back level p i (omega arith) inside;
-      fits = λ j small. stands-fits h placed (numberOf level p i) (rw own (stands j small));
+      over = over-names f (numberOf p level i) names ∙ parent-back p level i (omega arith) inside;
+      slot = slot-back p level i (omega arith) inside;
+      fits = λ j small. stands-fits h placed (numberOf p level i) (rw own (stands j small));
       wide = λ j past. List·getD-eq-default t 0 (omega arith);
     }
       where
-        names : Names (numberOf level p i)
-        names = number-names level p i (omega arith) inside
+        names : Names (numberOf p level i)
+        names = number-names p level i (omega arith) inside
 
-        own : levelOf (numberOf level p i) ≡ level
-        own = level-back level p i (omega arith)
+        own : levelOf (numberOf p level i) ≡ level
+        own = level-back p level i (omega arith)
 
     -- TAKE: the slot now shows a table of the leaves t
-    pub take-step : (left : ℕ) → level + left ≡ 3 → ¬ (TableWord (levelAt s p) (wordAt s p i))
-        → Step h placed s after (suc left) p i (node (λ j. leaf (getD t j 0)))
-    take-step left low old =
+    pub take-step : (depth : ℕ) → level + depth ≡ 3 → ¬ (TableWord (levelAt s p) (wordAt s p i))
+        → Step h placed s after (suc depth) p i (node (λ j. leaf (getD t j 0)))
+    take-step depth low old =
         let S = pool-sound placed P in
         let none = not-table placed s p i inside old in
-        let low′ : levelOf (numberOf level p i) + left ≡ 3 = rw (level-back level p i (omega arith)) low in
+        let low′ : levelOf (numberOf p level i) + depth ≡ 3 = rw (level-back p level i (omega arith)) low in
         let S′ = split-at S take-splits take-fit inUse inside none (lowest .free) .sound in
         record {
-          move = move-split S take-splits take-fit inUse inside none (lowest .free) left
-              (record { over = work-skip S′ left f .over; tree = new-tree S take-splits take-fit inUse inside none (lowest .free) left low′ });
+          move = move-split S take-splits take-fit inUse inside none (lowest .free) depth
+              (record { over = work-skip S′ depth f .over; tree = new-tree S take-splits take-fit inUse inside none (lowest .free) depth low′ });
           same-tables = take-tables;
           same-words = take-words;
         }

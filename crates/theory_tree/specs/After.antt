@@ -56,22 +56,22 @@ module _ (m : Map) (page : ℕ) where
 
 -- ---- the pages of an entry
 
-module _ (m : Map) (left q page : ℕ) (at : In left q page) where
+module _ (m : Map) (depth q page : ℕ) (at : In depth q page) where
   -- an entry that the region does not meet has none of its pages
-  pub off-out : meets left (first left q) m ≡ false → covers m page ≡ false
+  pub off-out : meets depth (first depth q) m ≡ false → covers m page ≡ false
   off-out e = byBool (covers m page)
-      (λ c. let x = covers-yes m page c in let y = in-from left q page at in
-      absurd (true≢false (sym (yes-meets left (first left q) m page (x .0) (x .1) (y .0) (y .1)) ∙ e)))
+      (λ c. let x = covers-yes m page c in let y = in-from depth q page at in
+      absurd (true≢false (sym (yes-meets depth (first depth q) m page (x .0) (x .1) (y .0) (y .1)) ∙ e)))
       (λ c. c)
 
   -- of a whole entry it has all
-  pub whole-in : whole left (first left q) m ≡ true → covers m page ≡ true
-  whole-in e = let x = whole-yes left (first left q) m e in let y = in-from left q page at in yes-covers m page (omega arith) (omega arith)
+  pub whole-in : whole depth (first depth q) m ≡ true → covers m page ≡ true
+  whole-in e = let x = whole-yes depth (first depth q) m e in let y = in-from depth q page at in yes-covers m page (omega arith) (omega arith)
 
   -- the frame of the entry's first page, and the page's offset
-  pub frame-page : m .from ≤ first left q → frameAt (first left q) m + page % span left ≡ m .frame + (page - m .from)
+  pub frame-page : m .from ≤ first depth q → frameAt (first depth q) m + page % span depth ≡ m .frame + (page - m .from)
   unfolding frameAt
-  frame-page h = let r = in-rest left q page at in omega arith
+  frame-page h = let r = in-rest depth q page at in omega arith
 
 -- ---- what is written
 
@@ -90,15 +90,15 @@ module _ (m : Map) (G : Given m) where
       let x = page-in b m e in
       fine-leaf zero (frameAt b m) (m .flags) (G .plain) (frame-at b (x .0) (x .1)) (page-aligned (frameAt b m)) (omega arith)
 
-  block-good : (left b : ℕ) → fits left b m ≡ true → Fine left (leafWord left (frameAt b m) (m .flags))
-  block-good left b e =
-      let x = fits-yes left b m e in
-      let y = whole-yes left b m (x .0) in
-      let z = span-pos left in
-      fine-leaf left (frameAt b m) (m .flags) (G .plain) (frame-at b (y .0) (omega arith)) (x .1) (x .2)
+  block-good : (depth b : ℕ) → fits depth b m ≡ true → Fine depth (leafWord depth (frameAt b m) (m .flags))
+  block-good depth b e =
+      let x = fits-yes depth b m e in
+      let y = whole-yes depth b m (x .0) in
+      let z = span-pos depth in
+      fine-leaf depth (frameAt b m) (m .flags) (G .plain) (frame-at b (y .0) (omega arith)) (x .1) (x .2)
 
-  map-good : (left q : ℕ) (t : Tree) → FineTree left t → Good left (mapRule m left (first left q) t)
-  map-good left q t fine = byBool (meets left (first left q) m) (met left t fine) (λ e. subst (Good left) (sym (rule-off m left (first left q) t e)) tt)
+  map-good : (depth q : ℕ) (t : Tree) → FineTree depth t → Good depth (mapRule m depth (first depth q) t)
+  map-good depth q t fine = byBool (meets depth (first depth q) m) (met depth t fine) (λ e. subst (Good depth) (sym (rule-off m depth (first depth q) t e)) tt)
     where
       met : (k : ℕ) (u : Tree) → FineTree k u → meets k (first k q) m ≡ true → Good k (mapRule m k (first k q) u)
       met zero (leaf w) fu e = subst (Good zero) (sym (rule-page m (first zero q) w e)) (page-good (first zero q) e)
@@ -115,32 +115,32 @@ module _ (m : Map) (G : Given m) where
   -- ---- what is seen
 
   -- rules 1 and 3: frame and flags
-  written-seen : (left q page : ℕ) → In left q page → m .from ≤ first left q → frameAt (first left q) m < 2 ^ 36
-      → frameAt (first left q) m % span left ≡ 0 → left < 3 → seenIn left (leafWord left (frameAt (first left q) m) (m .flags)) page ≡ asked m page
-  written-seen left q page at h below aligned low =
-      let p : ℕ = frameAt (first left q) m in
+  written-seen : (depth q page : ℕ) → In depth q page → m .from ≤ first depth q → frameAt (first depth q) m < 2 ^ 36
+      → frameAt (first depth q) m % span depth ≡ 0 → depth < 3 → seenIn depth (leafWord depth (frameAt (first depth q) m) (m .flags)) page ≡ asked m page
+  written-seen depth q page at h below aligned low =
+      let p : ℕ = frameAt (first depth q) m in
       byBool (valid (m .flags))
-      (λ v. seen-leaf-word left p (m .flags) page (G .plain) below aligned low v
-      ∙ ap (mapped (m .flags)) (frame-page m left q page at h) ∙ sym (asked-valid m page v))
-      (λ v. ap (λ (x : ℕ). seenIn left x page) (leaf-hole (m .flags) (G .plain) left p v)
-      ∙ seen-flags left (m .flags) page (G .plain) v ∙ sym (asked-hole m page v))
+      (λ v. seen-leaf-word depth p (m .flags) page (G .plain) below aligned low v
+      ∙ ap (mapped (m .flags)) (frame-page m depth q page at h) ∙ sym (asked-valid m page v))
+      (λ v. ap (λ (x : ℕ). seenIn depth x page) (leaf-hole (m .flags) (G .plain) depth p v)
+      ∙ seen-flags depth (m .flags) page (G .plain) v ∙ sym (asked-hole m page v))
 
   -- rule 2: what is there shows it already
-  same-seen : (left q w page : ℕ) → Fine (suc left) w → In (suc left) q page → same (first (suc left) q) m w ≡ true → covers m page ≡ true
-      → seenIn (suc left) w page ≡ asked m page
+  same-seen : (depth q w page : ℕ) → Fine (suc depth) w → In (suc depth) q page → same (first (suc depth) q) m w ≡ true → covers m page ≡ true
+      → seenIn (suc depth) w page ≡ asked m page
   unfolding asked
-  same-seen left q w page fine at s c =
-      let x = same-yes (first (suc left) q) m w s in
+  same-seen depth q w page fine at s c =
+      let x = same-yes (first (suc depth) q) m w s in
       let y = covers-yes m page c in
-      let r = in-rest (suc left) q page at in
+      let r = in-rest (suc depth) q page at in
       let flags : plainFlags w ≡ m .flags = plain-flags w (fine .clear (omega arith)) ∙ x .0 in
       let odd : valid w ≡ valid (m .flags) = sym (flags-valid w) ∙ ap valid (x .0) in
-      let frame : frameOf w + page % span (suc left) ≡ m .frame + (page - m .from) = omega arith in
-      seen-fine (suc left) w page fine ∙ rw (flags, odd, frame)
+      let frame : frameOf w + page % span (suc depth) ≡ m .frame + (page - m .from) = omega arith in
+      seen-fine (suc depth) w page fine ∙ rw (flags, odd, frame)
 
-  map-right : (left q : ℕ) (t : Tree) (page : ℕ) → FineTree left t → In left q page → Right (after m) left t page (mapRule m left (first left q) t)
-  map-right left q t page fine at = byBool (meets left (first left q) m) (met left t fine at)
-      (λ e. subst (Right (after m) left t page) (sym (rule-off m left (first left q) t e)) (sym (after-out m page (seen left t page) (off-out m left q page at e))))
+  map-right : (depth q : ℕ) (t : Tree) (page : ℕ) → FineTree depth t → In depth q page → Right (after m) depth t page (mapRule m depth (first depth q) t)
+  map-right depth q t page fine at = byBool (meets depth (first depth q) m) (met depth t fine at)
+      (λ e. subst (Right (after m) depth t page) (sym (rule-off m depth (first depth q) t e)) (sym (after-out m page (seen depth t page) (off-out m depth q page at e))))
     where
       met : (k : ℕ) (u : Tree) → FineTree k u → In k q page → meets k (first k q) m ≡ true → Right (after m) k u page (mapRule m k (first k q) u)
       met zero (node g) fu in0 e = absurd fu

@@ -23,23 +23,23 @@ unfoldable pub atSlot : ℕ → (Tree → Tree) → Tree → Tree
 atSlot i h (leaf w) = leaf w
 atSlot i h (node f) = node (λ j. cond (eqb j i) (h (f j)) (f j))
 
--- `each` does a chunk, with its frame, to the entry; the table's entries have `left` levels below
+-- `each` does a chunk, with its frame, to the entry; the table's entries have `depth` levels below
 unfoldable pub sweep : ℕ → (MemoryRegion → ℕ → Tree → Tree) → List MemoryRegion → ℕ → Tree → Tree
-sweep left each [] frame t = t
-sweep left each (c ∷ cs) frame t =
-    sweep left each cs (frame + (c .end .0 - c .start .0)) (atSlot (entryIndex (3 - left) (c .start .0)) (each c frame) t)
+sweep depth each [] frame t = t
+sweep depth each (c ∷ cs) frame t =
+    sweep depth each cs (frame + (c .end .0 - c .start .0)) (atSlot (entryIndex (3 - depth) (c .start .0)) (each c frame) t)
 
 module _ (rules : ℕ → MemoryRegion → ℕ → Tree → Rule) where
-  -- the chunk c, with its frame, of an entry with `left` levels below
+  -- the chunk c, with its frame, of an entry with `depth` levels below
   unfoldable pub chunked : ℕ → MemoryRegion → ℕ → Tree → Tree
   chunked zero c frame t = obey (rules zero c frame t) t t
-  chunked (suc left) c frame t =
-      let below = sweep left (λ d p u. chunked left d p u) (chunks (3 - left) (c .start .0) (c .end .0)) frame (opened left t) in
-      obey (rules (suc left) c frame t) t below
+  chunked (suc depth) c frame t =
+      let below = sweep depth (λ d p u. chunked depth d p u) (chunks (3 - depth) (c .start .0) (c .end .0)) frame (opened depth t) in
+      obey (rules (suc depth) c frame t) t below
 
-  -- the region c of a table whose entries have `left` levels below
+  -- the region c of a table whose entries have `depth` levels below
   unfoldable pub chunkedTable : ℕ → MemoryRegion → ℕ → Tree → Tree
-  chunkedTable left c frame t = sweep left (λ d p u. chunked left d p u) (chunks (3 - left) (c .start .0) (c .end .0)) frame t
+  chunkedTable depth c frame t = sweep depth (λ d p u. chunked depth d p u) (chunks (3 - depth) (c .start .0) (c .end .0)) frame t
 
 -- ---- in pages
 
@@ -56,40 +56,40 @@ pub record Inside (b n start end frame : ℕ) : Type 0 where
   pub high : end / 4096 ≤ b + n
 
 -- the slot of an address
-pub index-slot : (left a : ℕ) → left ≤ 3 → entryIndex (3 - left) a ≡ slotOf (a / 4096) left
+pub index-slot : (depth a : ℕ) → depth ≤ 3 → entryIndex (3 - depth) a ≡ slotOf (a / 4096) depth
 unfolding entryIndex slotOf
-index-slot left a h = ap (λ (x : ℕ). x % 512) (entry-number left a h)
+index-slot depth a h = ap (λ (x : ℕ). x % 512) (entry-number depth a h)
 
 -- where the chunk from an address ends
-chunk-end : (left q s e : ℕ) → left ≤ 3 → In left q (s / 4096) → chunkEnd (3 - left) s e ≡ min e ((first left q + span left) * 4096)
+chunk-end : (depth q s e : ℕ) → depth ≤ 3 → In depth q (s / 4096) → chunkEnd (3 - depth) s e ≡ min e ((first depth q + span depth) * 4096)
 unfolding chunkEnd entryLast down
-chunk-end left q s e h at =
-    let size = span-size left h in
-    let pos = size-pos (3 - left) in
-    let start : s / sizeAt (3 - left) * sizeAt (3 - left) ≡ first left q * 4096 = entry-start left s h ∙ ap (λ (x : ℕ). first left x * 4096) at in
-    let last : s / sizeAt (3 - left) * sizeAt (3 - left) + (sizeAt (3 - left) - 1) + 1 ≡ (first left q + span left) * 4096 = omega arith in
+chunk-end depth q s e h at =
+    let size = span-size depth h in
+    let pos = size-pos (3 - depth) in
+    let start : s / sizeAt (3 - depth) * sizeAt (3 - depth) ≡ first depth q * 4096 = entry-start depth s h ∙ ap (λ (x : ℕ). first depth x * 4096) at in
+    let last : s / sizeAt (3 - depth) * sizeAt (3 - depth) + (sizeAt (3 - depth) - 1) + 1 ≡ (first depth q + span depth) * 4096 = omega arith in
     ap (min e) last
 
 -- ---- the first chunk of a region in a table
 
 -- the region from s to e of table q starts with the chunk up to z, in slot i
-pub record Cut (left q s e p z i : ℕ) : Type 0 where
-  pub chunk : Inside (first left (child q i)) (span left) s z p
-  pub rest : Inside (first (suc left) q) (span (suc left)) z e (p + (z - s))
+pub record Cut (depth q s e p z i : ℕ) : Type 0 where
+  pub chunk : Inside (first depth (child q i)) (span depth) s z p
+  pub rest : Inside (first (suc depth) q) (span (suc depth)) z e (p + (z - s))
   pub more : s < z
   pub within : z ≤ e
-  pub ends : z / 4096 ≡ min (e / 4096) (first left (child q i) + span left)
+  pub ends : z / 4096 ≡ min (e / 4096) (first depth (child q i) + span depth)
 
-pub cut : (left q s e p : ℕ) → left ≤ 3 → s < e → Inside (first (suc left) q) (span (suc left)) s e p
-    → Cut left q s e p (chunkEnd (3 - left) s e) (slotOf (s / 4096) left)
-cut left q s e p low some I =
-    let r : ℕ = child q (slotOf (s / 4096) left) in
-    let in-table : In (suc left) q (s / 4096) = in-of (suc left) q (s / 4096) (I .low) (omega (arith, I .startPage, I .endPage, I .high)) in
-    let in-entry : In left r (s / 4096) = in-child left q (s / 4096) in-table in
-    let at = in-from left r (s / 4096) in-entry in
-    let end : chunkEnd (3 - left) s e ≡ min e ((first left r + span left) * 4096) = chunk-end left r s e low in-entry in
-    let fits = chunk-fits (3 - left) s e some in
-    let page : chunkEnd (3 - left) s e % 4096 ≡ 0 = omega (arith, I .endPage) in
+pub cut : (depth q s e p : ℕ) → depth ≤ 3 → s < e → Inside (first (suc depth) q) (span (suc depth)) s e p
+    → Cut depth q s e p (chunkEnd (3 - depth) s e) (slotOf (s / 4096) depth)
+cut depth q s e p low some I =
+    let r : ℕ = child q (slotOf (s / 4096) depth) in
+    let in-table : In (suc depth) q (s / 4096) = in-of (suc depth) q (s / 4096) (I .low) (omega (arith, I .startPage, I .endPage, I .high)) in
+    let in-entry : In depth r (s / 4096) = in-child depth q (s / 4096) in-table in
+    let at = in-from depth r (s / 4096) in-entry in
+    let end : chunkEnd (3 - depth) s e ≡ min e ((first depth r + span depth) * 4096) = chunk-end depth r s e low in-entry in
+    let fits = chunk-fits (3 - depth) s e some in
+    let page : chunkEnd (3 - depth) s e % 4096 ≡ 0 = omega (arith, I .endPage) in
     record {
       chunk = record { startPage = I .startPage; endPage = page; framePage = I .framePage; low = at .0; high = omega arith };
       rest = record {

@@ -24,12 +24,12 @@ nodes-each h f =
     ∙ ap suc (sum-ext 512 (λ i. nodes (slotAfter h f i)) (λ i. nodes (h i (f i))) (λ i l. ap nodes (slot-after h f i l)))
 
 -- opening an entry adds the table that it makes
-nodes-opened : (left : ℕ) (t : Tree) → nodes (opened left t) ≡ nodes t + splits t
+nodes-opened : (depth : ℕ) (t : Tree) → nodes (opened depth t) ≡ nodes t + splits t
 unfolding opened splits
-nodes-opened left (leaf w) =
-    let none = sum-none 512 (λ i. nodes (fillSlot left w i)) (λ i l. ap nodes (fill-slot left w i l) ∙ nodes-leaf (fillWord left w i)) in
-    ap nodes (fill-node left w) ∙ nodes-node (fillSlot left w) ∙ (let z = nodes-leaf w in omega arith)
-nodes-opened left (node f) = omega arith
+nodes-opened depth (leaf w) =
+    let none = sum-none 512 (λ i. nodes (fillSlot depth w i)) (λ i l. ap nodes (fill-slot depth w i l) ∙ nodes-leaf (fillWord depth w i)) in
+    ap nodes (fill-node depth w) ∙ nodes-node (fillSlot depth w) ∙ (let z = nodes-leaf w in omega arith)
+nodes-opened depth (node f) = omega arith
 
 -- slot by slot
 pub table-balance : (h : ℕ → Tree → Tree) (less more : ℕ → Tree → ℕ) → ((i : ℕ) (u : Tree) → nodes (h i u) + less i u ≡ nodes u + more i u)
@@ -64,46 +64,46 @@ counted-none down = refl
 
 module _ (rule : ℕ → ℕ → Tree → Rule) where
   -- nodes after + freed = nodes before + made, whatever the rule and the tree
-  pub balance : (left q : ℕ) (t : Tree) → nodes (visit rule left q t) + freed rule left q t ≡ nodes t + made rule left q t
+  pub balance : (depth q : ℕ) (t : Tree) → nodes (visit rule depth q t) + freed rule depth q t ≡ nodes t + made rule depth q t
   unfolding visit made freed
   balance zero q t =
       obey-balance (rule zero (first zero q) t) t t 0 0 refl ∙ ap (λ (x : ℕ). nodes t + x) (counted-none (rule zero (first zero q) t))
-  balance (suc left) q t =
-      let table = table-balance (λ i u. visit rule left (child q i) u) (λ i u. freed rule left (child q i) u) (λ i u. made rule left (child q i) u)
-      (λ i u. balance left (child q i) u) (opened left t) in
-      let new = nodes-opened left t in
-      obey-balance (rule (suc left) (first (suc left) q) t) t _ _ _ (omega arith)
+  balance (suc depth) q t =
+      let table = table-balance (λ i u. visit rule depth (child q i) u) (λ i u. freed rule depth (child q i) u) (λ i u. made rule depth (child q i) u)
+      (λ i u. balance depth (child q i) u) (opened depth t) in
+      let new = nodes-opened depth t in
+      obey-balance (rule (suc depth) (first (suc depth) q) t) t _ _ _ (omega arith)
 
-  pub table-count : (left q : ℕ) (t : Tree) → nodes (visitTable rule left q t) + freedTable rule left q t ≡ nodes t + madeTable rule left q t
+  pub table-count : (depth q : ℕ) (t : Tree) → nodes (visitTable rule depth q t) + freedTable rule depth q t ≡ nodes t + madeTable rule depth q t
   unfolding visitTable freedTable madeTable
-  table-count left q t =
-      table-balance (λ i u. visit rule left (child q i) u) (λ i u. freed rule left (child q i) u) (λ i u. made rule left (child q i) u)
-      (λ i u. balance left (child q i) u) t
+  table-count depth q t =
+      table-balance (λ i u. visit rule depth (child q i) u) (λ i u. freed rule depth (child q i) u) (λ i u. made rule depth (child q i) u)
+      (λ i u. balance depth (child q i) u) t
 
   -- ---- a rule that never writes over a table frees nothing
 
-  module _ (never : (left b : ℕ) (f : ℕ → Tree) (x : ℕ) → rule left b (node f) ≡ write x → ⊥) where
-    counted-below : (left b : ℕ) (t : Tree) (below : ℕ) → below ≡ 0 → counted (rule left b t) (nodes t) below ≡ 0
+  module _ (never : (depth b : ℕ) (f : ℕ → Tree) (x : ℕ) → rule depth b (node f) ≡ write x → ⊥) where
+    counted-below : (depth b : ℕ) (t : Tree) (below : ℕ) → below ≡ 0 → counted (rule depth b t) (nodes t) below ≡ 0
     unfolding counted
-    counted-below left b (leaf w) below z = go (rule left b (leaf w))
+    counted-below depth b (leaf w) below z = go (rule depth b (leaf w))
       where
         go : (r : Rule) → counted r (nodes (leaf w)) below ≡ 0
         go keep = refl
         go (write x) = nodes-leaf w
         go down = z
-    counted-below left b (node f) below z = go (rule left b (node f)) refl
+    counted-below depth b (node f) below z = go (rule depth b (node f)) refl
       where
-        go : (r : Rule) → rule left b (node f) ≡ r → counted r (nodes (node f)) below ≡ 0
+        go : (r : Rule) → rule depth b (node f) ≡ r → counted r (nodes (node f)) below ≡ 0
         go keep e = refl
-        go (write x) e = absurd (never left b f x e)
+        go (write x) e = absurd (never depth b f x e)
         go down e = z
 
-    pub frees-none : (left q : ℕ) (t : Tree) → freed rule left q t ≡ 0
+    pub frees-none : (depth q : ℕ) (t : Tree) → freed rule depth q t ≡ 0
     unfolding freed
     frees-none zero q t = counted-below zero (first zero q) t 0 refl
-    frees-none (suc left) q t =
-        counted-below (suc left) (first (suc left) q) t _ (total-none (λ i u. freed rule left (child q i) u) (λ i u. frees-none left (child q i) u) (opened left t))
+    frees-none (suc depth) q t =
+        counted-below (suc depth) (first (suc depth) q) t _ (total-none (λ i u. freed rule depth (child q i) u) (λ i u. frees-none depth (child q i) u) (opened depth t))
 
-    pub table-frees-none : (left q : ℕ) (t : Tree) → freedTable rule left q t ≡ 0
+    pub table-frees-none : (depth q : ℕ) (t : Tree) → freedTable rule depth q t ≡ 0
     unfolding freedTable
-    table-frees-none left q t = total-none (λ i u. freed rule left (child q i) u) (λ i u. frees-none left (child q i) u) t
+    table-frees-none depth q t = total-none (λ i u. freed rule depth (child q i) u) (λ i u. frees-none depth (child q i) u) t

@@ -62,15 +62,15 @@ module _ (set clear : ℕ) (S : Plain set) (C : Plain clear) where
       valid-same (edited set clear (plainFlags w)) (edited set clear w) (ap (λ (x : ℕ). x % 2) (sym (edited-plain w wide)) ∙ plain-odd (edited set clear w))
 
   -- an edited word is fine where the word was
-  pub fine-edited : (left w : ℕ) → Fine left w → valid w ≡ true → Fine left (edited set clear w)
-  fine-edited left w fine v =
+  pub fine-edited : (depth w : ℕ) → Fine depth w → valid w ≡ true → Fine depth (edited set clear w)
+  fine-edited depth w fine v =
       let o = valid-yes w v in
       let frame = edited-frame w (fine .wide) in
       let bit = edited-bit w (fine .wide) in
       record {
         wide = edited-wide w;
         clear = λ h. bit ∙ fine .clear h;
-        aligned = ap (λ (x : ℕ). x % span left) frame ∙ fine .aligned;
+        aligned = ap (λ (x : ℕ). x % span depth) frame ∙ fine .aligned;
         top = λ h. absurd (omega (arith, fine .top h .0));
         page = λ h k. bit ∙ fine .page h o;
       }

@@ -13,37 +13,37 @@ use Rattle.entry.specs.Word.{flagsOf, addressOf, valid, Plain, valid-yes, valid
 use Rattle.theory_tree.specs.Page.{span, span-pos, span-suc, span-zero, entry-rest, multiple-child, block-end}
 use Rattle.theory_tree.specs.Word.{frameOf, pageBit, leafWord, fillWord, frame-below, flags-frame, leaf-hole, leaf-frame, leaf-bit, leaf-wide, address-frame}
 
--- A word, no table word, as it may stand in an entry with `left` levels below (document 01, "A pool is sound when", its third clause without the
+-- A word, no table word, as it may stand in an entry with `depth` levels below (document 01, "A pool is sound when", its third clause without the
 -- set of flags).
-pub record Fine (left w : ℕ) : Type 0 where
+pub record Fine (depth w : ℕ) : Type 0 where
   pub wide : w < 2 ^ 64
-  pub clear : 1 ≤ left → w / 2 % 2 ≡ 0
-  pub aligned : frameOf w % span left ≡ 0
-  pub top : 3 ≤ left → (w % 2 ≡ 0) × (frameOf w ≡ 0)
-  pub page : left ≡ 0 → w % 2 ≡ 1 → w / 2 % 2 ≡ 1
+  pub clear : 1 ≤ depth → w / 2 % 2 ≡ 0
+  pub aligned : frameOf w % span depth ≡ 0
+  pub top : 3 ≤ depth → (w % 2 ≡ 0) × (frameOf w ≡ 0)
+  pub page : depth ≡ 0 → w % 2 ≡ 1 → w / 2 % 2 ≡ 1
 
 -- ---- what is written
 
-aligned-none : (left : ℕ) → 0 % span left ≡ 0
-aligned-none left = zero-mod (span left)
+aligned-none : (depth : ℕ) → 0 % span depth ≡ 0
+aligned-none depth = zero-mod (span depth)
 
 -- flags alone, which aren't valid, are fine anywhere
-pub fine-flags : (left f : ℕ) → Plain f → valid f ≡ false → Fine left f
-fine-flags left f F v =
+pub fine-flags : (depth f : ℕ) → Plain f → valid f ≡ false → Fine depth f
+fine-flags depth f F v =
     let z = flags-frame f F in
     let o = valid-no f v in
     record {
       wide = F .wide;
       clear = λ h. F .clear;
-      aligned = ap (λ (x : ℕ). x % span left) z ∙ aligned-none left;
+      aligned = ap (λ (x : ℕ). x % span depth) z ∙ aligned-none depth;
       top = λ h. (o, z);
       page = λ h k. absurd (omega arith);
     }
 
 -- a frame that is aligned to an entry of levels 1 to 3
-pub fine-leaf : (left p f : ℕ) → Plain f → p < 2 ^ 36 → p % span left ≡ 0 → left < 3 → Fine left (leafWord left p f)
+pub fine-leaf : (depth p f : ℕ) → Plain f → p < 2 ^ 36 → p % span depth ≡ 0 → depth < 3 → Fine depth (leafWord depth p f)
 unfolding pageBit
-fine-leaf left p f F below at low = byBool (valid f) (λ v. some left at low v) (λ v. rw (leaf-hole f F left p v) (fine-flags left f F v))
+fine-leaf depth p f F below at low = byBool (valid f) (λ v. some depth at low v) (λ v. rw (leaf-hole f F depth p v) (fine-flags depth f F v))
   where
     some : (k : ℕ) → p % span k ≡ 0 → k < 3 → valid f ≡ true → Fine k (leafWord k p f)
     some zero at low v = record {
@@ -63,38 +63,38 @@ fine-leaf left p f F below at low = byBool (valid f) (λ v. some left at low v) 
 
 -- ---- the fill
 
-module _ (left w : ℕ) (fine : Fine (suc left) w) where
+module _ (depth w : ℕ) (fine : Fine (suc depth) w) where
   pub fill-flags : Plain (flagsOf w)
   fill-flags = flags-plain w (fine .wide) (fine .clear (omega arith))
 
   -- a valid word stands at level 1 or 2
-  pub fine-low : valid w ≡ true → suc left < 3
-  fine-low v = let o = valid-yes w v in go (le-or 3 (suc left))
+  pub fine-low : valid w ≡ true → suc depth < 3
+  fine-low v = let o = valid-yes w v in go (le-or 3 (suc depth))
     where
-      go : (3 ≤ suc left) ⊎ (suc left < 3) → suc left < 3
+      go : (3 ≤ suc depth) ⊎ (suc depth < 3) → suc depth < 3
       go (inl h) = absurd (omega (arith, fine .top h .0, valid-yes w v))
       go (inr h) = h
 
   -- its frame is a multiple of the entry's size
-  pub fine-frame : frameOf w / span (suc left) * span (suc left) ≡ frameOf w
-  fine-frame = omega (arith, div-add-mod' (frameOf w) (span (suc left)), fine .aligned)
+  pub fine-frame : frameOf w / span (suc depth) * span (suc depth) ≡ frameOf w
+  fine-frame = omega (arith, div-add-mod' (frameOf w) (span (suc depth)), fine .aligned)
 
-  pub fill-is : (i : ℕ) → fillWord left w i ≡ leafWord left (frameOf w + i * span left) (flagsOf w)
+  pub fill-is : (i : ℕ) → fillWord depth w i ≡ leafWord depth (frameOf w + i * span depth) (flagsOf w)
   unfolding fillWord
-  fill-is i = ap (λ (x : ℕ). leafWord left (x + i * span left) (flagsOf w)) fine-frame
+  fill-is i = ap (λ (x : ℕ). leafWord depth (x + i * span depth) (flagsOf w)) fine-frame
 
   -- it ends below 2^48 with its pages, since its size divides that
-  pub fill-below : (i : ℕ) → i < 512 → valid w ≡ true → frameOf w + i * span left < 2 ^ 36
+  pub fill-below : (i : ℕ) → i < 512 → valid w ≡ true → frameOf w + i * span depth < 2 ^ 36
   fill-below i h v =
-      omega (arith, block-end (suc left) (frameOf w) (fine-low v) (fine .aligned) (frame-below w), span-suc left, span-pos left, mul-le-mul-right (span left) h)
+      omega (arith, block-end (suc depth) (frameOf w) (fine-low v) (fine .aligned) (frame-below w), span-suc depth, span-pos depth, mul-le-mul-right (span depth) h)
 
-  pub fill-aligned : (i : ℕ) → (frameOf w + i * span left) % span left ≡ 0
-  fill-aligned i = multiple-child left (frameOf w) i (fine .aligned)
+  pub fill-aligned : (i : ℕ) → (frameOf w + i * span depth) % span depth ≡ 0
+  fill-aligned i = multiple-child depth (frameOf w) i (fine .aligned)
 
-  pub fine-fill : (i : ℕ) → i < 512 → Fine left (fillWord left w i)
+  pub fine-fill : (i : ℕ) → i < 512 → Fine depth (fillWord depth w i)
   fine-fill i h = rw (fill-is i) (byBool (valid w)
-      (λ v. fine-leaf left (frameOf w + i * span left) (flagsOf w) fill-flags (fill-below i h v) (fill-aligned i) (let l = fine-low v in omega arith))
-      (λ v. let o = flags-valid w ∙ v in rw (leaf-hole (flagsOf w) fill-flags left (frameOf w + i * span left) o) (fine-flags left (flagsOf w) fill-flags o)))
+      (λ v. fine-leaf depth (frameOf w + i * span depth) (flagsOf w) fill-flags (fill-below i h v) (fill-aligned i) (let l = fine-low v in omega arith))
+      (λ v. let o = flags-valid w ∙ v in rw (leaf-hole (flagsOf w) fill-flags depth (frameOf w + i * span depth) o) (fine-flags depth (flagsOf w) fill-flags o)))
 
 plain-wide : (w : ℕ) → plainFlags w < 2 ^ 64 → w < 2 ^ 64
 unfolding plainFlags

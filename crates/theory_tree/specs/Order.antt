@@ -82,32 +82,32 @@ afters-reorders (List·Permᴰ·trans c d) h page old = afters-reorders c h page
 
 -- ---- a list of calls on a root's tree
 
-module _ (left r : ℕ) where
+module _ (depth r : ℕ) where
   -- the maps of a list, one after the other
   unfoldable pub run : List Map → Tree → Tree
   run [] t = t
-  run (m ∷ ms) t = run ms (mapTree left r m t)
+  run (m ∷ ms) t = run ms (mapTree depth r m t)
 
   -- refusal 9 is given to none of them, in a pool of n tables
   abbrev pub Room : ℕ → List Map → Tree → Type 0
   Room n [] t = Unit {0}
-  Room n (m ∷ ms) t = (mapMade left r m t ≤ n - nodes t) × Room n ms (mapTree left r m t)
+  Room n (m ∷ ms) t = (mapMade depth r m t ≤ n - nodes t) × Room n ms (mapTree depth r m t)
 
   -- the new tables of a list, want of room aside
   unfoldable pub madeAll : List Map → Tree → ℕ
   madeAll [] t = 0
-  madeAll (m ∷ ms) t = mapMade left r m t + madeAll ms (mapTree left r m t)
+  madeAll (m ∷ ms) t = mapMade depth r m t + madeAll ms (mapTree depth r m t)
 
   -- ---- with VALID: every order leaves the same tree
 
-  pub run-reorders : {ms ns : List Map} → Reorders ms ns → Pairwise ms → Each ValidMap ms → (t : Tree) → FineTable left t → run ms t ≡ run ns t
+  pub run-reorders : {ms ns : List Map} → Reorders ms ns → Pairwise ms → Each ValidMap ms → (t : Tree) → FineTable depth t → run ms t ≡ run ns t
   unfolding run
   run-reorders List·Permᴰ·nil h v t fine = refl
   run-reorders (List·Permᴰ·cons {a = a} {l₂ = k} e d) h v t fine =
-      run-reorders d (h .1) (v .1) (mapTree left r a t) (map-fine left r a (v .0 .given) t fine) ∙ ap (λ (m : Map). run k (mapTree left r m t)) e
+      run-reorders d (h .1) (v .1) (mapTree depth r a t) (map-fine depth r a (v .0 .given) t fine) ∙ ap (λ (m : Map). run k (mapTree depth r m t)) e
   run-reorders (List·Permᴰ·swap {a = a} {b = b} {l = k} p q) h v t fine =
-      ap (run k) (map-commute left r b a (apart-flip a b (h .0 .0)) (v .1 .0 .valid) (v .0 .valid) t fine)
-      ∙ ap₂ (λ (m n : Map). run k (mapTree left r m (mapTree left r n t))) p q
+      ap (run k) (map-commute depth r b a (apart-flip a b (h .0 .0)) (v .1 .0 .valid) (v .0 .valid) t fine)
+      ∙ ap₂ (λ (m n : Map). run k (mapTree depth r m (mapTree depth r n t))) p q
   run-reorders (List·Permᴰ·trans c d) h v t fine =
       run-reorders c h v t fine ∙ run-reorders d (pairwise-reorders c h) (each-reorders ValidMap c v) t fine
 
@@ -115,40 +115,40 @@ module _ (left r : ℕ) where
   run-grows : (ms : List Map) → Each ValidMap ms → (t : Tree) → nodes t ≤ nodes (run ms t)
   unfolding run
   run-grows [] v t = omega arith
-  run-grows (m ∷ ms) v t = omega (arith, run-grows ms (v .1) (mapTree left r m t), valid-grows left r m (v .0 .valid) t)
+  run-grows (m ∷ ms) v t = omega (arith, run-grows ms (v .1) (mapTree depth r m t), valid-grows depth r m (v .0 .valid) t)
 
   pub room-if : (n : ℕ) (ms : List Map) → Each ValidMap ms → (t : Tree) → nodes t ≤ n → Room n ms t ↔ (nodes (run ms t) ≤ n)
   unfolding run
   room-if n [] v t h = (λ room. h, λ fits. tt)
   room-if n (m ∷ ms) v t h = (
-    λ room. room-if n ms (v .1) (mapTree left r m t) (omega (arith, valid-grows left r m (v .0 .valid) t, room .0)) .0 (room .1),
+    λ room. room-if n ms (v .1) (mapTree depth r m t) (omega (arith, valid-grows depth r m (v .0 .valid) t, room .0)) .0 (room .1),
     λ fits. (
-      omega (arith, valid-grows left r m (v .0 .valid) t, run-grows ms (v .1) (mapTree left r m t)),
-      room-if n ms (v .1) (mapTree left r m t) (omega (arith, run-grows ms (v .1) (mapTree left r m t))) .1 fits,
+      omega (arith, valid-grows depth r m (v .0 .valid) t, run-grows ms (v .1) (mapTree depth r m t)),
+      room-if n ms (v .1) (mapTree depth r m t) (omega (arith, run-grows ms (v .1) (mapTree depth r m t))) .1 fits,
     ),
   )
 
-  pub room-reorders : (n : ℕ) {ms ns : List Map} → Reorders ms ns → Pairwise ms → Each ValidMap ms → (t : Tree) → FineTable left t → nodes t ≤ n
+  pub room-reorders : (n : ℕ) {ms ns : List Map} → Reorders ms ns → Pairwise ms → Each ValidMap ms → (t : Tree) → FineTable depth t → nodes t ≤ n
       → Room n ms t → Room n ns t
   room-reorders n {ms} {ns} d h v t fine k room =
       room-if n ns (each-reorders ValidMap d v) t k .1 (subst (λ (u : Tree). nodes u ≤ n) (run-reorders d h v t fine) (room-if n ms v t k .0 room))
 
   -- ---- with and without VALID: what each page shows in the end, in any order
 
-  pub run-seen : (ms : List Map) → Each Given ms → (t : Tree) → FineTable left t → (page : ℕ) → In (suc left) r page
-      → seen (suc left) (run ms t) page ≡ afters ms page (seen (suc left) t page)
+  pub run-seen : (ms : List Map) → Each Given ms → (t : Tree) → FineTable depth t → (page : ℕ) → In (suc depth) r page
+      → seen (suc depth) (run ms t) page ≡ afters ms page (seen (suc depth) t page)
   unfolding run afters
   run-seen [] g t fine page at = refl
   run-seen (m ∷ ms) g t fine page at =
-      run-seen ms (g .1) (mapTree left r m t) (map-fine left r m (g .0) t fine) page at ∙ ap (afters ms page) (map-seen left r m (g .0) t fine page at)
+      run-seen ms (g .1) (mapTree depth r m t) (map-fine depth r m (g .0) t fine) page at ∙ ap (afters ms page) (map-seen depth r m (g .0) t fine page at)
 
-  pub seen-reorders : {ms ns : List Map} → Reorders ms ns → Pairwise ms → Each Given ms → (t : Tree) → FineTable left t → (page : ℕ) → In (suc left) r page
-      → seen (suc left) (run ms t) page ≡ seen (suc left) (run ns t) page
+  pub seen-reorders : {ms ns : List Map} → Reorders ms ns → Pairwise ms → Each Given ms → (t : Tree) → FineTable depth t → (page : ℕ) → In (suc depth) r page
+      → seen (suc depth) (run ms t) page ≡ seen (suc depth) (run ns t) page
   seen-reorders {ms} {ns} d h g t fine page at =
-      run-seen ms g t fine page at ∙ afters-reorders d h page (seen (suc left) t page) ∙ sym (run-seen ns (each-reorders Given d g) t fine page at)
+      run-seen ms g t fine page at ∙ afters-reorders d h page (seen (suc depth) t page) ∙ sym (run-seen ns (each-reorders Given d g) t fine page at)
 
   -- where the tables that a list makes are free at entry, no call is refused 9
   pub room-enough : (n : ℕ) (ms : List Map) (t : Tree) → nodes t + madeAll ms t ≤ n → Room n ms t
   unfolding madeAll
   room-enough n [] t h = tt
-  room-enough n (m ∷ ms) t h = (omega arith, room-enough n ms (mapTree left r m t) (omega (arith, map-count left r m t)))
+  room-enough n (m ∷ ms) t h = (omega arith, room-enough n ms (mapTree depth r m t) (omega (arith, map-count depth r m t)))

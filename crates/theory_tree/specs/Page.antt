@@ -1,4 +1,4 @@
--- Pages and entries by number. A page's number is its address / 4096. An entry of a table with `left` levels below its own spans 512^left pages;
+-- Pages and entries by number. A page's number is its address / 4096. An entry of a table with `depth` levels below its own spans 512^left pages;
 -- the q-th entry of that size begins at page q · 512^left, in the lower and in the upper range. Assumes nothing.
 use mathlib.Core.Path.{_≡_, refl, sym, ap, _∙_}
 use Prim.Native.Nat.{ℕ, zero, suc, _+_, _*_, _-_, _/_, _%_, _^_, _≤_, _<_}
@@ -8,146 +8,146 @@ use Rattle.laws.specs.Size.{sizeAt, size-step, size-page}
 
 -- the pages of an entry
 unfoldable pub span : ℕ → ℕ
-span left = 512 ^ left
+span depth = 512 ^ depth
 
 -- the first page of the q-th entry
 unfoldable pub first : ℕ → ℕ → ℕ
-first left q = q * span left
+first depth q = q * span depth
 
 -- the number of the entry in slot i of the table below entry q
 unfoldable pub child : ℕ → ℕ → ℕ
 child q i = q * 512 + i
 
--- the slot of a page in a table with `left` levels below its own
+-- the slot of a page in a table with `depth` levels below its own
 unfoldable pub slotOf : ℕ → ℕ → ℕ
-slotOf page left = page / span left % 512
+slotOf page depth = page / span depth % 512
 
 -- ---- spans
 
-pub span-pos : (left : ℕ) → 0 < span left
+pub span-pos : (depth : ℕ) → 0 < span depth
 unfolding span
-span-pos left = one-le-pow left 512 (omega arith)
+span-pos depth = one-le-pow depth 512 (omega arith)
 
 pub span-zero : span 0 ≡ 1
 unfolding span
 span-zero = refl
 
-pub span-suc : (left : ℕ) → span (suc left) ≡ span left * 512
+pub span-suc : (depth : ℕ) → span (suc depth) ≡ span depth * 512
 unfolding span
-span-suc left = pow-suc 512 left
+span-suc depth = pow-suc 512 depth
 
--- in bytes, at the level that has `left` below it
-pub span-size : (left : ℕ) → left ≤ 3 → sizeAt (3 - left) ≡ span left * 4096
+-- in bytes, at the level that has `depth` below it
+pub span-size : (depth : ℕ) → depth ≤ 3 → sizeAt (3 - depth) ≡ span depth * 4096
 span-size zero h = let e = span-zero in size-page 3 (omega arith) ∙ (let z : 4096 ≡ span 0 * 4096 = omega arith in z)
-span-size (suc left) h =
-    let below = size-step (3 - suc left) (omega arith) in
-    let same : 3 - suc left + 1 ≡ 3 - left = omega arith in
-    let size = ap sizeAt same ∙ span-size left (omega arith) in
-    let step = span-suc left in
+span-size (suc depth) h =
+    let below = size-step (3 - suc depth) (omega arith) in
+    let same : 3 - suc depth + 1 ≡ 3 - depth = omega arith in
+    let size = ap sizeAt same ∙ span-size depth (omega arith) in
+    let step = span-suc depth in
     omega arith
 
 -- an address's entry, by its page
-pub entry-number : (left a : ℕ) → left ≤ 3 → a / sizeAt (3 - left) ≡ a / 4096 / span left
-entry-number left a h = ap (λ (x : ℕ). a / x) (span-size left h ∙ mul-comm (span left) 4096) ∙ sym (div-div-eq-div-mul a 4096 (span left))
+pub entry-number : (depth a : ℕ) → depth ≤ 3 → a / sizeAt (3 - depth) ≡ a / 4096 / span depth
+entry-number depth a h = ap (λ (x : ℕ). a / x) (span-size depth h ∙ mul-comm (span depth) 4096) ∙ sym (div-div-eq-div-mul a 4096 (span depth))
 
-pub entry-start : (left a : ℕ) → left ≤ 3 → a / sizeAt (3 - left) * sizeAt (3 - left) ≡ first left (a / 4096 / span left) * 4096
+pub entry-start : (depth a : ℕ) → depth ≤ 3 → a / sizeAt (3 - depth) * sizeAt (3 - depth) ≡ first depth (a / 4096 / span depth) * 4096
 unfolding first
-entry-start left a h =
-    let q : ℕ = a / 4096 / span left in
-    ap (λ (x : ℕ). x * sizeAt (3 - left)) (entry-number left a h) ∙ ap (λ (x : ℕ). q * x) (span-size left h) ∙ sym (mul-assoc q (span left) 4096)
+entry-start depth a h =
+    let q : ℕ = a / 4096 / span depth in
+    ap (λ (x : ℕ). x * sizeAt (3 - depth)) (entry-number depth a h) ∙ ap (λ (x : ℕ). q * x) (span-size depth h) ∙ sym (mul-assoc q (span depth) 4096)
 
 -- .. and its offset there
-pub entry-rest : (left a : ℕ) → left ≤ 3 → a % 4096 ≡ 0 → a % sizeAt (3 - left) ≡ a / 4096 % span left * 4096
+pub entry-rest : (depth a : ℕ) → depth ≤ 3 → a % 4096 ≡ 0 → a % sizeAt (3 - depth) ≡ a / 4096 % span depth * 4096
 unfolding first
-entry-rest left a h pages =
-    let whole = div-add-mod' a (sizeAt (3 - left)) in
-    let start = entry-start left a h in
-    let page = div-add-mod' (a / 4096) (span left) in
+entry-rest depth a h pages =
+    let whole = div-add-mod' a (sizeAt (3 - depth)) in
+    let start = entry-start depth a h in
+    let page = div-add-mod' (a / 4096) (span depth) in
     omega arith
 
 -- ---- the entry below
 
-pub child-first : (left q i : ℕ) → first left (child q i) ≡ first (suc left) q + i * span left
+pub child-first : (depth q i : ℕ) → first depth (child q i) ≡ first (suc depth) q + i * span depth
 unfolding first child
-child-first left q i =
-    let s = span-suc left in
-    add-mul (q * 512) i (span left)
-    ∙ ap (λ (x : ℕ). x + i * span left) (mul-assoc q 512 (span left) ∙ ap (λ (x : ℕ). q * x) (mul-comm 512 (span left) ∙ sym s))
+child-first depth q i =
+    let s = span-suc depth in
+    add-mul (q * 512) i (span depth)
+    ∙ ap (λ (x : ℕ). x + i * span depth) (mul-assoc q 512 (span depth) ∙ ap (λ (x : ℕ). q * x) (mul-comm 512 (span depth) ∙ sym s))
 
-pub child-in : (left q i : ℕ) → i < 512 → (first (suc left) q ≤ first left (child q i)) × (first left (child q i) + span left ≤ first (suc left) q + span (suc left))
-child-in left q i h =
-    let c = child-first left q i in
-    let s = span-suc left in
-    let m = mul-le-mul-right (span left) h in
+pub child-in : (depth q i : ℕ) → i < 512 → (first (suc depth) q ≤ first depth (child q i)) × (first depth (child q i) + span depth ≤ first (suc depth) q + span (suc depth))
+child-in depth q i h =
+    let c = child-first depth q i in
+    let s = span-suc depth in
+    let m = mul-le-mul-right (span depth) h in
     (omega arith, omega arith)
 
 -- an entry ends at a multiple of its size
-pub end-rest : (left q : ℕ) → (first left q + span left) % span left ≡ 0
+pub end-rest : (depth q : ℕ) → (first depth q + span depth) % span depth ≡ 0
 unfolding first
-end-rest left q =
-    let e : q * span left + span left ≡ (q + 1) * span left = let a = add-mul q 1 (span left) in omega arith in
-    ap (λ (x : ℕ). x % span left) e ∙ mul-mod-left (q + 1) (span left)
+end-rest depth q =
+    let e : q * span depth + span depth ≡ (q + 1) * span depth = let a = add-mul q 1 (span depth) in omega arith in
+    ap (λ (x : ℕ). x % span depth) e ∙ mul-mod-left (q + 1) (span depth)
 
 -- entries below stand in the order of their slots
-pub child-order : (left q i j : ℕ) → i < j → first left (child q i) + span left ≤ first left (child q j)
-child-order left q i j h = omega (arith, child-first left q i, child-first left q j, mul-le-mul-right (span left) h)
+pub child-order : (depth q i j : ℕ) → i < j → first depth (child q i) + span depth ≤ first depth (child q j)
+child-order depth q i j h = omega (arith, child-first depth q i, child-first depth q j, mul-le-mul-right (span depth) h)
 
 -- a multiple of an entry's size, and some entries of the next level more, is a multiple of their size
-pub multiple-child : (left a i : ℕ) → a % span (suc left) ≡ 0 → (a + i * span left) % span left ≡ 0
+pub multiple-child : (depth a i : ℕ) → a % span (suc depth) ≡ 0 → (a + i * span depth) % span depth ≡ 0
 unfolding first child
-multiple-child left a i e =
-    let q : ℕ = a / span (suc left) in
-    let whole : a ≡ first (suc left) q = omega (arith, div-add-mod' a (span (suc left))) in
-    let sum : a + i * span left ≡ first left (child q i) = ap (λ (x : ℕ). x + i * span left) whole ∙ sym (child-first left q i) in
-    ap (λ (x : ℕ). x % span left) sum ∙ mul-mod-left (child q i) (span left)
+multiple-child depth a i e =
+    let q : ℕ = a / span (suc depth) in
+    let whole : a ≡ first (suc depth) q = omega (arith, div-add-mod' a (span (suc depth))) in
+    let sum : a + i * span depth ≡ first depth (child q i) = ap (λ (x : ℕ). x + i * span depth) whole ∙ sym (child-first depth q i) in
+    ap (λ (x : ℕ). x % span depth) sum ∙ mul-mod-left (child q i) (span depth)
 
 -- the sizes that take blocks divide 2^36
-pub block-end : (left a : ℕ) → left < 3 → a % span left ≡ 0 → a < 2 ^ 36 → a + span left ≤ 2 ^ 36
+pub block-end : (depth a : ℕ) → depth < 3 → a % span depth ≡ 0 → a < 2 ^ 36 → a + span depth ≤ 2 ^ 36
 unfolding span
 block-end zero a low at below = omega arith
 block-end (suc zero) a low at below = omega arith
 block-end (suc (suc zero)) a low at below = omega arith
-block-end (suc (suc (suc left))) a low at below = absurd (omega arith)
+block-end (suc (suc (suc depth))) a low at below = absurd (omega arith)
 
 -- ---- the pages of an entry
 
 -- the page lies in the q-th entry
 abbrev pub In : ℕ → ℕ → ℕ → Type 0
-In left q page = page / span left ≡ q
+In depth q page = page / span depth ≡ q
 
-pub in-from : (left q page : ℕ) → In left q page → (first left q ≤ page) × (page < first left q + span left)
+pub in-from : (depth q page : ℕ) → In depth q page → (first depth q ≤ page) × (page < first depth q + span depth)
 unfolding first
-in-from left q page e =
-    let d = div-add-mod' page (span left) in
-    let m = mod-lt page (span-pos left) in
-    let k : page / span left * span left ≡ q * span left = ap (λ (x : ℕ). x * span left) e in
+in-from depth q page e =
+    let d = div-add-mod' page (span depth) in
+    let m = mod-lt page (span-pos depth) in
+    let k : page / span depth * span depth ≡ q * span depth = ap (λ (x : ℕ). x * span depth) e in
     (omega arith, omega arith)
 
-pub in-of : (left q page : ℕ) → first left q ≤ page → page < first left q + span left → In left q page
+pub in-of : (depth q page : ℕ) → first depth q ≤ page → page < first depth q + span depth → In depth q page
 unfolding first
-in-of left q page l u = div-eq-of-lt-le (span left) l (let e = add-mul q 1 (span left) in omega arith)
+in-of depth q page l u = div-eq-of-lt-le (span depth) l (let e = add-mul q 1 (span depth) in omega arith)
 
-pub in-rest : (left q page : ℕ) → In left q page → first left q + page % span left ≡ page
+pub in-rest : (depth q page : ℕ) → In depth q page → first depth q + page % span depth ≡ page
 unfolding first
-in-rest left q page e = ap (λ (x : ℕ). x * span left + page % span left) (sym e) ∙ div-add-mod' page (span left)
+in-rest depth q page e = ap (λ (x : ℕ). x * span depth + page % span depth) (sym e) ∙ div-add-mod' page (span depth)
 
-pub slot-lt : (page left : ℕ) → slotOf page left < 512
+pub slot-lt : (page depth : ℕ) → slotOf page depth < 512
 unfolding slotOf
-slot-lt page left = mod-lt (page / span left) (omega arith)
+slot-lt page depth = mod-lt (page / span depth) (omega arith)
 
 -- one level down a page lies in the entry of its slot
-pub in-child : (left q page : ℕ) → In (suc left) q page → In left (child q (slotOf page left)) page
+pub in-child : (depth q page : ℕ) → In (suc depth) q page → In depth (child q (slotOf page depth)) page
 unfolding child slotOf
-in-child left q page e =
-    let up : page / span (suc left) ≡ page / span left / 512 = ap (λ (x : ℕ). page / x) (span-suc left) ∙ sym (div-div-eq-div-mul page (span left) 512) in
-    let d = div-add-mod' (page / span left) 512 in
+in-child depth q page e =
+    let up : page / span (suc depth) ≡ page / span depth / 512 = ap (λ (x : ℕ). page / x) (span-suc depth) ∙ sym (div-div-eq-div-mul page (span depth) 512) in
+    let d = div-add-mod' (page / span depth) 512 in
     omega arith
 
 -- a page's offset in an entry is that in the entry of its slot, past the slots before
-pub rest-child : (page left : ℕ) → page % span (suc left) ≡ slotOf page left * span left + page % span left
-rest-child page left =
-    let q : ℕ = page / span (suc left) in
-    let a = in-rest (suc left) q page refl in
-    let b = in-rest left (child q (slotOf page left)) page (in-child left q page refl) in
-    let c = child-first left q (slotOf page left) in
+pub rest-child : (page depth : ℕ) → page % span (suc depth) ≡ slotOf page depth * span depth + page % span depth
+rest-child page depth =
+    let q : ℕ = page / span (suc depth) in
+    let a = in-rest (suc depth) q page refl in
+    let b = in-rest depth (child q (slotOf page depth)) page (in-child depth q page refl) in
+    let c = child-first depth q (slotOf page depth) in
     omega arith

@@ -27,15 +27,15 @@ pub record Given (m : Map) : Type 0 where
   pub plain : Plain (m .flags)
   pub ends : m .frame + (m .upto - m .from) ≤ 2 ^ 36
 
--- ---- tests, at an entry with `left` levels below whose first page is b
+-- ---- tests, at an entry with `depth` levels below whose first page is b
 
 -- region and entry share a page
 unfoldable pub meets : ℕ → ℕ → Map → Bool
-meets left b m = ltb (max (m .from) b) (min (m .upto) (b + span left))
+meets depth b m = ltb (max (m .from) b) (min (m .upto) (b + span depth))
 
 -- the chunk is the whole entry
 unfoldable pub whole : ℕ → ℕ → Map → Bool
-whole left b m = leb (m .from) b && leb (b + span left) (m .upto)
+whole depth b m = leb (m .from) b && leb (b + span depth) (m .upto)
 
 -- the frame of the entry's first page
 unfoldable pub frameAt : ℕ → Map → ℕ
@@ -47,64 +47,64 @@ same b m w = eqb (flagsOf w) (m .flags) && eqb (m .frame + b) (frameOf w + m .fr
 
 -- rule 3: whole entry, frame aligned to the entry, blocks allowed, level above 0
 unfoldable pub fits : ℕ → ℕ → Map → Bool
-fits left b m = whole left b m && (eqb (frameAt b m % span left) 0 && (m .blocks && ltb left 3))
+fits depth b m = whole depth b m && (eqb (frameAt b m % span depth) 0 && (m .blocks && ltb depth 3))
 
 -- rule 4: whole entry, not VALID
 unfoldable pub drops : ℕ → ℕ → Map → Bool
-drops left b m = whole left b m && not (valid (m .flags))
+drops depth b m = whole depth b m && not (valid (m .flags))
 
 -- the first rule that fits; below the lowest level no table stands
 unfoldable pub mapRule : Map → ℕ → ℕ → Tree → Rule
 mapRule m zero b (leaf w) = cond (meets zero b m) (write (leafWord zero (frameAt b m) (m .flags))) keep
 mapRule m zero b (node f) = keep
-mapRule m (suc left) b (leaf w) =
-    cond (meets (suc left) b m) (cond (same b m w) keep (cond (fits (suc left) b m) (write (leafWord (suc left) (frameAt b m) (m .flags))) down)) keep
-mapRule m (suc left) b (node f) = cond (meets (suc left) b m) (cond (drops (suc left) b m) (write (m .flags)) down) keep
+mapRule m (suc depth) b (leaf w) =
+    cond (meets (suc depth) b m) (cond (same b m w) keep (cond (fits (suc depth) b m) (write (leafWord (suc depth) (frameAt b m) (m .flags))) down)) keep
+mapRule m (suc depth) b (node f) = cond (meets (suc depth) b m) (cond (drops (suc depth) b m) (write (m .flags)) down) keep
 
 -- ---- what the tests say
 
-module _ (left b : ℕ) (m : Map) where
-  pub meets-yes : meets left b m ≡ true → (m .from < b + span left) × (b < m .upto) × (m .from < m .upto)
+module _ (depth b : ℕ) (m : Map) where
+  pub meets-yes : meets depth b m ≡ true → (m .from < b + span depth) × (b < m .upto) × (m .from < m .upto)
   unfolding meets
-  meets-yes e = let h = ltb-true (max (m .from) b) (min (m .upto) (b + span left)) e in (omega arith, omega arith, omega arith)
+  meets-yes e = let h = ltb-true (max (m .from) b) (min (m .upto) (b + span depth)) e in (omega arith, omega arith, omega arith)
 
-  pub yes-meets : (page : ℕ) → m .from ≤ page → page < m .upto → b ≤ page → page < b + span left → meets left b m ≡ true
+  pub yes-meets : (page : ℕ) → m .from ≤ page → page < m .upto → b ≤ page → page < b + span depth → meets depth b m ≡ true
   unfolding meets
-  yes-meets page p q r s = lt-ltb (max (m .from) b) (min (m .upto) (b + span left)) (omega arith)
+  yes-meets page p q r s = lt-ltb (max (m .from) b) (min (m .upto) (b + span depth)) (omega arith)
 
-  pub whole-yes : whole left b m ≡ true → (m .from ≤ b) × (b + span left ≤ m .upto)
+  pub whole-yes : whole depth b m ≡ true → (m .from ≤ b) × (b + span depth ≤ m .upto)
   unfolding whole
   whole-yes e =
-      let h = both (leb (m .from) b) (leb (b + span left) (m .upto)) e in
-      (leb-true (m .from) b (h .0), leb-true (b + span left) (m .upto) (h .1))
+      let h = both (leb (m .from) b) (leb (b + span depth) (m .upto)) e in
+      (leb-true (m .from) b (h .0), leb-true (b + span depth) (m .upto) (h .1))
 
-  pub yes-whole : m .from ≤ b → b + span left ≤ m .upto → whole left b m ≡ true
+  pub yes-whole : m .from ≤ b → b + span depth ≤ m .upto → whole depth b m ≡ true
   unfolding whole
-  yes-whole p q = rw (le-leb (m .from) b p, le-leb (b + span left) (m .upto) q)
+  yes-whole p q = rw (le-leb (m .from) b p, le-leb (b + span depth) (m .upto) q)
 
-  pub drops-yes : drops left b m ≡ true → (whole left b m ≡ true) × (valid (m .flags) ≡ false)
+  pub drops-yes : drops depth b m ≡ true → (whole depth b m ≡ true) × (valid (m .flags) ≡ false)
   unfolding drops
-  drops-yes e = let h = both (whole left b m) (not (valid (m .flags))) e in (h .0, not-true (valid (m .flags)) (h .1))
+  drops-yes e = let h = both (whole depth b m) (not (valid (m .flags))) e in (h .0, not-true (valid (m .flags)) (h .1))
 
-  pub drops-no : whole left b m ≡ false → drops left b m ≡ false
+  pub drops-no : whole depth b m ≡ false → drops depth b m ≡ false
   unfolding drops
   drops-no e = rw e
 
-  pub drops-valid : valid (m .flags) ≡ true → drops left b m ≡ false
+  pub drops-valid : valid (m .flags) ≡ true → drops depth b m ≡ false
   unfolding drops
-  drops-valid v = rw v (and-false (whole left b m))
+  drops-valid v = rw v (and-false (whole depth b m))
 
-  pub fits-no : whole left b m ≡ false → fits left b m ≡ false
+  pub fits-no : whole depth b m ≡ false → fits depth b m ≡ false
   unfolding fits
   fits-no e = rw e
 
-  pub fits-yes : fits left b m ≡ true → (whole left b m ≡ true) × (frameAt b m % span left ≡ 0) × (left < 3)
+  pub fits-yes : fits depth b m ≡ true → (whole depth b m ≡ true) × (frameAt b m % span depth ≡ 0) × (depth < 3)
   unfolding fits
   fits-yes e =
-      let h = both (whole left b m) (eqb (frameAt b m % span left) 0 && (m .blocks && ltb left 3)) e in
-      let k = both (eqb (frameAt b m % span left) 0) (m .blocks && ltb left 3) (h .1) in
-      let l = both (m .blocks) (ltb left 3) (k .1) in
-      (h .0, eqb-true (frameAt b m % span left) 0 (k .0), ltb-true left 3 (l .1))
+      let h = both (whole depth b m) (eqb (frameAt b m % span depth) 0 && (m .blocks && ltb depth 3)) e in
+      let k = both (eqb (frameAt b m % span depth) 0) (m .blocks && ltb depth 3) (h .1) in
+      let l = both (m .blocks) (ltb depth 3) (k .1) in
+      (h .0, eqb-true (frameAt b m % span depth) 0 (k .0), ltb-true depth 3 (l .1))
 
 module _ (b : ℕ) (m : Map) where
   pub same-yes : (w : ℕ) → same b m w ≡ true → (flagsOf w ≡ m .flags) × (m .frame + b ≡ frameOf w + m .from)
@@ -124,41 +124,41 @@ module _ (b : ℕ) (m : Map) where
 -- ---- the rules, one law each
 
 module _ (m : Map) where
-  pub rule-off : (left b : ℕ) (t : Tree) → meets left b m ≡ false → mapRule m left b t ≡ keep
+  pub rule-off : (depth b : ℕ) (t : Tree) → meets depth b m ≡ false → mapRule m depth b t ≡ keep
   unfolding mapRule
   rule-off zero b (leaf w) e = rw e
   rule-off zero b (node f) e = refl
-  rule-off (suc left) b (leaf w) e = rw e
-  rule-off (suc left) b (node f) e = rw e
+  rule-off (suc depth) b (leaf w) e = rw e
+  rule-off (suc depth) b (node f) e = rw e
 
   pub rule-page : (b w : ℕ) → meets zero b m ≡ true → mapRule m zero b (leaf w) ≡ write (leafWord zero (frameAt b m) (m .flags))
   unfolding mapRule
   rule-page b w e = rw e
 
-  module _ (left b : ℕ) where
-    pub rule-same : (w : ℕ) → same b m w ≡ true → mapRule m (suc left) b (leaf w) ≡ keep
+  module _ (depth b : ℕ) where
+    pub rule-same : (w : ℕ) → same b m w ≡ true → mapRule m (suc depth) b (leaf w) ≡ keep
     unfolding mapRule
-    rule-same w s = byBool (meets (suc left) b m) (λ e. rw (e, s)) (λ e. rw e)
+    rule-same w s = byBool (meets (suc depth) b m) (λ e. rw (e, s)) (λ e. rw e)
 
-    pub rule-block : (w : ℕ) → meets (suc left) b m ≡ true → same b m w ≡ false → fits (suc left) b m ≡ true
-        → mapRule m (suc left) b (leaf w) ≡ write (leafWord (suc left) (frameAt b m) (m .flags))
+    pub rule-block : (w : ℕ) → meets (suc depth) b m ≡ true → same b m w ≡ false → fits (suc depth) b m ≡ true
+        → mapRule m (suc depth) b (leaf w) ≡ write (leafWord (suc depth) (frameAt b m) (m .flags))
     unfolding mapRule
     rule-block w e s k = rw (e, s, k)
 
-    pub rule-drop : (f : ℕ → Tree) → meets (suc left) b m ≡ true → drops (suc left) b m ≡ true → mapRule m (suc left) b (node f) ≡ write (m .flags)
+    pub rule-drop : (f : ℕ → Tree) → meets (suc depth) b m ≡ true → drops (suc depth) b m ≡ true → mapRule m (suc depth) b (node f) ≡ write (m .flags)
     unfolding mapRule
     rule-drop f e d = rw (e, d)
 
-    pub rule-split : (w : ℕ) → meets (suc left) b m ≡ true → same b m w ≡ false → fits (suc left) b m ≡ false → mapRule m (suc left) b (leaf w) ≡ down
+    pub rule-split : (w : ℕ) → meets (suc depth) b m ≡ true → same b m w ≡ false → fits (suc depth) b m ≡ false → mapRule m (suc depth) b (leaf w) ≡ down
     unfolding mapRule
     rule-split w e s k = rw (e, s, k)
 
-    pub rule-down : (f : ℕ → Tree) → meets (suc left) b m ≡ true → drops (suc left) b m ≡ false → mapRule m (suc left) b (node f) ≡ down
+    pub rule-down : (f : ℕ → Tree) → meets (suc depth) b m ≡ true → drops (suc depth) b m ≡ false → mapRule m (suc depth) b (node f) ≡ down
     unfolding mapRule
     rule-down f e d = rw (e, d)
 
   -- a VALID map never writes over a table
-  pub rule-keeps-table : valid (m .flags) ≡ true → (left b : ℕ) (f : ℕ → Tree) (x : ℕ) → mapRule m left b (node f) ≡ write x → ⊥
+  pub rule-keeps-table : valid (m .flags) ≡ true → (depth b : ℕ) (f : ℕ → Tree) (x : ℕ) → mapRule m depth b (node f) ≡ write x → ⊥
   unfolding mapRule
   rule-keeps-table v zero b f x e = no-write false x e
-  rule-keeps-table v (suc left) b f x e = no-write (meets (suc left) b m) x (rw (drops-valid (suc left) b m v) at e)
+  rule-keeps-table v (suc depth) b f x e = no-write (meets (suc depth) b m) x (rw (drops-valid (suc depth) b m v) at e)

@@ -12,93 +12,93 @@ use Rattle.theory_tree.specs.Slots.{slotAfter, each-node, slot-after, fi
 
 -- every word of the tree is fine where it stands, and no table stands below the lowest level
 abbrev pub FineTree : ℕ → Tree → Type 0
-FineTree left (leaf w) = Fine left w
+FineTree depth (leaf w) = Fine depth w
 FineTree zero (node f) = ⊥
-FineTree (suc left) (node f) = (i : ℕ) → i < 512 → FineTree left (f i)
+FineTree (suc depth) (node f) = (i : ℕ) → i < 512 → FineTree depth (f i)
 
--- .. of a table whose entries have `left` levels below
+-- .. of a table whose entries have `depth` levels below
 abbrev pub FineTable : ℕ → Tree → Type 0
-FineTable left (leaf w) = ⊥
-FineTable left (node f) = FineTree (suc left) (node f)
+FineTable depth (leaf w) = ⊥
+FineTable depth (node f) = FineTree (suc depth) (node f)
 
-pub table-fine : (left : ℕ) (t : Tree) → FineTable left t → FineTree (suc left) t
-table-fine left (leaf w) fine = absurd fine
-table-fine left (node f) fine = fine
+pub table-fine : (depth : ℕ) (t : Tree) → FineTable depth t → FineTree (suc depth) t
+table-fine depth (leaf w) fine = absurd fine
+table-fine depth (node f) fine = fine
 
 -- what is written is fine
 abbrev pub Good : ℕ → Rule → Type 0
-Good left keep = Unit {0}
-Good left (write x) = Fine left x
-Good left down = Unit {0}
+Good depth keep = Unit {0}
+Good depth (write x) = Fine depth x
+Good depth down = Unit {0}
 
 -- a page of an entry shows what `new` makes of what it showed; where the rule goes down, the entries below answer for it
 abbrev pub Right : (ℕ → Seen → Seen) → ℕ → Tree → ℕ → Rule → Type 0
-Right new left t page keep = seen left t page ≡ new page (seen left t page)
-Right new left t page (write x) = seenIn left x page ≡ new page (seen left t page)
+Right new depth t page keep = seen depth t page ≡ new page (seen depth t page)
+Right new depth t page (write x) = seenIn depth x page ≡ new page (seen depth t page)
 Right new zero t page down = ⊥
-Right new (suc left) t page down = Unit {0}
+Right new (suc depth) t page down = Unit {0}
 
 -- the rule brings about `new`
 pub record Shows (rule : ℕ → ℕ → Tree → Rule) (new : ℕ → Seen → Seen) : Type 0 where
-  pub good : (left q : ℕ) (t : Tree) → FineTree left t → Good left (rule left (first left q) t)
-  pub right : (left q : ℕ) (t : Tree) (page : ℕ) → FineTree left t → In left q page → Right new left t page (rule left (first left q) t)
+  pub good : (depth q : ℕ) (t : Tree) → FineTree depth t → Good depth (rule depth (first depth q) t)
+  pub right : (depth q : ℕ) (t : Tree) (page : ℕ) → FineTree depth t → In depth q page → Right new depth t page (rule depth (first depth q) t)
 
 -- ---- a split
 
-pub fine-fill-slots : (left w : ℕ) → Fine (suc left) w → (i : ℕ) → i < 512 → FineTree left (fillSlot left w i)
-fine-fill-slots left w fine i l = subst (FineTree left) (sym (fill-slot left w i l)) (fine-fill left w fine i l)
+pub fine-fill-slots : (depth w : ℕ) → Fine (suc depth) w → (i : ℕ) → i < 512 → FineTree depth (fillSlot depth w i)
+fine-fill-slots depth w fine i l = subst (FineTree depth) (sym (fill-slot depth w i l)) (fine-fill depth w fine i l)
 
-fill-slot-seen : (left w page : ℕ) → Fine (suc left) w → seen left (fillSlot left w (slotOf page left)) page ≡ seen (suc left) (leaf w) page
-fill-slot-seen left w page fine =
-    let i : ℕ = slotOf page left in
-    ap (λ (t : Tree). seen left t page) (fill-slot left w i (slot-lt page left))
-    ∙ seen-leaf left (fillWord left w i) page ∙ fill-seen left w page fine ∙ sym (seen-leaf (suc left) w page)
+fill-slot-seen : (depth w page : ℕ) → Fine (suc depth) w → seen depth (fillSlot depth w (slotOf page depth)) page ≡ seen (suc depth) (leaf w) page
+fill-slot-seen depth w page fine =
+    let i : ℕ = slotOf page depth in
+    ap (λ (t : Tree). seen depth t page) (fill-slot depth w i (slot-lt page depth))
+    ∙ seen-leaf depth (fillWord depth w i) page ∙ fill-seen depth w page fine ∙ sym (seen-leaf (suc depth) w page)
 
 -- ---- the visit
 
 module _ {rule : ℕ → ℕ → Tree → Rule} {new : ℕ → Seen → Seen} (S : Shows rule new) where
-  obey-fine : (left : ℕ) (r : Rule) (t u : Tree) → Good left r → FineTree left t → FineTree left u → FineTree left (obey r t u)
+  obey-fine : (depth : ℕ) (r : Rule) (t u : Tree) → Good depth r → FineTree depth t → FineTree depth u → FineTree depth (obey r t u)
   unfolding obey
-  obey-fine left keep t u g ft fu = ft
-  obey-fine left (write x) t u g ft fu = g
-  obey-fine left down t u g ft fu = fu
+  obey-fine depth keep t u g ft fu = ft
+  obey-fine depth (write x) t u g ft fu = g
+  obey-fine depth down t u g ft fu = fu
 
-  each-fine : (left : ℕ) (h : ℕ → Tree → Tree) (f : ℕ → Tree) → ((i : ℕ) → i < 512 → FineTree left (h i (f i))) → FineTree (suc left) (eachSlot h (node f))
-  each-fine left h f each = subst (FineTree (suc left)) (sym (each-node h f)) (λ i l. subst (FineTree left) (sym (slot-after h f i l)) (each i l))
+  each-fine : (depth : ℕ) (h : ℕ → Tree → Tree) (f : ℕ → Tree) → ((i : ℕ) → i < 512 → FineTree depth (h i (f i))) → FineTree (suc depth) (eachSlot h (node f))
+  each-fine depth h f each = subst (FineTree (suc depth)) (sym (each-node h f)) (λ i l. subst (FineTree depth) (sym (slot-after h f i l)) (each i l))
 
   -- FINE AGAIN
-  pub fine-visit : (left q : ℕ) (t : Tree) → FineTree left t → FineTree left (visit rule left q t)
+  pub fine-visit : (depth q : ℕ) (t : Tree) → FineTree depth t → FineTree depth (visit rule depth q t)
   unfolding visit opened
   fine-visit zero q t fine = obey-fine zero (rule zero (first zero q) t) t t (S .good zero q t fine) fine fine
-  fine-visit (suc left) q (leaf w) fine =
-      obey-fine (suc left) (rule (suc left) (first (suc left) q) (leaf w)) (leaf w) _ (S .good (suc left) q (leaf w) fine) fine
-      (subst (λ (t : Tree). FineTree (suc left) (eachSlot (λ i u. visit rule left (child q i) u) t)) (sym (fill-node left w))
-      (each-fine left (λ i u. visit rule left (child q i) u) (fillSlot left w) (λ i l. fine-visit left (child q i) (fillSlot left w i) (fine-fill-slots left w fine i l))))
-  fine-visit (suc left) q (node f) fine =
-      obey-fine (suc left) (rule (suc left) (first (suc left) q) (node f)) (node f) _ (S .good (suc left) q (node f) fine) fine
-      (each-fine left (λ i u. visit rule left (child q i) u) f (λ i l. fine-visit left (child q i) (f i) (fine i l)))
+  fine-visit (suc depth) q (leaf w) fine =
+      obey-fine (suc depth) (rule (suc depth) (first (suc depth) q) (leaf w)) (leaf w) _ (S .good (suc depth) q (leaf w) fine) fine
+      (subst (λ (t : Tree). FineTree (suc depth) (eachSlot (λ i u. visit rule depth (child q i) u) t)) (sym (fill-node depth w))
+      (each-fine depth (λ i u. visit rule depth (child q i) u) (fillSlot depth w) (λ i l. fine-visit depth (child q i) (fillSlot depth w i) (fine-fill-slots depth w fine i l))))
+  fine-visit (suc depth) q (node f) fine =
+      obey-fine (suc depth) (rule (suc depth) (first (suc depth) q) (node f)) (node f) _ (S .good (suc depth) q (node f) fine) fine
+      (each-fine depth (λ i u. visit rule depth (child q i) u) f (λ i l. fine-visit depth (child q i) (f i) (fine i l)))
 
-  pub fine-table : (left q : ℕ) (t : Tree) → FineTable left t → FineTable left (visitTable rule left q t)
+  pub fine-table : (depth q : ℕ) (t : Tree) → FineTable depth t → FineTable depth (visitTable rule depth q t)
   unfolding visitTable
-  fine-table left q (leaf w) fine = absurd fine
-  fine-table left q (node f) fine =
-      subst (FineTable left) (sym (each-node (λ i u. visit rule left (child q i) u) f))
-      (λ i l. subst (FineTree left) (sym (slot-after (λ i u. visit rule left (child q i) u) f i l)) (fine-visit left (child q i) (f i) (fine i l)))
+  fine-table depth q (leaf w) fine = absurd fine
+  fine-table depth q (node f) fine =
+      subst (FineTable depth) (sym (each-node (λ i u. visit rule depth (child q i) u) f))
+      (λ i l. subst (FineTree depth) (sym (slot-after (λ i u. visit rule depth (child q i) u) f i l)) (fine-visit depth (child q i) (f i) (fine i l)))
 
   -- a page's slot after the visit of a table
-  each-seen : (left : ℕ) (h : ℕ → Tree → Tree) (f : ℕ → Tree) (page : ℕ)
-      → seen left (h (slotOf page left) (f (slotOf page left))) page ≡ new page (seen left (f (slotOf page left)) page)
-      → seen (suc left) (eachSlot h (node f)) page ≡ new page (seen left (f (slotOf page left)) page)
-  each-seen left h f page below =
-      ap (λ (t : Tree). seen (suc left) t page) (each-node h f) ∙ seen-node left (slotAfter h f) page
-      ∙ ap (λ (t : Tree). seen left t page) (slot-after h f (slotOf page left) (slot-lt page left)) ∙ below
+  each-seen : (depth : ℕ) (h : ℕ → Tree → Tree) (f : ℕ → Tree) (page : ℕ)
+      → seen depth (h (slotOf page depth) (f (slotOf page depth))) page ≡ new page (seen depth (f (slotOf page depth)) page)
+      → seen (suc depth) (eachSlot h (node f)) page ≡ new page (seen depth (f (slotOf page depth)) page)
+  each-seen depth h f page below =
+      ap (λ (t : Tree). seen (suc depth) t page) (each-node h f) ∙ seen-node depth (slotAfter h f) page
+      ∙ ap (λ (t : Tree). seen depth t page) (slot-after h f (slotOf page depth) (slot-lt page depth)) ∙ below
 
-  obey-seen : (left : ℕ) (r : Rule) (t u : Tree) (page : ℕ) → Right new (suc left) t page r → seen (suc left) u page ≡ new page (seen (suc left) t page)
-      → seen (suc left) (obey r t u) page ≡ new page (seen (suc left) t page)
+  obey-seen : (depth : ℕ) (r : Rule) (t u : Tree) (page : ℕ) → Right new (suc depth) t page r → seen (suc depth) u page ≡ new page (seen (suc depth) t page)
+      → seen (suc depth) (obey r t u) page ≡ new page (seen (suc depth) t page)
   unfolding obey
-  obey-seen left keep t u page right below = right
-  obey-seen left (write x) t u page right below = seen-leaf (suc left) x page ∙ right
-  obey-seen left down t u page right below = below
+  obey-seen depth keep t u page right below = right
+  obey-seen depth (write x) t u page right below = seen-leaf (suc depth) x page ∙ right
+  obey-seen depth down t u page right below = below
 
   low-seen : (r : Rule) (t : Tree) (page : ℕ) → Right new zero t page r → seen zero (obey r t t) page ≡ new page (seen zero t page)
   unfolding obey
@@ -107,29 +107,29 @@ module _ {rule : ℕ → ℕ → Tree → Rule} {new : ℕ → Seen → Seen} (S
   low-seen down t page right = absurd right
 
   -- WHAT EACH PAGE SHOWS
-  pub seen-visit : (left q : ℕ) (t : Tree) (page : ℕ) → FineTree left t → In left q page → seen left (visit rule left q t) page ≡ new page (seen left t page)
+  pub seen-visit : (depth q : ℕ) (t : Tree) (page : ℕ) → FineTree depth t → In depth q page → seen depth (visit rule depth q t) page ≡ new page (seen depth t page)
   unfolding visit opened
   seen-visit zero q t page fine at = low-seen (rule zero (first zero q) t) t page (S .right zero q t page fine at)
-  seen-visit (suc left) q (leaf w) page fine at =
-      let i : ℕ = slotOf page left in
-      let h : ℕ → Tree → Tree = λ i u. visit rule left (child q i) u in
-      obey-seen left (rule (suc left) (first (suc left) q) (leaf w)) (leaf w) _ page (S .right (suc left) q (leaf w) page fine at)
-      (ap (λ (t : Tree). seen (suc left) (eachSlot h t) page) (fill-node left w)
-      ∙ each-seen left h (fillSlot left w) page
-      (seen-visit left (child q i) (fillSlot left w i) page (fine-fill-slots left w fine i (slot-lt page left)) (in-child left q page at))
-      ∙ ap (new page) (fill-slot-seen left w page fine))
-  seen-visit (suc left) q (node f) page fine at =
-      let i : ℕ = slotOf page left in
-      let h : ℕ → Tree → Tree = λ i u. visit rule left (child q i) u in
-      obey-seen left (rule (suc left) (first (suc left) q) (node f)) (node f) _ page (S .right (suc left) q (node f) page fine at)
-      (each-seen left h f page (seen-visit left (child q i) (f i) page (fine i (slot-lt page left)) (in-child left q page at))
-      ∙ ap (new page) (sym (seen-node left f page)))
+  seen-visit (suc depth) q (leaf w) page fine at =
+      let i : ℕ = slotOf page depth in
+      let h : ℕ → Tree → Tree = λ i u. visit rule depth (child q i) u in
+      obey-seen depth (rule (suc depth) (first (suc depth) q) (leaf w)) (leaf w) _ page (S .right (suc depth) q (leaf w) page fine at)
+      (ap (λ (t : Tree). seen (suc depth) (eachSlot h t) page) (fill-node depth w)
+      ∙ each-seen depth h (fillSlot depth w) page
+      (seen-visit depth (child q i) (fillSlot depth w i) page (fine-fill-slots depth w fine i (slot-lt page depth)) (in-child depth q page at))
+      ∙ ap (new page) (fill-slot-seen depth w page fine))
+  seen-visit (suc depth) q (node f) page fine at =
+      let i : ℕ = slotOf page depth in
+      let h : ℕ → Tree → Tree = λ i u. visit rule depth (child q i) u in
+      obey-seen depth (rule (suc depth) (first (suc depth) q) (node f)) (node f) _ page (S .right (suc depth) q (node f) page fine at)
+      (each-seen depth h f page (seen-visit depth (child q i) (f i) page (fine i (slot-lt page depth)) (in-child depth q page at))
+      ∙ ap (new page) (sym (seen-node depth f page)))
 
-  pub seen-table : (left q : ℕ) (t : Tree) (page : ℕ) → FineTable left t → In (suc left) q page
-      → seen (suc left) (visitTable rule left q t) page ≡ new page (seen (suc left) t page)
+  pub seen-table : (depth q : ℕ) (t : Tree) (page : ℕ) → FineTable depth t → In (suc depth) q page
+      → seen (suc depth) (visitTable rule depth q t) page ≡ new page (seen (suc depth) t page)
   unfolding visitTable
-  seen-table left q (leaf w) page fine at = absurd fine
-  seen-table left q (node f) page fine at =
-      let i : ℕ = slotOf page left in
-      each-seen left (λ i u. visit rule left (child q i) u) f page (seen-visit left (child q i) (f i) page (fine i (slot-lt page left)) (in-child left q page at))
-      ∙ ap (new page) (sym (seen-node left f page))
+  seen-table depth q (leaf w) page fine at = absurd fine
+  seen-table depth q (node f) page fine at =
+      let i : ℕ = slotOf page depth in
+      each-seen depth (λ i u. visit rule depth (child q i) u) f page (seen-visit depth (child q i) (f i) page (fine i (slot-lt page depth)) (in-child depth q page at))
+      ∙ ap (new page) (sym (seen-node depth f page))

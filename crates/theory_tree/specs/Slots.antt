@@ -48,16 +48,16 @@ each-both h g (node f) = node-ext (λ i. byBool (ltb i 512) (λ e. rw e) (λ e. 
 -- ---- the fill
 
 unfoldable pub fillSlot : ℕ → ℕ → ℕ → Tree
-fillSlot left w i = cond (ltb i 512) (leaf (fillWord left w i)) (leaf 0)
+fillSlot depth w i = cond (ltb i 512) (leaf (fillWord depth w i)) (leaf 0)
 
-pub fill-node : (left w : ℕ) → fillTree left w ≡ node (fillSlot left w)
+pub fill-node : (depth w : ℕ) → fillTree depth w ≡ node (fillSlot depth w)
 unfolding fillTree fillSlot
-fill-node left w = refl
+fill-node depth w = refl
 
-pub fill-slot : (left w i : ℕ) → i < 512 → fillSlot left w i ≡ leaf (fillWord left w i)
+pub fill-slot : (depth w i : ℕ) → i < 512 → fillSlot depth w i ≡ leaf (fillWord depth w i)
 unfolding fillSlot
-fill-slot left w i l = rw (lt-ltb i 512 l)
+fill-slot depth w i l = rw (lt-ltb i 512 l)
 
-pub fill-past : (left w i : ℕ) → 512 ≤ i → fillSlot left w i ≡ leaf 0
+pub fill-past : (depth w i : ℕ) → 512 ≤ i → fillSlot depth w i ≡ leaf 0
 unfolding fillSlot
-fill-past left w i l = rw (le-ltb i 512 l)
+fill-past depth w i l = rw (le-ltb i 512 l)

@@ -23,22 +23,22 @@ use Rattle.theory_tree.specs.Chunks.{atSlot, sweep, chunked, chunkedTabl
 -- ---- a region of table q, cut into its first chunk, from s to z in slot i, and the rest
 
 -- what slot j has of it: nothing, the first chunk, or a part of the rest
-pub data Shares (flags : ℕ) (blocks : Bool) (left q s e p z i j : ℕ) : Type 0 where
-  nothing : j ≢ i → meets left (first left (child q j)) (inPages flags blocks s e p) ≡ false
-      → meets left (first left (child q j)) (inPages flags blocks z e (p + (z - s))) ≡ false → Shares flags blocks left q s e p z i j
-  chunk : j ≡ i → meets left (first left (child q i)) (inPages flags blocks z e (p + (z - s))) ≡ false
-      → Agree left (first left (child q i)) (inPages flags blocks s z p) (inPages flags blocks s e p) → Shares flags blocks left q s e p z i j
-  rest : j ≢ i → Agree left (first left (child q j)) (inPages flags blocks z e (p + (z - s))) (inPages flags blocks s e p) → Shares flags blocks left q s e p z i j
+pub data Shares (flags : ℕ) (blocks : Bool) (depth q s e p z i j : ℕ) : Type 0 where
+  nothing : j ≢ i → meets depth (first depth (child q j)) (inPages flags blocks s e p) ≡ false
+      → meets depth (first depth (child q j)) (inPages flags blocks z e (p + (z - s))) ≡ false → Shares flags blocks depth q s e p z i j
+  chunk : j ≡ i → meets depth (first depth (child q i)) (inPages flags blocks z e (p + (z - s))) ≡ false
+      → Agree depth (first depth (child q i)) (inPages flags blocks s z p) (inPages flags blocks s e p) → Shares flags blocks depth q s e p z i j
+  rest : j ≢ i → Agree depth (first depth (child q j)) (inPages flags blocks z e (p + (z - s))) (inPages flags blocks s e p) → Shares flags blocks depth q s e p z i j
 
-pub shares : (flags : ℕ) (blocks : Bool) (left q s e p z i : ℕ) → Cut left q s e p z i → (j : ℕ) → Shares flags blocks left q s e p z i j
-shares flags blocks left q s e p z i c j = go (eq-or j i) (le-or i j)
+pub shares : (flags : ℕ) (blocks : Bool) (depth q s e p z i : ℕ) → Cut depth q s e p z i → (j : ℕ) → Shares flags blocks depth q s e p z i j
+shares flags blocks depth q s e p z i c j = go (eq-or j i) (le-or i j)
   where
-    go : (j ≡ i) ⊎ (j ≢ i) → (i ≤ j) ⊎ (j < i) → Shares flags blocks left q s e p z i j
+    go : (j ≡ i) ⊎ (j ≢ i) → (i ≤ j) ⊎ (j < i) → Shares flags blocks depth q s e p z i j
     go (inl at) k =
-        chunk at (meets-no left (first left (child q i)) (inPages flags blocks z e (p + (z - s))) (omega (arith, c .ends, c .within)))
+        chunk at (meets-no depth (first depth (child q i)) (inPages flags blocks z e (p + (z - s))) (omega (arith, c .ends, c .within)))
         (record { starts = refl; stops = omega (arith, c .ends); frames = refl; sameFlags = refl; sameBlocks = refl })
     go (inr other) (inl k) =
-        let o = child-order left q i j (omega arith) in
+        let o = child-order depth q i j (omega arith) in
         rest other (record {
           starts = omega (arith, c .ends, c .more);
           stops = refl;
@@ -47,9 +47,9 @@ shares flags blocks left q s e p z i c j = go (eq-or j i) (le-or i j)
           sameBlocks = refl;
         })
     go (inr other) (inr k) =
-        let o = child-order left q j i k in
-        nothing other (meets-no left (first left (child q j)) (inPages flags blocks s e p) (omega (arith, c .chunk .low)))
-        (meets-no left (first left (child q j)) (inPages flags blocks z e (p + (z - s))) (omega (arith, c .chunk .low, c .more)))
+        let o = child-order depth q j i k in
+        nothing other (meets-no depth (first depth (child q j)) (inPages flags blocks s e p) (omega (arith, c .chunk .low)))
+        (meets-no depth (first depth (child q j)) (inPages flags blocks z e (p + (z - s))) (omega (arith, c .chunk .low, c .more)))
 
 module _ {rule : Map → ℕ → ℕ → Tree → Rule} (L : Local rule) (rules : ℕ → MemoryRegion → ℕ → Tree → Rule) (flags : ℕ) (blocks : Bool) where
   abbrev call : ℕ → ℕ → ℕ → Map
@@ -57,121 +57,121 @@ module _ {rule : Map → ℕ → ℕ → Tree → Rule} (L : Local rule) (rules 
 
   -- `rules` says of a chunk what `rule` says of its entry
   abbrev pub Says : Type 0
-  Says = (left q s e p : ℕ) (t : Tree) → left ≤ 3 → s < e → Inside (first left q) (span left) s e p
-      → rules left (region s e) p t ≡ rule (call s e p) left (first left q) t
+  Says = (depth q s e p : ℕ) (t : Tree) → depth ≤ 3 → s < e → Inside (first depth q) (span depth) s e p
+      → rules depth (region s e) p t ≡ rule (call s e p) depth (first depth q) t
 
   -- the loop does with a chunk what the visit does with its entry
   abbrev Does : ℕ → Type 0
-  Does left = (q s e p : ℕ) (t : Tree) → left ≤ 3 → s < e → Inside (first left q) (span left) s e p
-      → chunked rules left (region s e) p t ≡ visit (rule (call s e p)) left q t
+  Does depth = (q s e p : ℕ) (t : Tree) → depth ≤ 3 → s < e → Inside (first depth q) (span depth) s e p
+      → chunked rules depth (region s e) p t ≡ visit (rule (call s e p)) depth q t
 
-  module _ (left q s e p z i : ℕ) (low : left ≤ 3) (does : Does left) (c : Cut left q s e p z i) (f : ℕ → Tree) where
+  module _ (depth q s e p z i : ℕ) (low : depth ≤ 3) (does : Does depth) (c : Cut depth q s e p z i) (f : ℕ → Tree) where
     -- the slots after the first chunk
     abbrev g : ℕ → Tree
-    g j = cond (eqb j i) (chunked rules left (region s z) p (f j)) (f j)
+    g j = cond (eqb j i) (chunked rules depth (region s z) p (f j)) (f j)
 
     -- a slot after the first chunk and then the rest of the region
     abbrev Slot : ℕ → Type 0
-    Slot j = visit (rule (call z e (p + (z - s)))) left (child q j) (g j) ≡ visit (rule (call s e p)) left (child q j) (f j)
+    Slot j = visit (rule (call z e (p + (z - s)))) depth (child q j) (g j) ≡ visit (rule (call s e p)) depth (child q j) (f j)
 
     g-other : (j : ℕ) → j ≢ i → g j ≡ f j
     g-other j other = rw (ne-eqb j i other)
 
-    here : meets left (first left (child q i)) (call z e (p + (z - s))) ≡ false → Agree left (first left (child q i)) (call s z p) (call s e p) → Slot i
+    here : meets depth (first depth (child q i)) (call z e (p + (z - s))) ≡ false → Agree depth (first depth (child q i)) (call s z p) (call s e p) → Slot i
     here past same =
-        ap (visit (rule (call z e (p + (z - s)))) left (child q i)) (let h : g i ≡ chunked rules left (region s z) p (f i) = rw (eq-eqb i i refl) in h)
-        ∙ visit-off L (call z e (p + (z - s))) left (child q i) _ past
+        ap (visit (rule (call z e (p + (z - s)))) depth (child q i)) (let h : g i ≡ chunked rules depth (region s z) p (f i) = rw (eq-eqb i i refl) in h)
+        ∙ visit-off L (call z e (p + (z - s))) depth (child q i) _ past
         ∙ does (child q i) s z p (f i) low (c .more) (c .chunk)
-        ∙ visit-agree L (call s z p) (call s e p) left (child q i) (f i) same
+        ∙ visit-agree L (call s z p) (call s e p) depth (child q i) (f i) same
 
     slot : (j : ℕ) → Slot j
-    slot j = go (shares flags blocks left q s e p z i c j)
+    slot j = go (shares flags blocks depth q s e p z i c j)
       where
-        go : Shares flags blocks left q s e p z i j → Slot j
+        go : Shares flags blocks depth q s e p z i j → Slot j
         go (nothing other off past) =
-            ap (visit (rule (call z e (p + (z - s)))) left (child q j)) (g-other j other)
-            ∙ visit-off L (call z e (p + (z - s))) left (child q j) (f j) past
-            ∙ sym (visit-off L (call s e p) left (child q j) (f j) off)
+            ap (visit (rule (call z e (p + (z - s)))) depth (child q j)) (g-other j other)
+            ∙ visit-off L (call z e (p + (z - s))) depth (child q j) (f j) past
+            ∙ sym (visit-off L (call s e p) depth (child q j) (f j) off)
         go (chunk at past same) = subst Slot (sym at) (here past same)
         go (rest other same) =
-            ap (visit (rule (call z e (p + (z - s)))) left (child q j)) (g-other j other)
-            ∙ visit-agree L (call z e (p + (z - s))) (call s e p) left (child q j) (f j) same
+            ap (visit (rule (call z e (p + (z - s)))) depth (child q j)) (g-other j other)
+            ∙ visit-agree L (call z e (p + (z - s))) (call s e p) depth (child q j) (f j) same
 
     -- the whole table
-    table : i < 512 → visitTable (rule (call z e (p + (z - s)))) left q (node g) ≡ visitTable (rule (call s e p)) left q (node f)
+    table : i < 512 → visitTable (rule (call z e (p + (z - s)))) depth q (node g) ≡ visitTable (rule (call s e p)) depth q (node f)
     unfolding visitTable
     table l = each-node after g ∙ node-ext (λ j. go j (le-or 512 j)) ∙ sym (each-node all f)
       where
         after : ℕ → Tree → Tree
-        after j u = visit (rule (call z e (p + (z - s)))) left (child q j) u
+        after j u = visit (rule (call z e (p + (z - s)))) depth (child q j) u
 
         all : ℕ → Tree → Tree
-        all j u = visit (rule (call s e p)) left (child q j) u
+        all j u = visit (rule (call s e p)) depth (child q j) u
 
         go : (j : ℕ) → (512 ≤ j) ⊎ (j < 512) → slotAfter after g j ≡ slotAfter all f j
         go j (inl h) = slot-past after g j h ∙ g-other j (λ e. omega arith) ∙ sym (slot-past all f j h)
         go j (inr h) = slot-after after g j h ∙ slot j ∙ sym (slot-after all f j h)
 
   -- no page is left
-  table-none : (left q s e p : ℕ) (f : ℕ → Tree) → e ≤ s → visitTable (rule (call s e p)) left q (node f) ≡ node f
+  table-none : (depth q s e p : ℕ) (f : ℕ → Tree) → e ≤ s → visitTable (rule (call s e p)) depth q (node f) ≡ node f
   unfolding visitTable
-  table-none left q s e p f h =
-      each-none (λ j u. visit (rule (call s e p)) left (child q j) u) f
-      (λ j l. visit-off L (call s e p) left (child q j) (f j) (meets-no left (first left (child q j)) (call s e p) (omega arith)))
+  table-none depth q s e p f h =
+      each-none (λ j u. visit (rule (call s e p)) depth (child q j) u) f
+      (λ j l. visit-off L (call s e p) depth (child q j) (f j) (meets-no depth (first depth (child q j)) (call s e p) (omega arith)))
 
-  table-visit : (left q s e p : ℕ) (t : Tree) → visitTable (rule (call s e p)) left q t ≡ eachSlot (λ i u. visit (rule (call s e p)) left (child q i) u) t
+  table-visit : (depth q s e p : ℕ) (t : Tree) → visitTable (rule (call s e p)) depth q t ≡ eachSlot (λ i u. visit (rule (call s e p)) depth (child q i) u) t
   unfolding visitTable
-  table-visit left q s e p t = refl
+  table-visit depth q s e p t = refl
 
-  sweep-is : (left : ℕ) → left ≤ 3 → Does left → (n q s e p : ℕ) (f : ℕ → Tree) → met (3 - left) s e ≡ n
-      → Inside (first (suc left) q) (span (suc left)) s e p
-      → sweep left (λ d x u. chunked rules left d x u) (chunks (3 - left) s e) p (node f) ≡ visitTable (rule (call s e p)) left q (node f)
+  sweep-is : (depth : ℕ) → depth ≤ 3 → Does depth → (n q s e p : ℕ) (f : ℕ → Tree) → met (3 - depth) s e ≡ n
+      → Inside (first (suc depth) q) (span (suc depth)) s e p
+      → sweep depth (λ d x u. chunked rules depth d x u) (chunks (3 - depth) s e) p (node f) ≡ visitTable (rule (call s e p)) depth q (node f)
   unfolding sweep atSlot
-  sweep-is left low does zero q s e p f n I = go (le-or e s)
+  sweep-is depth low does zero q s e p f n I = go (le-or e s)
     where
-      go : (e ≤ s) ⊎ (s < e) → sweep left (λ d x u. chunked rules left d x u) (chunks (3 - left) s e) p (node f) ≡ visitTable (rule (call s e p)) left q (node f)
-      go (inl h) = ap (λ (cs : List MemoryRegion). sweep left (λ d x u. chunked rules left d x u) cs p (node f)) (chunks-none (3 - left) s e h) ∙ sym (table-none left q s e p f h)
-      go (inr h) = absurd (let k = met-step (3 - left) s e h in omega arith)
-  sweep-is left low does (suc n) q s e p f k I = go (le-or e s) (λ z y. sweep-is left low does n q z e (p + (z - s)) y)
+      go : (e ≤ s) ⊎ (s < e) → sweep depth (λ d x u. chunked rules depth d x u) (chunks (3 - depth) s e) p (node f) ≡ visitTable (rule (call s e p)) depth q (node f)
+      go (inl h) = ap (λ (cs : List MemoryRegion). sweep depth (λ d x u. chunked rules depth d x u) cs p (node f)) (chunks-none (3 - depth) s e h) ∙ sym (table-none depth q s e p f h)
+      go (inr h) = absurd (let k = met-step (3 - depth) s e h in omega arith)
+  sweep-is depth low does (suc n) q s e p f k I = go (le-or e s) (λ z y. sweep-is depth low does n q z e (p + (z - s)) y)
     where
       each : MemoryRegion → ℕ → Tree → Tree
-      each d x u = chunked rules left d x u
+      each d x u = chunked rules depth d x u
 
       Goal : Type 0
-      Goal = sweep left each (chunks (3 - left) s e) p (node f) ≡ visitTable (rule (call s e p)) left q (node f)
+      Goal = sweep depth each (chunks (3 - depth) s e) p (node f) ≡ visitTable (rule (call s e p)) depth q (node f)
 
       go : (e ≤ s) ⊎ (s < e)
-          → ((z : ℕ) (y : ℕ → Tree) → met (3 - left) z e ≡ n → Inside (first (suc left) q) (span (suc left)) z e (p + (z - s))
-          → sweep left each (chunks (3 - left) z e) (p + (z - s)) (node y) ≡ visitTable (rule (call z e (p + (z - s)))) left q (node y))
+          → ((z : ℕ) (y : ℕ → Tree) → met (3 - depth) z e ≡ n → Inside (first (suc depth) q) (span (suc depth)) z e (p + (z - s))
+          → sweep depth each (chunks (3 - depth) z e) (p + (z - s)) (node y) ≡ visitTable (rule (call z e (p + (z - s)))) depth q (node y))
           → Goal
-      go (inl h) ih = ap (λ (cs : List MemoryRegion). sweep left each cs p (node f)) (chunks-none (3 - left) s e h) ∙ sym (table-none left q s e p f h)
+      go (inl h) ih = ap (λ (cs : List MemoryRegion). sweep depth each cs p (node f)) (chunks-none (3 - depth) s e h) ∙ sym (table-none depth q s e p f h)
       go (inr h) ih =
-          let z : ℕ = chunkEnd (3 - left) s e in
-          let i : ℕ = slotOf (s / 4096) left in
-          let c = cut left q s e p low h I in
-          let fewer : met (3 - left) (chunkEnd (3 - left) s e) e ≡ n = let m = met-step (3 - left) s e h in omega arith in
-          ap (λ (cs : List MemoryRegion). sweep left each cs p (node f)) (chunks-step (3 - left) s e h)
-          ∙ ap (λ (x : ℕ). sweep left each (chunks (3 - left) z e) (p + (z - s)) (node (λ j. cond (eqb j x) (each (region s z) p (f j)) (f j)))) (index-slot left s low)
+          let z : ℕ = chunkEnd (3 - depth) s e in
+          let i : ℕ = slotOf (s / 4096) depth in
+          let c = cut depth q s e p low h I in
+          let fewer : met (3 - depth) (chunkEnd (3 - depth) s e) e ≡ n = let m = met-step (3 - depth) s e h in omega arith in
+          ap (λ (cs : List MemoryRegion). sweep depth each cs p (node f)) (chunks-step (3 - depth) s e h)
+          ∙ ap (λ (x : ℕ). sweep depth each (chunks (3 - depth) z e) (p + (z - s)) (node (λ j. cond (eqb j x) (each (region s z) p (f j)) (f j)))) (index-slot depth s low)
           ∙ ih z (λ j. cond (eqb j i) (each (region s z) p (f j)) (f j)) fewer (c .rest)
-          ∙ table left q s e p z i low does c f (slot-lt (s / 4096) left)
+          ∙ table depth q s e p z i low does c f (slot-lt (s / 4096) depth)
 
   -- ---- what the loop does
 
   module _ (says : Says) where
-    pub chunked-is : (left : ℕ) → Does left
+    pub chunked-is : (depth : ℕ) → Does depth
     unfolding chunked visit opened
     chunked-is zero q s e p t low some I = ap (λ (x : Rule). obey x t t) (says zero q s e p t low some I)
-    chunked-is (suc left) q s e p (leaf w) low some I =
-        ap₂ (λ (x : Rule) (u : Tree). obey x (leaf w) u) (says (suc left) q s e p (leaf w) low some I)
-        (ap (λ (t : Tree). sweep left (λ d x u. chunked rules left d x u) (chunks (3 - left) s e) p t) (fill-node left w)
-        ∙ sweep-is left (omega arith) (chunked-is left) (met (3 - left) s e) q s e p (fillSlot left w) refl I
-        ∙ ap (visitTable (rule (call s e p)) left q) (sym (fill-node left w)) ∙ table-visit left q s e p (fillTree left w))
-    chunked-is (suc left) q s e p (node f) low some I =
-        ap₂ (λ (x : Rule) (u : Tree). obey x (node f) u) (says (suc left) q s e p (node f) low some I)
-        (sweep-is left (omega arith) (chunked-is left) (met (3 - left) s e) q s e p f refl I ∙ table-visit left q s e p (node f))
+    chunked-is (suc depth) q s e p (leaf w) low some I =
+        ap₂ (λ (x : Rule) (u : Tree). obey x (leaf w) u) (says (suc depth) q s e p (leaf w) low some I)
+        (ap (λ (t : Tree). sweep depth (λ d x u. chunked rules depth d x u) (chunks (3 - depth) s e) p t) (fill-node depth w)
+        ∙ sweep-is depth (omega arith) (chunked-is depth) (met (3 - depth) s e) q s e p (fillSlot depth w) refl I
+        ∙ ap (visitTable (rule (call s e p)) depth q) (sym (fill-node depth w)) ∙ table-visit depth q s e p (fillTree depth w))
+    chunked-is (suc depth) q s e p (node f) low some I =
+        ap₂ (λ (x : Rule) (u : Tree). obey x (node f) u) (says (suc depth) q s e p (node f) low some I)
+        (sweep-is depth (omega arith) (chunked-is depth) (met (3 - depth) s e) q s e p f refl I ∙ table-visit depth q s e p (node f))
 
     -- a call on a table, a region with no page too
-    pub table-is : (left q s e p : ℕ) (f : ℕ → Tree) → left ≤ 3 → Inside (first (suc left) q) (span (suc left)) s e p
-        → chunkedTable rules left (region s e) p (node f) ≡ visitTable (rule (call s e p)) left q (node f)
+    pub table-is : (depth q s e p : ℕ) (f : ℕ → Tree) → depth ≤ 3 → Inside (first (suc depth) q) (span (suc depth)) s e p
+        → chunkedTable rules depth (region s e) p (node f) ≡ visitTable (rule (call s e p)) depth q (node f)
     unfolding chunkedTable
-    table-is left q s e p f low I = sweep-is left low (chunked-is left) (met (3 - left) s e) q s e p f refl I
+    table-is depth q s e p f low I = sweep-is depth low (chunked-is depth) (met (3 - depth) s e) q s e p f refl I

@@ -26,20 +26,20 @@ no-write false x e = let z : _≡_ {A = ℕ} 0 1 = cc in omega arith
 
 -- the new table that a split of the word w links
 unfoldable pub fillTree : ℕ → ℕ → Tree
-fillTree left w = node (λ i. cond (ltb i 512) (leaf (fillWord left w i)) (leaf 0))
+fillTree depth w = node (λ i. cond (ltb i 512) (leaf (fillWord depth w i)) (leaf 0))
 
 -- the table below an entry, after a split if there is none
 unfoldable pub opened : ℕ → Tree → Tree
-opened left (leaf w) = fillTree left w
-opened left (node f) = node f
+opened depth (leaf w) = fillTree depth w
+opened depth (node f) = node f
 
-pub opens-leaf : (left w : ℕ) → opened left (leaf w) ≡ fillTree left w
+pub opens-leaf : (depth w : ℕ) → opened depth (leaf w) ≡ fillTree depth w
 unfolding opened
-opens-leaf left w = refl
+opens-leaf depth w = refl
 
-pub opens-node : (left : ℕ) (f : ℕ → Tree) → opened left (node f) ≡ node f
+pub opens-node : (depth : ℕ) (f : ℕ → Tree) → opened depth (node f) ≡ node f
 unfolding opened
-opens-node left f = refl
+opens-node depth f = refl
 
 -- the tables that opening makes
 unfoldable pub splits : Tree → ℕ
@@ -65,52 +65,52 @@ counted keep a b = 0
 counted (write x) a b = a
 counted down a b = b
 
--- ---- the visit: `rule left b t` for an entry with `left` levels below, whose first page is b and which shows t
+-- ---- the visit: `rule left b t` for an entry with `depth` levels below, whose first page is b and which shows t
 
 module _ (rule : ℕ → ℕ → Tree → Rule) where
   -- the q-th entry of its size
   unfoldable pub visit : ℕ → ℕ → Tree → Tree
   visit zero q t = obey (rule zero (first zero q) t) t t
-  visit (suc left) q t =
-      let below = eachSlot (λ i u. visit left (child q i) u) (opened left t) in
-      obey (rule (suc left) (first (suc left) q) t) t below
+  visit (suc depth) q t =
+      let below = eachSlot (λ i u. visit depth (child q i) u) (opened depth t) in
+      obey (rule (suc depth) (first (suc depth) q) t) t below
 
   -- the new tables that it takes
   unfoldable pub made : ℕ → ℕ → Tree → ℕ
   made zero q t = 0
-  made (suc left) q t =
-      let below = splits t + total (λ i u. made left (child q i) u) (opened left t) in
-      counted (rule (suc left) (first (suc left) q) t) 0 below
+  made (suc depth) q t =
+      let below = splits t + total (λ i u. made depth (child q i) u) (opened depth t) in
+      counted (rule (suc depth) (first (suc depth) q) t) 0 below
 
   -- the tables that it frees: a write over a table frees the whole subtree
   unfoldable pub freed : ℕ → ℕ → Tree → ℕ
   freed zero q t = counted (rule zero (first zero q) t) (nodes t) 0
-  freed (suc left) q t =
-      let below = total (λ i u. freed left (child q i) u) (opened left t) in
-      counted (rule (suc left) (first (suc left) q) t) (nodes t) below
+  freed (suc depth) q t =
+      let below = total (λ i u. freed depth (child q i) u) (opened depth t) in
+      counted (rule (suc depth) (first (suc depth) q) t) (nodes t) below
 
-  -- a table as a whole: its entries have `left` levels below and are the children of q. No rule looks at the root as an entry.
+  -- a table as a whole: its entries have `depth` levels below and are the children of q. No rule looks at the root as an entry.
   unfoldable pub visitTable : ℕ → ℕ → Tree → Tree
-  visitTable left q t = eachSlot (λ i u. visit left (child q i) u) t
+  visitTable depth q t = eachSlot (λ i u. visit depth (child q i) u) t
 
   unfoldable pub madeTable : ℕ → ℕ → Tree → ℕ
-  madeTable left q t = total (λ i u. made left (child q i) u) t
+  madeTable depth q t = total (λ i u. made depth (child q i) u) t
 
   unfoldable pub freedTable : ℕ → ℕ → Tree → ℕ
-  freedTable left q t = total (λ i u. freed left (child q i) u) t
+  freedTable depth q t = total (λ i u. freed depth (child q i) u) t
 
   -- ---- by the rule's word
 
-  pub visit-keep : (left q : ℕ) (t : Tree) → rule left (first left q) t ≡ keep → visit left q t ≡ t
+  pub visit-keep : (depth q : ℕ) (t : Tree) → rule depth (first depth q) t ≡ keep → visit depth q t ≡ t
   unfolding visit obey
   visit-keep zero q t e = rw e
-  visit-keep (suc left) q t e = rw e
+  visit-keep (suc depth) q t e = rw e
 
-  pub visit-write : (left q : ℕ) (t : Tree) (x : ℕ) → rule left (first left q) t ≡ write x → visit left q t ≡ leaf x
+  pub visit-write : (depth q : ℕ) (t : Tree) (x : ℕ) → rule depth (first depth q) t ≡ write x → visit depth q t ≡ leaf x
   unfolding visit obey
   visit-write zero q t x e = rw e
-  visit-write (suc left) q t x e = rw e
+  visit-write (suc depth) q t x e = rw e
 
-  pub visit-down : (left q : ℕ) (t : Tree) → rule (suc left) (first (suc left) q) t ≡ down → visit (suc left) q t ≡ visitTable left q (opened left t)
+  pub visit-down : (depth q : ℕ) (t : Tree) → rule (suc depth) (first (suc depth) q) t ≡ down → visit (suc depth) q t ≡ visitTable depth q (opened depth t)
   unfolding visit obey visitTable
-  visit-down left q t e = rw e
+  visit-down depth q t e = rw e

@@ -32,41 +32,41 @@ framed Block = true
 framed Page = true
 framed Hole = false
 
--- a word in an entry with `left` levels below, read for a page: "the entry's address, cleared below the entry's size, plus the page's offset"
+-- a word in an entry with `depth` levels below, read for a page: "the entry's address, cleared below the entry's size, plus the page's offset"
 unfoldable pub seenIn : ℕ → ℕ → ℕ → Seen
-seenIn left w page =
-    cond (framed (kindOf (3 - left) w)) (mapped (plainFlags w) (frameOf w / span left * span left + page % span left)) (hole (plainFlags w))
+seenIn depth w page =
+    cond (framed (kindOf (3 - depth) w)) (mapped (plainFlags w) (frameOf w / span depth * span depth + page % span depth)) (hole (plainFlags w))
 
--- the walk to a page, from a tree that stands in an entry with `left` levels below
+-- the walk to a page, from a tree that stands in an entry with `depth` levels below
 unfoldable pub walk : ℕ → Tree → ℕ → Answer
-walk left t page =
-    let e = walkTree (slotOf page) left t in
-    record { level = 3 - e .left; seen = seenIn (e .left) (e .word) page }
+walk depth t page =
+    let e = walkTree (slotOf page) depth t in
+    record { level = 3 - e .depth; seen = seenIn (e .depth) (e .word) page }
 
 abbrev pub seen : ℕ → Tree → ℕ → Seen
-seen left t page = walk left t page .seen
+seen depth t page = walk depth t page .seen
 
 -- ---- laws
 
-pub walk-leaf : (left w page : ℕ) → walk left (leaf w) page ≡ record { level = 3 - left; seen = seenIn left w page }
+pub walk-leaf : (depth w page : ℕ) → walk depth (leaf w) page ≡ record { level = 3 - depth; seen = seenIn depth w page }
 unfolding walk walkTree
 walk-leaf zero w page = refl
-walk-leaf (suc left) w page = refl
+walk-leaf (suc depth) w page = refl
 
-pub walk-node : (left : ℕ) (f : ℕ → Tree) (page : ℕ) → walk (suc left) (node f) page ≡ walk left (f (slotOf page left)) page
+pub walk-node : (depth : ℕ) (f : ℕ → Tree) (page : ℕ) → walk (suc depth) (node f) page ≡ walk depth (f (slotOf page depth)) page
 unfolding walk walkTree
-walk-node left f page = refl
+walk-node depth f page = refl
 
-pub seen-leaf : (left w page : ℕ) → seen left (leaf w) page ≡ seenIn left w page
-seen-leaf left w page = ap (λ (a : Answer). a .seen) (walk-leaf left w page)
+pub seen-leaf : (depth w page : ℕ) → seen depth (leaf w) page ≡ seenIn depth w page
+seen-leaf depth w page = ap (λ (a : Answer). a .seen) (walk-leaf depth w page)
 
-pub seen-node : (left : ℕ) (f : ℕ → Tree) (page : ℕ) → seen (suc left) (node f) page ≡ seen left (f (slotOf page left)) page
-seen-node left f page = ap (λ (a : Answer). a .seen) (walk-node left f page)
+pub seen-node : (depth : ℕ) (f : ℕ → Tree) (page : ℕ) → seen (suc depth) (node f) page ≡ seen depth (f (slotOf page depth)) page
+seen-node depth f page = ap (λ (a : Answer). a .seen) (walk-node depth f page)
 
 -- a fine word has a frame exactly if it is valid
-pub fine-framed : (left w : ℕ) → Fine left w → framed (kindOf (3 - left) w) ≡ valid w
+pub fine-framed : (depth w : ℕ) → Fine depth w → framed (kindOf (3 - depth) w) ≡ valid w
 unfolding framed
-fine-framed left w fine = go (eq-or (w % 4) 3) (eq-or (w % 4) 1)
+fine-framed depth w fine = go (eq-or (w % 4) 3) (eq-or (w % 4) 1)
   where
     page : (k : ℕ) → Fine k w → w % 4 ≡ 3 → framed (kindOf (3 - k) w) ≡ valid w
     page zero f e = rw (kind-page 3 w (omega arith) e) (sym (valid-of w (omega arith)))
@@ -78,43 +78,43 @@ fine-framed left w fine = go (eq-or (w % 4) 3) (eq-or (w % 4) 1)
     block (suc (suc zero)) f e = rw (kind-block 1 w (inl refl) e) (sym (valid-of w (omega arith)))
     block (suc (suc (suc k))) f e = absurd (omega (arith, f .top (omega arith) .0))
 
-    go : (w % 4 ≡ 3) ⊎ (w % 4 ≢ 3) → (w % 4 ≡ 1) ⊎ (w % 4 ≢ 1) → framed (kindOf (3 - left) w) ≡ valid w
-    go (inl e) b = page left fine e
-    go (inr a) (inl e) = block left fine e
-    go (inr a) (inr b) = rw (kind-clear (3 - left) w a b) (sym (valid-none w (omega arith)))
+    go : (w % 4 ≡ 3) ⊎ (w % 4 ≢ 3) → (w % 4 ≡ 1) ⊎ (w % 4 ≢ 1) → framed (kindOf (3 - depth) w) ≡ valid w
+    go (inl e) b = page depth fine e
+    go (inr a) (inl e) = block depth fine e
+    go (inr a) (inr b) = rw (kind-clear (3 - depth) w a b) (sym (valid-none w (omega arith)))
 
-pub seen-fine : (left w page : ℕ) → Fine left w
-    → seenIn left w page ≡ cond (valid w) (mapped (plainFlags w) (frameOf w + page % span left)) (hole (plainFlags w))
+pub seen-fine : (depth w page : ℕ) → Fine depth w
+    → seenIn depth w page ≡ cond (valid w) (mapped (plainFlags w) (frameOf w + page % span depth)) (hole (plainFlags w))
 unfolding seenIn
-seen-fine left w page fine =
-    let whole : frameOf w / span left * span left ≡ frameOf w = omega (arith, div-add-mod' (frameOf w) (span left), fine .aligned) in
-    rw (fine-framed left w fine, whole)
+seen-fine depth w page fine =
+    let whole : frameOf w / span depth * span depth ≡ frameOf w = omega (arith, div-add-mod' (frameOf w) (span depth), fine .aligned) in
+    rw (fine-framed depth w fine, whole)
 
 -- what a map writes is seen: the frame and the flags
-pub seen-leaf-word : (left p f page : ℕ) → Plain f → p < 2 ^ 36 → p % span left ≡ 0 → left < 3 → valid f ≡ true
-    → seenIn left (leafWord left p f) page ≡ mapped f (p + page % span left)
-seen-leaf-word left p f page F below at low v =
-    seen-fine left (leafWord left p f) page (fine-leaf left p f F below at low)
-    ∙ rw (leaf-true f F left p below v, leaf-plain f F left p below v, leaf-frame f F left p below v)
+pub seen-leaf-word : (depth p f page : ℕ) → Plain f → p < 2 ^ 36 → p % span depth ≡ 0 → depth < 3 → valid f ≡ true
+    → seenIn depth (leafWord depth p f) page ≡ mapped f (p + page % span depth)
+seen-leaf-word depth p f page F below at low v =
+    seen-fine depth (leafWord depth p f) page (fine-leaf depth p f F below at low)
+    ∙ rw (leaf-true f F depth p below v, leaf-plain f F depth p below v, leaf-frame f F depth p below v)
 
 -- flags alone are seen as a hole
-pub seen-flags : (left f page : ℕ) → Plain f → valid f ≡ false → seenIn left f page ≡ hole f
-seen-flags left f page F v = seen-fine left f page (fine-flags left f F v) ∙ rw (v, flags-shown f F)
+pub seen-flags : (depth f page : ℕ) → Plain f → valid f ≡ false → seenIn depth f page ≡ hole f
+seen-flags depth f page F v = seen-fine depth f page (fine-flags depth f F v) ∙ rw (v, flags-shown f F)
 
 -- a split is not seen
-pub fill-seen : (left w page : ℕ) → Fine (suc left) w → seenIn left (fillWord left w (slotOf page left)) page ≡ seenIn (suc left) w page
-fill-seen left w page fine =
-    let i : ℕ = slotOf page left in
-    let F = fill-flags left w fine in
-    let sum : frameOf w + i * span left + page % span left ≡ frameOf w + page % span (suc left) = omega (arith, rest-child page left) in
+pub fill-seen : (depth w page : ℕ) → Fine (suc depth) w → seenIn depth (fillWord depth w (slotOf page depth)) page ≡ seenIn (suc depth) w page
+fill-seen depth w page fine =
+    let i : ℕ = slotOf page depth in
+    let F = fill-flags depth w fine in
+    let sum : frameOf w + i * span depth + page % span depth ≡ frameOf w + page % span (suc depth) = omega (arith, rest-child page depth) in
     let clear = plain-flags w (fine .clear (omega arith)) in
-    ap (λ (x : ℕ). seenIn left x page) (fill-is left w fine i)
+    ap (λ (x : ℕ). seenIn depth x page) (fill-is depth w fine i)
     ∙ byBool (valid w)
-    (λ v. seen-leaf-word left (frameOf w + i * span left) (flagsOf w) page F (fill-below left w fine i (slot-lt page left) v)
-    (fill-aligned left w fine i) (let l = fine-low left w fine v in omega arith) (flags-valid w ∙ v)
+    (λ v. seen-leaf-word depth (frameOf w + i * span depth) (flagsOf w) page F (fill-below depth w fine i (slot-lt page depth) v)
+    (fill-aligned depth w fine i) (let l = fine-low depth w fine v in omega arith) (flags-valid w ∙ v)
     ∙ ap (mapped (flagsOf w)) sum
-    ∙ sym (seen-fine (suc left) w page fine ∙ rw (v, clear)))
+    ∙ sym (seen-fine (suc depth) w page fine ∙ rw (v, clear)))
     (λ v. let o = flags-valid w ∙ v in
-    ap (λ (x : ℕ). seenIn left x page) (leaf-hole (flagsOf w) F left (frameOf w + i * span left) o)
-    ∙ seen-flags left (flagsOf w) page F o
-    ∙ sym (seen-fine (suc left) w page fine ∙ rw (v, clear)))
+    ap (λ (x : ℕ). seenIn depth x page) (leaf-hole (flagsOf w) F depth (frameOf w + i * span depth) o)
+    ∙ seen-flags depth (flagsOf w) page F o
+    ∙ sym (seen-fine (suc depth) w page fine ∙ rw (v, clear)))

@@ -15,15 +15,15 @@ frameOf w = w / 4096 % 2 ^ 36
 -- a page has bit 1, a block hasn't
 unfoldable pub pageBit : ℕ → ℕ
 pageBit zero = 2
-pageBit (suc left) = 0
+pageBit (suc depth) = 0
 
 -- document 01, "Putting down a map", rules 1 and 3: the frame with the flags and, for a page, bit 1; "otherwise the flags alone"
 unfoldable pub leafWord : ℕ → ℕ → ℕ → ℕ
-leafWord left frame flags = cond (valid flags) (frame * 4096 + flags + pageBit left) flags
+leafWord depth frame flags = cond (valid flags) (frame * 4096 + flags + pageBit depth) flags
 
--- rule 5: what a split of the word w writes in slot i of the new table, whose entries have `left` levels below
+-- rule 5: what a split of the word w writes in slot i of the new table, whose entries have `depth` levels below
 unfoldable pub fillWord : ℕ → ℕ → ℕ → ℕ
-fillWord left w i = leafWord left (frameOf w / span (suc left) * span (suc left) + i * span left) (flagsOf w)
+fillWord depth w i = leafWord depth (frameOf w / span (suc depth) * span (suc depth) + i * span depth) (flagsOf w)
 
 -- ---- frames and flags of a word
 
@@ -67,10 +67,10 @@ flags-page f bits clear =
     let b : (f + 2) / 2 ^ 48 ≡ f / 2 ^ 48 = omega arith in
     omega arith
 
-bit-even : (left : ℕ) → pageBit left / 2 * 2 ≡ pageBit left
+bit-even : (depth : ℕ) → pageBit depth / 2 * 2 ≡ pageBit depth
 unfolding pageBit
 bit-even zero = refl
-bit-even (suc left) = refl
+bit-even (suc depth) = refl
 
 -- a frame and flags fit a word
 frame-room : (p f : ℕ) → p < 2 ^ 36 → flagsOf f ≡ f → f < 2 ^ 64 → p * 4096 + f < 2 ^ 64
@@ -84,52 +84,52 @@ module _ (f : ℕ) (F : Plain f) where
   pub flags-shown : plainFlags f ≡ f
   flags-shown = plain-flags f (F .clear) ∙ F .bits
 
-  pub leaf-hole : (left p : ℕ) → valid f ≡ false → leafWord left p f ≡ f
+  pub leaf-hole : (depth p : ℕ) → valid f ≡ false → leafWord depth p f ≡ f
   unfolding leafWord
-  leaf-hole left p v = rw v
+  leaf-hole depth p v = rw v
 
-  pub leaf-valid : (left p : ℕ) → valid f ≡ true → leafWord left p f ≡ p * 4096 + f + pageBit left
+  pub leaf-valid : (depth p : ℕ) → valid f ≡ true → leafWord depth p f ≡ p * 4096 + f + pageBit depth
   unfolding leafWord
-  leaf-valid left p v = rw v
+  leaf-valid depth p v = rw v
 
-  bit-flags : (left : ℕ) → flagsOf (f + pageBit left) ≡ f + pageBit left
+  bit-flags : (depth : ℕ) → flagsOf (f + pageBit depth) ≡ f + pageBit depth
   unfolding pageBit
   bit-flags zero = flags-page f (F .bits) (F .clear)
-  bit-flags (suc left) = rw add-zero (F .bits)
+  bit-flags (suc depth) = rw add-zero (F .bits)
 
-  bit-wide : (left : ℕ) → f + pageBit left < 2 ^ 64
+  bit-wide : (depth : ℕ) → f + pageBit depth < 2 ^ 64
   unfolding pageBit
   bit-wide zero = omega (arith, F .clear, F .wide)
-  bit-wide (suc left) = omega (arith, F .wide)
+  bit-wide (suc depth) = omega (arith, F .wide)
 
-  module _ (left p : ℕ) (below : p < 2 ^ 36) (v : valid f ≡ true) where
-    sum-word : leafWord left p f ≡ p * 4096 + (f + pageBit left)
-    sum-word = leaf-valid left p v ∙ (let e : p * 4096 + f + pageBit left ≡ p * 4096 + (f + pageBit left) = omega arith in e)
+  module _ (depth p : ℕ) (below : p < 2 ^ 36) (v : valid f ≡ true) where
+    sum-word : leafWord depth p f ≡ p * 4096 + (f + pageBit depth)
+    sum-word = leaf-valid depth p v ∙ (let e : p * 4096 + f + pageBit depth ≡ p * 4096 + (f + pageBit depth) = omega arith in e)
 
-    pub leaf-frame : frameOf (leafWord left p f) ≡ p
+    pub leaf-frame : frameOf (leafWord depth p f) ≡ p
     leaf-frame =
-        let a = address-back (p * 4096) (f + pageBit left) (omega arith) (omega arith) (bit-flags left) in
-        ap frameOf sum-word ∙ frame-address (p * 4096 + (f + pageBit left)) p a
+        let a = address-back (p * 4096) (f + pageBit depth) (omega arith) (omega arith) (bit-flags depth) in
+        ap frameOf sum-word ∙ frame-address (p * 4096 + (f + pageBit depth)) p a
 
-    pub leaf-flags : flagsOf (leafWord left p f) ≡ f + pageBit left
-    leaf-flags = ap flagsOf sum-word ∙ flags-back (p * 4096) (f + pageBit left) (omega arith) (omega arith) (bit-flags left)
+    pub leaf-flags : flagsOf (leafWord depth p f) ≡ f + pageBit depth
+    leaf-flags = ap flagsOf sum-word ∙ flags-back (p * 4096) (f + pageBit depth) (omega arith) (omega arith) (bit-flags depth)
 
-    pub leaf-bit : leafWord left p f / 2 % 2 ≡ pageBit left / 2
+    pub leaf-bit : leafWord depth p f / 2 % 2 ≡ pageBit depth / 2
     unfolding pageBit
-    leaf-bit = go left (leafWord left p f) leaf-flags (flags-low (leafWord left p f))
+    leaf-bit = go depth (leafWord depth p f) leaf-flags (flags-low (leafWord depth p f))
       where
         go : (k w : ℕ) → flagsOf w ≡ f + pageBit k → flagsOf w % 4 ≡ w % 4 → w / 2 % 2 ≡ pageBit k / 2
         go zero w g l = omega (arith, F .clear)
         go (suc k) w g l = omega (arith, F .clear)
 
-    pub leaf-plain : plainFlags (leafWord left p f) ≡ f
-    leaf-plain = omega (arith, plain-bit (leafWord left p f), leaf-flags, leaf-bit, bit-even left)
+    pub leaf-plain : plainFlags (leafWord depth p f) ≡ f
+    leaf-plain = omega (arith, plain-bit (leafWord depth p f), leaf-flags, leaf-bit, bit-even depth)
 
     -- it is valid
-    pub leaf-true : valid (leafWord left p f) ≡ true
+    pub leaf-true : valid (leafWord depth p f) ≡ true
     leaf-true =
-        let o : leafWord left p f % 2 ≡ f % 2 = omega (arith, flags-low (leafWord left p f), leaf-flags, bit-even left) in
-        valid-same (leafWord left p f) f o ∙ v
+        let o : leafWord depth p f % 2 ≡ f % 2 = omega (arith, flags-low (leafWord depth p f), leaf-flags, bit-even depth) in
+        valid-same (leafWord depth p f) f o ∙ v
 
-    pub leaf-wide : leafWord left p f < 2 ^ 64
-    leaf-wide = let room = frame-room p (f + pageBit left) below (bit-flags left) (bit-wide left) in let e = sum-word in omega arith
+    pub leaf-wide : leafWord depth p f < 2 ^ 64
+    leaf-wide = let room = frame-room p (f + pageBit depth) below (bit-flags depth) (bit-wide depth) in let e = sum-word in omega arith

@@ -15,11 +15,11 @@ use Rattle.arm.specs.Walk.{low-bits, slot-below}
 
 -- the slots that the walk of an address takes, by the levels left
 unfoldable pub slotsOf : ℕ → ℕ → ℕ
-slotsOf va left = index (3 - left) va
+slotsOf va depth = index (3 - depth) va
 
 -- where a walk of the tree ends, in the manual's terms: the descriptor and its level
 unfoldable pub met : Ends → Reached
-met e = at (3 - e .left) (e .word)
+met e = at (3 - e .depth) (e .word)
 
 -- a pool of n tables from base on: whether it has the table that a Table descriptor refers to, and which one that is
 unfoldable pub inPool : ℕ → ℕ → ℕ → Bool
@@ -28,68 +28,68 @@ inPool base n w = leb base (tableAddress w) && ltb (tableAddress w) (base + 4096
 unfoldable pub tableOf : ℕ → ℕ → ℕ
 tableOf base w = (tableAddress w - base) / 4096
 
--- the tree that the words show, read as the Arm walk follows them: of table k, with `left` levels below its own
+-- the tree that the words show, read as the Arm walk follows them: of table k, with `depth` levels below its own
 abbrev pub treeRead : ℕ → St → ℕ → ℕ → Tree
-treeRead base s left k = treeAt (tableOf base) left (slotWord s) k
+treeRead base s depth k = treeAt (tableOf base) depth (slotWord s) k
 
 module _ (base n : ℕ) (s : St) (va : ℕ) where
   abbrev from : ℕ → ℕ → Reached
-  from left k = reachFrom base n (s .words) va left k
+  from depth k = reachFrom base n (s .words) va depth k
 
-  -- the word of table k, with `left` levels below its own, that the walk fetches
+  -- the word of table k, with `depth` levels below its own, that the walk fetches
   abbrev pub word : ℕ → ℕ → ℕ
-  word left k = slotWord s k (slotsOf va left)
+  word depth k = slotWord s k (slotsOf va depth)
 
-  pub word-fetched : (left k : ℕ) → word left k ≡ fetch (s .words) va (3 - left) k
+  pub word-fetched : (depth k : ℕ) → word depth k ≡ fetch (s .words) va k (3 - depth)
   unfolding slotsOf fetch
-  word-fetched left k = word-in s k (index (3 - left) va) (slot-below (3 - left) va)
+  word-fetched depth k = word-in s k (index (3 - depth) va) (slot-below (3 - depth) va)
 
   -- ---- on from a table above the last level: a table word leads on or away, any other ends the walk
 
-  reach-open : (left k : ℕ) → from (suc left) k
-      ≡ cond (eqb (word (suc left) k % 4) 3) (cond (inPool base n (word (suc left) k)) (from left (tableOf base (word (suc left) k))) away) (at (3 - suc left) (word (suc left) k))
+  reach-open : (depth k : ℕ) → from (suc depth) k
+      ≡ cond (eqb (word (suc depth) k % 4) 3) (cond (inPool base n (word (suc depth) k)) (from depth (tableOf base (word (suc depth) k))) away) (at (3 - suc depth) (word (suc depth) k))
   unfolding reachFrom inPool tableOf
-  reach-open left k = let l : 3 - suc left ≡ 2 - left = omega arith in rw (word-fetched (suc left) k, l, low-bits)
+  reach-open depth k = let l : 3 - suc depth ≡ 2 - depth = omega arith in rw (word-fetched (suc depth) k, l, low-bits)
 
-  module _ (left k : ℕ) where
-    pub reach-on : word (suc left) k % 4 ≡ 3 → inPool base n (word (suc left) k) ≡ true → from (suc left) k ≡ from left (tableOf base (word (suc left) k))
-    reach-on e i = reach-open left k ∙ rw (e, i)
+  module _ (depth k : ℕ) where
+    pub reach-on : word (suc depth) k % 4 ≡ 3 → inPool base n (word (suc depth) k) ≡ true → from (suc depth) k ≡ from depth (tableOf base (word (suc depth) k))
+    reach-on e i = reach-open depth k ∙ rw (e, i)
 
-    reach-off : word (suc left) k % 4 ≡ 3 → inPool base n (word (suc left) k) ≡ false → from (suc left) k ≡ away
-    reach-off e i = reach-open left k ∙ rw (e, i)
+    reach-off : word (suc depth) k % 4 ≡ 3 → inPool base n (word (suc depth) k) ≡ false → from (suc depth) k ≡ away
+    reach-off e i = reach-open depth k ∙ rw (e, i)
 
-    reach-end : eqb (word (suc left) k % 4) 3 ≡ false → from (suc left) k ≡ at (3 - suc left) (word (suc left) k)
-    reach-end e = reach-open left k ∙ rw e
+    reach-end : eqb (word (suc depth) k % 4) 3 ≡ false → from (suc depth) k ≡ at (3 - suc depth) (word (suc depth) k)
+    reach-end e = reach-open depth k ∙ rw e
 
   -- ---- one induction for any reading of the table words that agrees with the Arm walk at the tables that the walk comes to
 
   module _ (child : ℕ → ℕ) (On : ℕ → ℕ → Type 0)
-      (on : (left k : ℕ) → On (suc left) k → let x = word (suc left) k in x % 4 ≡ 3 → (inPool base n x ≡ true) × (tableOf base x ≡ child x) × On left (child x)) where
+      (on : (depth k : ℕ) → On (suc depth) k → let x = word (suc depth) k in x % 4 ≡ 3 → (inPool base n x ≡ true) × (tableOf base x ≡ child x) × On depth (child x)) where
     abbrev words : ℕ → ℕ → Ends
-    words left k = walkWord (slotsOf va) child left (slotWord s) (word left k)
+    words depth k = walkWord (slotsOf va) child depth (slotWord s) (word depth k)
 
-    reach-words : (left k : ℕ) → On left k → from left k ≡ met (words left k)
+    reach-words : (depth k : ℕ) → On depth k → from depth k ≡ met (words depth k)
     unfolding reachFrom walkWord met
     reach-words zero k o = ap (at 3) (sym (word-fetched 0 k))
-    reach-words (suc left) k o = go (reach-words left) (eqb-cases (x % 4) 3)
+    reach-words (suc depth) k o = go (reach-words depth) (eqb-cases (x % 4) 3)
       where
         x : ℕ
-        x = word (suc left) k
+        x = word (suc depth) k
 
-        go : ((j : ℕ) → On left j → from left j ≡ met (words left j)) → ((x % 4 ≡ 3) × (eqb (x % 4) 3 ≡ true)) ⊎ ((x % 4 ≢ 3) × (eqb (x % 4) 3 ≡ false))
-            → from (suc left) k ≡ met (words (suc left) k)
-        go below (inl e) = let t = on left k o (e .0) in reach-on left k (e .0) (t .0) ∙ ap (from left) (t .1) ∙ below (child x) (t .2) ∙ rw (e .1)
-        go below (inr e) = reach-end left k (e .1) ∙ rw (e .1)
+        go : ((j : ℕ) → On depth j → from depth j ≡ met (words depth j)) → ((x % 4 ≡ 3) × (eqb (x % 4) 3 ≡ true)) ⊎ ((x % 4 ≢ 3) × (eqb (x % 4) 3 ≡ false))
+            → from (suc depth) k ≡ met (words (suc depth) k)
+        go below (inl e) = let t = on depth k o (e .0) in reach-on depth k (e .0) (t .0) ∙ ap (from depth) (t .1) ∙ below (child x) (t .2) ∙ rw (e .1)
+        go below (inr e) = reach-end depth k (e .1) ∙ rw (e .1)
 
-    pub reach-reading : (left k : ℕ) → On left k → from left k ≡ met (walkTree (slotsOf va) (suc left) (treeAt child left (slotWord s) k))
-    reach-reading left k o = reach-words left k o ∙ ap met (walk-tree (slotsOf va) child left (slotWord s) k)
+    pub reach-reading : (depth k : ℕ) → On depth k → from depth k ≡ met (walkTree (slotsOf va) (suc depth) (treeAt child depth (slotWord s) k))
+    reach-reading depth k o = reach-words depth k o ∙ ap met (walk-tree (slotsOf va) child depth (slotWord s) k)
 
   -- ---- any pool
 
   -- down from table k: where the walk does not lead away it ends where the walk of the tree does
-  pub reach-any : (left k : ℕ) → from left k ≢ away → from left k ≡ met (walkTree (slotsOf va) (suc left) (treeRead base s left k))
-  reach-any = reach-reading (tableOf base) (λ left k. from left k ≢ away)
-      (λ left k stays e. byBool (inPool base n (word (suc left) k)) (λ i. (i, refl, λ q. stays (reach-on left k e i ∙ q))) (λ i. absurd (stays (reach-off left k e i))))
+  pub reach-any : (depth k : ℕ) → from depth k ≢ away → from depth k ≡ met (walkTree (slotsOf va) (suc depth) (treeRead base s depth k))
+  reach-any = reach-reading (tableOf base) (λ depth k. from depth k ≢ away)
+      (λ depth k stays e. byBool (inPool base n (word (suc depth) k)) (λ i. (i, refl, λ q. stays (reach-on depth k e i ∙ q))) (λ i. absurd (stays (reach-off depth k e i))))
 
   -- the walk of an address, down from a root of this level
   pub walk-any : (root : ℕ) → reach base n (s .words) va root ≢ away

@@ -39,19 +39,19 @@ module _ {h : Handle} {s : St} (shape : Shaped h s) (P : SoundPool h s) (va : �
 
   -- where the walk comes to: a used table with so many levels below its own
   abbrev On : ℕ → ℕ → Type 0
-  On left k = (levelAt s k + left ≡ 3) × InUse s k
+  On depth k = (levelAt s k + depth ≡ 3) × InUse s k
 
   -- its table words lead to used tables one level down
-  on : (left k : ℕ) → On (suc left) k → let x = word base (tables s) s va (suc left) k in
-      x % 4 ≡ 3 → (inPool base (tables s) x ≡ true) × (tableOf base x ≡ childOf base x) × On left (childOf base x)
+  on : (depth k : ℕ) → On (suc depth) k → let x = word base (tables s) s va (suc depth) k in
+      x % 4 ≡ 3 → (inPool base (tables s) x ≡ true) × (tableOf base x ≡ childOf base x) × On depth (childOf base x)
   unfolding slotsOf
-  on left k o both = go (table-leads shape P k i (o .1) inside (omega (arith, o .0), ap (λ (w : ℕ). w % 4) (sym is) ∙ both))
+  on depth k o both = go (table-leads shape P k i (o .1) inside (omega (arith, o .0), ap (λ (w : ℕ). w % 4) (sym is) ∙ both))
     where
       i : ℕ
-      i = index (3 - suc left) va
+      i = index (3 - suc depth) va
 
       inside : i < 512
-      inside = slot-below (3 - suc left) va
+      inside = slot-below (3 - suc depth) va
 
       x : ℕ
       x = slotWord s k i
@@ -59,7 +59,7 @@ module _ {h : Handle} {s : St} (shape : Shaped h s) (P : SoundPool h s) (va : �
       is : x ≡ wordAt s k i
       is = word-in s k i inside
 
-      go : (c : ℕ) × Leads h s k i c → (inPool base (tables s) x ≡ true) × (tableOf base x ≡ childOf base x) × On left (childOf base x)
+      go : (c : ℕ) × Leads h s k i c → (inPool base (tables s) x ≡ true) × (tableOf base x ≡ childOf base x) × On depth (childOf base x)
       go (c, leads) =
           let r = leads-refers shape P leads in
           let child : childOf base x ≡ c = refers-child r in

@@ -40,7 +40,7 @@ below level handle = λ j t. compactTable (3 - (level + 1)) handle j t
 abbrev Inv-loop : lts.InvT-loop
 Inv-loop words₀ ledger₀ handle k level next₀ words ledger next =
     (next ≤ 512) × (length words ≡ length words₀) × (length ledger ≡ length ledger₀)
-    × (st words ledger ≡ iter (compactEntry (below level handle) handle level k) next (st words₀ ledger₀))
+    × (st words ledger ≡ iter (compactEntry (below level handle) handle k level) next (st words₀ ledger₀))
 
 abbrev μ-loop : lts.MeasureT-loop
 μ-loop words₀ ledger₀ handle k level next₀ words ledger next = 512 - next
@@ -52,7 +52,7 @@ less h = omega arith
 returns : (t : ℕ) → lts.Need-returns (calls t) (started t) reads.Post Inv-loop μ-loop
 returns t c =
     let a = c .before .before .before .args in
-    compact-last (a .level) (a .handle) (a .k) (st (a .words .now) (a .ledger .now)) (omega arith)
+    compact-last (a .handle) (a .k) (a .level) (st (a .words .now) (a .ledger .now)) (omega arith)
 
 loop-holds : (t : ℕ) → lts.Need-loop-holds (calls t) (started t) reads.Post Inv-loop μ-loop
 loop-holds t c = (omega arith, refl, refl, iter-none _ _)
@@ -90,9 +90,9 @@ loop-again t c =
       omega arith,
       at .loop .inv .1,
       at .loop .inv .2,
-      iter-step (compactEntry (below (a .level) (a .handle)) (a .handle) (a .level) (a .k)) (at .loop .next) (st (a .words .now) (a .ledger .now)) (at .loop .inv .3)
-          (⊎-elim (λ e. entry-outside (below (a .level) (a .handle)) (a .handle) (a .level) (a .k) (at .loop .next) s (sub .ensures) e)
-          (λ e. entry-leaf (below (a .level) (a .handle)) (a .handle) (a .level) (a .k) (at .loop .next) s (sub .ensures) e)
+      iter-step (compactEntry (below (a .level) (a .handle)) (a .handle) (a .k) (a .level)) (at .loop .next) (st (a .words .now) (a .ledger .now)) (at .loop .inv .3)
+          (⊎-elim (λ e. entry-outside (below (a .level) (a .handle)) (a .handle) (a .k) (a .level) (at .loop .next) s (sub .ensures) e)
+          (λ e. entry-leaf (below (a .level) (a .handle)) (a .handle) (a .k) (a .level) (at .loop .next) s (sub .ensures) e)
           (no-table (sub .result) (c .match .keys2))),
     )
 
@@ -136,10 +136,10 @@ loop-again-2 t c =
       omega (arith, told .before .before .before .before .loop-test .taken),
       c .before .before .before .before .release-empty .kept .0 ∙ called .compact-subtables .kept .0 ∙ at .loop .inv .1,
       c .before .before .before .before .release-empty .kept .1 .0 ∙ called .compact-subtables .kept .1 .0 ∙ at .loop .inv .2,
-      iter-step (compactEntry (below (a .level) (a .handle)) (a .handle) (a .level) (a .k)) (at .loop .next) (st (a .words .now) (a .ledger .now)) (at .loop .inv .3)
+      iter-step (compactEntry (below (a .level) (a .handle)) (a .handle) (a .k) (a .level)) (at .loop .next) (st (a .words .now) (a .ledger .now)) (at .loop .inv .3)
           (c .before .before .before .before .release-empty .ensures
           ∙ ap (releaseEmpty (a .k) (at .loop .next) j) (called .compact-subtables .ensures)
-          ∙ entry-table (below (a .level) (a .handle)) (a .handle) (a .level) (a .k) (at .loop .next) s (told .before .before .subtable .ensures) j (told .kind .given .1)),
+          ∙ entry-table (below (a .level) (a .handle)) (a .handle) (a .k) (a .level) (at .loop .next) s (told .before .before .subtable .ensures) j (told .kind .given .1)),
     )
 
 same-length : (t : ℕ) → lts.Need-same-length (calls t) (started t) reads.Post Inv-loop μ-loop
@@ -153,7 +153,7 @@ returns-2 t c =
     let at = c .before in
     let a = c .before .before .before .before .before .args in
     let all : at .loop .next ≡ 512 = omega arith in
-    rw all at (at .loop .inv .3) ∙ compact-down (a .level) (a .handle) (a .k) (st (a .words .now) (a .ledger .now)) (omega arith)
+    rw all at (at .loop .inv .3) ∙ compact-down (a .handle) (a .k) (a .level) (st (a .words .now) (a .ledger .now)) (omega arith)
 
 pub +compact-subtables-spec : {M : Type 1} → statement M
 +compact-subtables-spec = close μ λ t. lts.spec (calls t) (started t) reads.Post Inv-loop μ-loop

@@ -42,22 +42,22 @@ calls t = (count-pages-reads.Asked, count-pages-reads.Learnt, split-reads.Asked,
 
 abbrev count-lines-Inv-loop : count-lines-lts.InvT-loop
 count-lines-Inv-loop words tables handle k level count₀ rest₀ count rest =
-    count + length (each (linesAt (handle .base .0) tables words level k) (chunksOf rest)) ≡ length (each (linesAt (handle .base .0) tables words level k) (chunksOf rest₀))
+    count + length (each (linesAt (handle .base .0) tables words k level) (chunksOf rest)) ≡ length (each (linesAt (handle .base .0) tables words k level) (chunksOf rest₀))
 
 abbrev count-lines-μ-loop : count-lines-lts.MeasureT-loop
 count-lines-μ-loop words tables handle k level count₀ rest₀ count rest = length (chunksOf rest)
 
 -- all the lines, by the chunks at entry
 all : {t : ℕ} (c : count-lines-lts.After-split (calls t) (count-lines-at t) count-lines.Post count-lines-Inv-loop count-lines-μ-loop) → let a = c .before .before .before .args in
-    length (linesFrom (a .handle .base .0) (a .tables) (a .words .now) (3 - a .level) (a .k) (a .region)) ≡ length (each (linesAt (a .handle .base .0) (a .tables) (a .words .now) (a .level) (a .k)) (chunksOf (c .split .result)))
+    length (linesFrom (a .handle .base .0) (a .tables) (a .words .now) (3 - a .level) (a .k) (a .region)) ≡ length (each (linesAt (a .handle .base .0) (a .tables) (a .words .now) (a .k) (a .level)) (chunksOf (c .split .result)))
 all c =
     let a = c .before .before .before .args in
-    ap length (lines-each (a .handle .base .0) (a .tables) (a .words .now) (a .level) (a .k) (a .region) (omega arith))
-    ∙ ap (λ (it : ChunkedIterator). length (each (linesAt (a .handle .base .0) (a .tables) (a .words .now) (a .level) (a .k)) (chunksOf it))) (sym (c .split .ensures))
+    ap length (lines-each (a .handle .base .0) (a .tables) (a .words .now) (a .k) (a .level) (a .region) (omega arith))
+    ∙ ap (λ (it : ChunkedIterator). length (each (linesAt (a .handle .base .0) (a .tables) (a .words .now) (a .k) (a .level)) (chunksOf it))) (sym (c .split .ensures))
 
 -- no more lines than a count can say
 few : {t : ℕ} (c : count-lines-lts.After-split (calls t) (count-lines-at t) count-lines.Post count-lines-Inv-loop count-lines-μ-loop) → let a = c .before .before .before .args in
-    length (each (linesAt (a .handle .base .0) (a .tables) (a .words .now) (a .level) (a .k)) (chunksOf (c .split .result))) < 2 ^ 64
+    length (each (linesAt (a .handle .base .0) (a .tables) (a .words .now) (a .k) (a .level)) (chunksOf (c .split .result))) < 2 ^ 64
 few c = subst (λ (n : ℕ). n < 2 ^ 64) (all c) (c .before .before .before .pre .1 .3)
 
 -- a chunk, once its entry is known
@@ -66,24 +66,24 @@ Asked t = count-lines-lts.After-subtable (calls t) (count-lines-at t) count-line
 
 -- the lines counted, n of the chunk, and those of the chunks after it are all
 abbrev Sum : {t : ℕ} → Asked t → ℕ → Type 0
-Sum c n = let a = c .before .before .before .before .before .before .before .before .before .before .args in let f = linesAt (a .handle .base .0) (a .tables) (a .words .now) (a .level) (a .k) in
+Sum c n = let a = c .before .before .before .before .before .before .before .before .before .before .args in let f = linesAt (a .handle .base .0) (a .tables) (a .words .now) (a .k) (a .level) in
     c .before .before .before .before .before .before .loop .count + n + length (each f (chunksOf (c .before .before .before .next2 .given .0 .1 .0))) ≡ length (each f (chunksOf (c .before .before .before .before .before .before .before .split .result)))
 
 regroup : (a n x : ℕ) {r s : ℕ} → r ≡ n + x → a + r ≡ s → a + n + x ≡ s
 regroup a n x e q = omega arith
 
-sum : {t : ℕ} (c : Asked t) (ls : List Line) → let a = c .before .before .before .before .before .before .before .before .before .before .args in linesAt (a .handle .base .0) (a .tables) (a .words .now) (a .level) (a .k) (c .before .before .before .next2 .given .0 .0) ≡ ls → Sum c (length ls)
+sum : {t : ℕ} (c : Asked t) (ls : List Line) → let a = c .before .before .before .before .before .before .before .before .before .before .args in linesAt (a .handle .base .0) (a .tables) (a .words .now) (a .k) (a .level) (c .before .before .before .next2 .given .0 .0) ≡ ls → Sum c (length ls)
 sum c ls lines =
     let a = c .before .before .before .before .before .before .before .before .before .before .args in
     let cut = next-chunk (c .before .before .before .before .before .before .loop .rest) _ _ (c .before .before .before .before .before .next .ensures) (c .before .before .before .next2 .given .1) in
-    regroup _ _ _ (count-step (linesAt (a .handle .base .0) (a .tables) (a .words .now) (a .level) (a .k)) ls cut lines) (c .before .before .before .before .before .before .loop .inv)
+    regroup _ _ _ (count-step (linesAt (a .handle .base .0) (a .tables) (a .words .now) (a .k) (a .level)) ls cut lines) (c .before .before .before .before .before .before .loop .inv)
 
 one : {t : ℕ} (c : Asked t) → (c .subtable .result ≡ Outside) ⊎ (c .subtable .result ≡ Leaf) → Sum c 1
-one c e = let a = c .before .before .before .before .before .before .before .before .before .before .args in sum c _ (lines-other (a .handle .base .0) (a .tables) (a .words .now) (a .level) (a .k) _ (c .before .get-entry .ensures) (c .subtable .ensures) e)
+one c e = let a = c .before .before .before .before .before .before .before .before .before .before .args in sum c _ (lines-other (a .handle .base .0) (a .tables) (a .words .now) (a .k) (a .level) _ (c .before .get-entry .ensures) (c .subtable .ensures) e)
 
 below : {t : ℕ} (c : Asked t) (j : ℕ) → c .subtable .result ≡ Table j
     → let a = c .before .before .before .before .before .before .before .before .before .before .args in Sum c (length (linesFrom (a .handle .base .0) (a .tables) (a .words .now) (3 - (a .level + 1)) j (c .before .before .before .next2 .given .0 .0)))
-below c j e = let a = c .before .before .before .before .before .before .before .before .before .before .args in sum c _ (lines-table (a .handle .base .0) (a .tables) (a .words .now) (a .level) (a .k) _ (c .before .get-entry .ensures) (c .subtable .ensures) j e)
+below c j e = let a = c .before .before .before .before .before .before .before .before .before .before .args in sum c _ (lines-table (a .handle .base .0) (a .tables) (a .words .now) (a .k) (a .level) _ (c .before .get-entry .ensures) (c .subtable .ensures) j e)
 
 -- one chunk fewer is left
 fewer : {t : ℕ} (c : Asked t) → length (chunksOf (c .before .before .before .next2 .given .0 .1 .0)) < length (chunksOf (c .before .before .before .before .before .before .loop .rest))
@@ -95,7 +95,7 @@ count-lines-count-pages-requires t c κs = omega arith
 count-lines-returns : (t : ℕ) → count-lines-lts.Need-returns (calls t) (count-lines-at t) count-lines.Post count-lines-Inv-loop count-lines-μ-loop
 count-lines-returns t c =
     let a = c .before .before .before .args in
-    c .count-pages .ensures ∙ lines-pages (a .handle .base .0) (a .tables) (a .words .now) (a .level) (a .k) (a .region) (c .before .if1 .taken)
+    c .count-pages .ensures ∙ lines-pages (a .handle .base .0) (a .tables) (a .words .now) (a .k) (a .level) (a .region) (c .before .if1 .taken)
 
 count-lines-split-requires : (t : ℕ) → count-lines-lts.Need-split-requires (calls t) (count-lines-at t) count-lines.Post count-lines-Inv-loop count-lines-μ-loop
 count-lines-split-requires t c κs = omega arith
@@ -117,7 +117,7 @@ count-lines-returns-2 t c =
     let at = c .before .before .before in
     let a = at .before .before .before .before .args in
     let none = next-none (at .loop .rest) (c .before .before .next .ensures) (c .enum-told .given .1) in
-    let left = ap length (each-none (linesAt (a .handle .base .0) (a .tables) (a .words .now) (a .level) (a .k)) none) in
+    let left = ap length (each-none (linesAt (a .handle .base .0) (a .tables) (a .words .now) (a .k) (a .level)) none) in
     let total = all (at .before) in
     omega (arith, at .loop .inv)
 

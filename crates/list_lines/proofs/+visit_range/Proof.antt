@@ -42,21 +42,21 @@ calls t = (split-reads.Asked, split-reads.Learnt, next-reads.Asked, next-reads.L
 
 abbrev visit-range-Inv-loop : visit-range-lts.InvT-loop
 visit-range-Inv-loop words tables handle k level list₀ from to₀ rest₀ list to rest =
-    (to + 4 * length (each (linesAt (handle .base .0) tables words level k) (chunksOf rest)) ≡ from + 4 * length (each (linesAt (handle .base .0) tables words level k) (chunksOf rest₀)))
+    (to + 4 * length (each (linesAt (handle .base .0) tables words k level) (chunksOf rest)) ≡ from + 4 * length (each (linesAt (handle .base .0) tables words k level) (chunksOf rest₀)))
     × (length list ≡ length list₀)
-    × (putPart to (numbers (each (linesAt (handle .base .0) tables words level k) (chunksOf rest))) list
-    ≡ putPart from (numbers (each (linesAt (handle .base .0) tables words level k) (chunksOf rest₀))) list₀)
+    × (putPart to (numbers (each (linesAt (handle .base .0) tables words k level) (chunksOf rest))) list
+    ≡ putPart from (numbers (each (linesAt (handle .base .0) tables words k level) (chunksOf rest₀))) list₀)
 
 abbrev visit-range-μ-loop : visit-range-lts.MeasureT-loop
 visit-range-μ-loop words tables handle k level list₀ from to₀ rest₀ list to rest = length (chunksOf rest)
 
 -- all the lines, by the chunks at entry
 all : {t : ℕ} (c : visit-range-lts.After-split (calls t) (visit-range-at t) visit-range.Post visit-range-Inv-loop visit-range-μ-loop) → let a = c .before .before .before .args in
-    linesFrom (a .handle .base .0) (a .tables) (a .words .now) (3 - a .level) (a .k) (a .region) ≡ each (linesAt (a .handle .base .0) (a .tables) (a .words .now) (a .level) (a .k)) (chunksOf (c .split .result))
+    linesFrom (a .handle .base .0) (a .tables) (a .words .now) (3 - a .level) (a .k) (a .region) ≡ each (linesAt (a .handle .base .0) (a .tables) (a .words .now) (a .k) (a .level)) (chunksOf (c .split .result))
 all c =
     let a = c .before .before .before .args in
-    lines-each (a .handle .base .0) (a .tables) (a .words .now) (a .level) (a .k) (a .region) (omega arith)
-    ∙ ap (λ (it : ChunkedIterator). each (linesAt (a .handle .base .0) (a .tables) (a .words .now) (a .level) (a .k)) (chunksOf it)) (sym (c .split .ensures))
+    lines-each (a .handle .base .0) (a .tables) (a .words .now) (a .k) (a .level) (a .region) (omega arith)
+    ∙ ap (λ (it : ChunkedIterator). each (linesAt (a .handle .base .0) (a .tables) (a .words .now) (a .k) (a .level)) (chunksOf it)) (sym (c .split .ensures))
 
 -- a chunk, once its entry is known
 abbrev Asked : ℕ → Type 0
@@ -67,20 +67,20 @@ cut : {t : ℕ} (c : Asked t) → chunksOf (c .before .before .before .before .b
 cut c = next-chunk (c .before .before .before .before .before .before .loop .rest) _ _ (c .before .before .before .before .before .next .ensures) (c .before .before .before .next2 .given .1)
 
 one : {t : ℕ} (c : Asked t) → (c .subtable .result ≡ Outside) ⊎ (c .subtable .result ≡ Leaf)
-    → let a = c .before .before .before .before .before .before .before .before .before .before .args in linesAt (a .handle .base .0) (a .tables) (a .words .now) (a .level) (a .k) (c .before .before .before .next2 .given .0 .0) ≡ line (c .before .before .before .next2 .given .0 .0) (c .before .get-entry .result) (a .level) ∷ []
-one c e = let a = c .before .before .before .before .before .before .before .before .before .before .args in lines-other (a .handle .base .0) (a .tables) (a .words .now) (a .level) (a .k) _ (c .before .get-entry .ensures) (c .subtable .ensures) e
+    → let a = c .before .before .before .before .before .before .before .before .before .before .args in linesAt (a .handle .base .0) (a .tables) (a .words .now) (a .k) (a .level) (c .before .before .before .next2 .given .0 .0) ≡ line (c .before .before .before .next2 .given .0 .0) (c .before .get-entry .result) (a .level) ∷ []
+one c e = let a = c .before .before .before .before .before .before .before .before .before .before .args in lines-other (a .handle .base .0) (a .tables) (a .words .now) (a .k) (a .level) _ (c .before .get-entry .ensures) (c .subtable .ensures) e
 
 below : {t : ℕ} (c : Asked t) (j : ℕ) → c .subtable .result ≡ Table j
-    → let a = c .before .before .before .before .before .before .before .before .before .before .args in linesAt (a .handle .base .0) (a .tables) (a .words .now) (a .level) (a .k) (c .before .before .before .next2 .given .0 .0) ≡ linesFrom (a .handle .base .0) (a .tables) (a .words .now) (3 - (a .level + 1)) j (c .before .before .before .next2 .given .0 .0)
-below c j e = let a = c .before .before .before .before .before .before .before .before .before .before .args in lines-table (a .handle .base .0) (a .tables) (a .words .now) (a .level) (a .k) _ (c .before .get-entry .ensures) (c .subtable .ensures) j e
+    → let a = c .before .before .before .before .before .before .before .before .before .before .args in linesAt (a .handle .base .0) (a .tables) (a .words .now) (a .k) (a .level) (c .before .before .before .next2 .given .0 .0) ≡ linesFrom (a .handle .base .0) (a .tables) (a .words .now) (3 - (a .level + 1)) j (c .before .before .before .next2 .given .0 .0)
+below c j e = let a = c .before .before .before .before .before .before .before .before .before .before .args in lines-table (a .handle .base .0) (a .tables) (a .words .now) (a .k) (a .level) _ (c .before .get-entry .ensures) (c .subtable .ensures) j e
 
-step : {t : ℕ} (c : Asked t) {ls : List Line} → let a = c .before .before .before .before .before .before .before .before .before .before .args in let f = linesAt (a .handle .base .0) (a .tables) (a .words .now) (a .level) (a .k) in f (c .before .before .before .next2 .given .0 .0) ≡ ls
+step : {t : ℕ} (c : Asked t) {ls : List Line} → let a = c .before .before .before .before .before .before .before .before .before .before .args in let f = linesAt (a .handle .base .0) (a .tables) (a .words .now) (a .k) (a .level) in f (c .before .before .before .next2 .given .0 .0) ≡ ls
     → length (each f (chunksOf (c .before .before .before .before .before .before .loop .rest))) ≡ length ls + length (each f (chunksOf (c .before .before .before .next2 .given .0 .1 .0)))
-step c {ls} lines = let a = c .before .before .before .before .before .before .before .before .before .before .args in count-step (linesAt (a .handle .base .0) (a .tables) (a .words .now) (a .level) (a .k)) ls (cut c) lines
+step c {ls} lines = let a = c .before .before .before .before .before .before .before .before .before .before .args in count-step (linesAt (a .handle .base .0) (a .tables) (a .words .now) (a .k) (a .level)) ls (cut c) lines
 
 -- room for the lines that remain
 room : {t : ℕ} (c : Asked t) → let a = c .before .before .before .before .before .before .before .before .before .before .args in
-    c .before .before .before .before .before .before .loop .to + 4 * length (each (linesAt (a .handle .base .0) (a .tables) (a .words .now) (a .level) (a .k)) (chunksOf (c .before .before .before .before .before .before .loop .rest))) ≤ length (c .before .before .before .before .before .before .loop .list)
+    c .before .before .before .before .before .before .loop .to + 4 * length (each (linesAt (a .handle .base .0) (a .tables) (a .words .now) (a .k) (a .level)) (chunksOf (c .before .before .before .before .before .before .loop .rest))) ≤ length (c .before .before .before .before .before .before .loop .list)
 room c =
     let inv = c .before .before .before .before .before .before .loop .inv in
     omega (arith, inv .0, inv .1, ap length (all (c .before .before .before .before .before .before .before)), c .before .before .before .before .before .before .before .before .before .before .pre .1 .3)
@@ -108,7 +108,7 @@ unfolding writeLines
 visit-range-returns t c =
     let at = c .before .before .before in
     let a = at .before .before .before .before .args in
-    let f = linesAt (a .handle .base .0) (a .tables) (a .words .now) (a .level) (a .k) in
+    let f = linesAt (a .handle .base .0) (a .tables) (a .words .now) (a .k) (a .level) in
     let none = next-none (at .loop .rest) (c .before .before .next .ensures) (c .enum-told .given .1) in
     let left = ap length (each-none f none) in
     let to : at .loop .to ≡ a .from + 4 * length (each f (chunksOf (at .before .split .result))) = omega (arith, at .loop .inv .0) in
@@ -143,7 +143,7 @@ visit-range-loop-again t c =
     let at = c .before .before .before .before .before .before .before .before .before .before .before .loop in
     let a = c .before .before .before .before .before .before .before .before .before .before .before .before .before .before .before .args in
     let lines = one s (no-table _ (c .before .before .before .before .match2 .keys2)) in
-    (omega (arith, at .inv .0, step s lines), omega arith, write-step (linesAt (a .handle .base .0) (a .tables) (a .words .now) (a .level) (a .k)) _ (cut s) lines (at .to) (at .list) (room s) refl (c .before .before .put-line .ensures) ∙ at .inv .2)
+    (omega (arith, at .inv .0, step s lines), omega arith, write-step (linesAt (a .handle .base .0) (a .tables) (a .words .now) (a .k) (a .level)) _ (cut s) lines (at .to) (at .list) (room s) refl (c .before .before .put-line .ensures) ∙ at .inv .2)
 
 visit-range-add-visit-range : (t : ℕ) → visit-range-lts.Need-add-visit-range (calls t) (visit-range-at t) visit-range.Post visit-range-Inv-loop visit-range-μ-loop
 visit-range-add-visit-range t c =
@@ -170,7 +170,7 @@ visit-range-loop-again-2 t c =
     let lines = below s _ (c .before .before .before .before .before .kind .given .1) in
     let to = ap (λ (x : Written). x .to) (c .before .before .visit-range .ensures) in
     let list = ap (λ (x : Written). x .list) (c .before .before .visit-range .ensures) in
-    (omega (arith, at .inv .0, step s lines, to), omega arith, write-step (linesAt (a .handle .base .0) (a .tables) (a .words .now) (a .level) (a .k)) _ (cut s) lines (at .to) (at .list) (room s) to list ∙ at .inv .2)
+    (omega (arith, at .inv .0, step s lines, to), omega arith, write-step (linesAt (a .handle .base .0) (a .tables) (a .words .now) (a .k) (a .level)) _ (cut s) lines (at .to) (at .list) (room s) to list ∙ at .inv .2)
 
 pub +visit-range-spec : {M : Type 1} → statement M
 +visit-range-spec = close μ-visit-range λ t. visit-range-lts.spec (calls t)

@@ -38,8 +38,8 @@ slot c =
 -- the word that is read
 word : (c : tie.At-loop Inv-loop μ-loop)
     → getD (c .before .before .before .args .words .now) (512 * c .loop .k + getD (c .before .slots-of .result) (c .loop .level) 0) 0
-    ≡ fetch (c .before .before .before .args .words .now) (c .before .before .before .args .va .0) (c .loop .level) (c .loop .k)
-word c = fetch-is (c .before .before .before .args .words .now) (c .before .before .before .args .va .0) (c .loop .level) (c .loop .k) (c .loop .inv .2) (c .loop .inv .0)
+    ≡ fetch (c .before .before .before .args .words .now) (c .before .before .before .args .va .0) (c .loop .k) (c .loop .level)
+word c = fetch-is (c .before .before .before .args .words .now) (c .before .before .before .args .va .0) (c .loop .k) (c .loop .level) (c .loop .inv .2) (c .loop .inv .0)
 
 slots-of-requires : tie.Need-slots-of-requires Inv-loop μ-loop
 slots-of-requires c κs = omega arith
@@ -83,7 +83,7 @@ unfolding answer says
 returns c =
     let at = c .before .before .before .before .before in
     let a = at .before .before .before .args in
-    ap answer (sym (ap (says (a .va .0)) (reach-outside (a .handle .base .0) (a .tables) (a .words .now) (a .va .0) (at .loop .level) (at .loop .k) (at .loop .inv .0) (word at)
+    ap answer (sym (ap (says (a .va .0)) (reach-outside (a .handle .base .0) (a .tables) (a .words .now) (a .va .0) (at .loop .k) (at .loop .level) (at .loop .inv .0) (word at)
     (sym (c .before .before .before .subtable .ensures) ∙ c .enum-told .given .1))) ∙ at .loop .inv .3)
 
 leaf-requires : tie.Need-leaf-requires Inv-loop μ-loop
@@ -94,7 +94,7 @@ returns-2 c =
     let at = c .before .before .before .before .before in
     let a = at .before .before .before .args in
     c .leaf .ensures
-    ∙ ap answer (sym (ap (says (a .va .0)) (reach-leaf (a .handle .base .0) (a .tables) (a .words .now) (a .va .0) (at .loop .level) (at .loop .k) (at .loop .inv .0) (word at)
+    ∙ ap answer (sym (ap (says (a .va .0)) (reach-leaf (a .handle .base .0) (a .tables) (a .words .now) (a .va .0) (at .loop .k) (at .loop .level) (at .loop .inv .0) (word at)
     (sym (c .before .before .before .subtable .ensures) ∙ is-leaf _ (c .before .before .match .keys2) (c .before .match2 .keys2)))) ∙ at .loop .inv .3)
 
 add-level : tie.Need-add-level Inv-loop μ-loop
@@ -112,7 +112,7 @@ loop-again c =
       omega (arith, found .high),
       found .below,
       at .loop .inv .2,
-      sym (ap (says (a .va .0)) (reach-table (a .handle .base .0) (a .tables) (a .words .now) (a .va .0) (at .loop .level) (at .loop .k) (at .loop .inv .0) (word at) _ table)) ∙ at .loop .inv .3,
+      sym (ap (says (a .va .0)) (reach-table (a .handle .base .0) (a .tables) (a .words .now) (a .va .0) (at .loop .k) (at .loop .level) (at .loop .inv .0) (word at) _ table)) ∙ at .loop .inv .3,
     )
 
 pub walk-from-spec : {M : Type 1} → statement M

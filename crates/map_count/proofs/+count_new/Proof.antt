@@ -53,7 +53,7 @@ calls t = (count-last-reads.Asked, count-last-reads.Learnt, chunk-end-reads.Aske
 abbrev count-new-Inv-loop : count-new-lts.InvT-loop
 count-new-Inv-loop words ledger handle k level map end at₀ frame₀ count₀ at frame count =
     (at ≤ map .region .end .0) × (at % 4096 ≡ 0) × (frame % 4096 ≡ 0) × (frame + (map .region .end .0 - at) ≤ 2 ^ 48)
-    × (count + sumChunks level (countAt level handle (st words ledger) k) (chunkMap map (region at (map .region .end .0)) frame) ≡ sumChunks level (countAt level handle (st words ledger) k) map)
+    × (count + sumChunks level (countAt handle (st words ledger) k level) (chunkMap map (region at (map .region .end .0)) frame) ≡ sumChunks level (countAt handle (st words ledger) k level) map)
 
 abbrev count-new-μ-loop : count-new-lts.MeasureT-loop
 count-new-μ-loop words ledger handle k level map end at₀ frame₀ count₀ at frame count = map .region .end .0 - at
@@ -73,7 +73,7 @@ leftOf t c =
 
 -- what one chunk counts
 abbrev counts : (t : ℕ) → Place t → Map → ℕ
-counts t c = let a = c .before .before .before .before .before .before .before .before .args in countAt (a .level) (a .handle) (st (a .words .now) (a .ledger .now)) (a .k)
+counts t c = let a = c .before .before .before .before .before .before .before .before .args in countAt (a .handle) (st (a .words .now) (a .ledger .now)) (a .k) (a .level)
 
 record Facts (t : ℕ) (c : Place t) : Type 0 where
   within : c .before .chunk-end .result ≤ entryLast (c .before .before .before .before .before .before .before .before .args .level) (c .before .before .before .loop .at) + 1
@@ -100,7 +100,7 @@ facts t c =
     let low = c .before .before .loop-test .taken in
     let stop = c .before .chunk-end .ensures in
     let fits = chunk-fits (a .level) (at .loop .at) (a .map .region .end .0) low in
-    let f = countAt (a .level) (a .handle) s (a .k) in
+    let f = countAt (a .handle) s (a .k) (a .level) in
     let level : a .level < 2 = omega arith in
     record {
       within = omega (arith, fits .2);
@@ -118,7 +118,7 @@ facts t c =
           ap (λ (x : ℕ). at .loop .count + (f (chunkMap (a .map) (region (at .loop .at) x) (at .loop .frame)) + sumChunks (a .level) f (chunkMap (a .map) (region x (a .map .region .end .0)) (at .loop .frame + (x - at .loop .at))))) stop
           ∙ ap (λ (x : ℕ). at .loop .count + x) (sym (sum-first (a .level) f (chunkMap (a .map) (region (at .loop .at) (a .map .region .end .0)) (at .loop .frame)) low))
           ∙ inv .4;
-      most = omega (arith, count-fit (a .level) (a .handle) s (a .k) (a .map) (omega arith), p .3 .some, p .3 .room);
+      most = omega (arith, count-fit (a .handle) s (a .k) (a .level) (a .map) (omega arith), p .3 .some, p .3 .room);
     }
 
 -- the chunk's part, where it is what the code adds: the sum that is left after it
@@ -140,7 +140,7 @@ lower : (t : ℕ) (c : count-new-lts.After-count-new (calls t) (count-new-at t) 
 lower t c j e = let a = c .before .before .before .before .before .before .before .before .before .before .before .before .before .before .before .before .before .before .args in e ∙ ap (λ (m : Map). closed (3 - (a .level + 1)) (a .handle) (st (a .words .now) (a .ledger .now)) j m) (c .before .before .before .before .chunk-of .ensures)
 
 count-new-returns : (t : ℕ) → count-new-lts.Need-returns (calls t) (count-new-at t) count-new.Post count-new-Inv-loop count-new-μ-loop
-count-new-returns t c = let a = c .before .before .before .args in closed-done (a .level) (a .handle) (st (a .words .now) (a .ledger .now)) (a .k) (a .map) (omega arith)
+count-new-returns t c = let a = c .before .before .before .args in closed-done (a .handle) (st (a .words .now) (a .ledger .now)) (a .k) (a .level) (a .map) (omega arith)
 
 count-new-count-last-requires : (t : ℕ) → count-new-lts.Need-count-last-requires (calls t) (count-new-at t) count-new.Post count-new-Inv-loop count-new-μ-loop
 count-new-count-last-requires t c κs = let p = c .before .before .before .before .pre .1 in (p .0, p .1, p .3)
@@ -194,7 +194,7 @@ count-new-loop-again t c =
     let place = c .before .before .before .before in
     let f = facts t place in
     let a = c .before .before .before .before .before .before .before .before .before .before .before .before .args in
-    let here = entry-outside (a .handle) (st (a .words .now) (a .ledger .now)) (a .level) (a .k) (chunkOf t place) (place .entry-index .ensures) (c .before .before .subtable .ensures) (is-outside (c .before .before .subtable .result) (c .before .match .keys2) (c .match2 .keys2)) in
+    let here = entry-outside (a .handle) (st (a .words .now) (a .ledger .now)) (a .k) (a .level) (chunkOf t place) (place .entry-index .ensures) (c .before .before .subtable .ensures) (is-outside (c .before .before .subtable .result) (c .before .match .keys2) (c .match2 .keys2)) in
     (f .under, f .paged, f .framed, f .room, omega (arith, counted t place 0 here))
 
 count-new-count-entry-requires : (t : ℕ) → count-new-lts.Need-count-entry-requires (calls t) (count-new-at t) count-new.Post count-new-Inv-loop count-new-μ-loop
@@ -205,7 +205,7 @@ count-new-add-count t c =
     let place = c .before .before .before .before .before .before in
     let f = facts t place in
     let a = c .before .before .before .before .before .before .before .before .before .before .before .before .before .before .args in
-    let here = entry-leaf (a .handle) (st (a .words .now) (a .ledger .now)) (a .level) (a .k) (chunkOf t place) (place .entry-index .ensures) (c .before .before .before .before .subtable .ensures) (c .before .enum-told .given .1) (omega (arith, f .high)) in
+    let here = entry-leaf (a .handle) (st (a .words .now) (a .ledger .now)) (a .k) (a .level) (chunkOf t place) (place .entry-index .ensures) (c .before .before .before .before .subtable .ensures) (c .before .enum-told .given .1) (omega (arith, f .high)) in
     omega (arith, adds t place (c .count-entry .result) (here ∙ sym (c .count-entry .ensures)))
 
 count-new-loop-less-2 : (t : ℕ) → count-new-lts.Need-loop-less-2 (calls t) (count-new-at t) count-new.Post count-new-Inv-loop count-new-μ-loop
@@ -216,7 +216,7 @@ count-new-loop-again-2 t c =
     let place = c .before .before .before .before .before .before in
     let f = facts t place in
     let a = c .before .before .before .before .before .before .before .before .before .before .before .before .before .before .args in
-    let here = entry-leaf (a .handle) (st (a .words .now) (a .ledger .now)) (a .level) (a .k) (chunkOf t place) (place .entry-index .ensures) (c .before .before .before .before .subtable .ensures) (c .before .enum-told .given .1) (omega (arith, f .high)) in
+    let here = entry-leaf (a .handle) (st (a .words .now) (a .ledger .now)) (a .k) (a .level) (chunkOf t place) (place .entry-index .ensures) (c .before .before .before .before .subtable .ensures) (c .before .enum-told .given .1) (omega (arith, f .high)) in
     (f .under, f .paged, f .framed, f .room, counted t place (c .count-entry .result) (here ∙ sym (c .count-entry .ensures)))
 
 count-new-chunk-of-requires : (t : ℕ) → count-new-lts.Need-chunk-of-requires (calls t) (count-new-at t) count-new.Post count-new-Inv-loop count-new-μ-loop
@@ -236,7 +236,7 @@ count-new-loop-again-3 t c =
     let place = c .before .before .before .before .before .before .before .before in
     let f = facts t place in
     let a = c .before .before .before .before .before .before .before .before .before .before .before .before .before .before .before .before .args in
-    let here = entry-none (a .handle) (st (a .words .now) (a .ledger .now)) (a .level) (a .k) (chunkOf t place) (place .entry-index .ensures) (c .before .before .before .before .before .before .subtable .ensures) (ruled t (c .before) _ (c .before .rule-of .ensures)) (no-down (c .before .rule-of .result) (c .match3 .keys2)) in
+    let here = entry-none (a .handle) (st (a .words .now) (a .ledger .now)) (a .k) (a .level) (chunkOf t place) (place .entry-index .ensures) (c .before .before .before .before .before .before .subtable .ensures) (ruled t (c .before) _ (c .before .rule-of .ensures)) (no-down (c .before .rule-of .result) (c .match3 .keys2)) in
     (f .under, f .paged, f .framed, f .room, omega (arith, counted t place 0 here))
 
 count-new-add-count-new : (t : ℕ) → count-new-lts.Need-add-count-new (calls t) (count-new-at t) count-new.Post count-new-Inv-loop count-new-μ-loop
@@ -255,7 +255,7 @@ count-new-add-count-2 t c =
     let place = c .before .before .before .before .before .before .before .before .before .before in
     let f = facts t place in
     let a = c .before .before .before .before .before .before .before .before .before .before .before .before .before .before .before .before .before .before .args in
-    let here = entry-table (a .handle) (st (a .words .now) (a .ledger .now)) (a .level) (a .k) (chunkOf t place) (place .entry-index .ensures) (c .before .before .before .before .before .before .before .before .subtable .ensures) (ruled t (c .before .before .before) _ (c .before .before .before .rule-of .ensures)) _ (c .before .before .before .before .before .before .kind .given .1) (c .before .enum-told2 .given .1) in
+    let here = entry-table (a .handle) (st (a .words .now) (a .ledger .now)) (a .k) (a .level) (chunkOf t place) (place .entry-index .ensures) (c .before .before .before .before .before .before .before .before .subtable .ensures) (ruled t (c .before .before .before) _ (c .before .before .before .rule-of .ensures)) _ (c .before .before .before .before .before .before .kind .given .1) (c .before .enum-told2 .given .1) in
     omega (arith, adds t place (c .count-new .result) (here ∙ sym (lower t c _ (c .count-new .ensures))))
 
 count-new-loop-less-4 : (t : ℕ) → count-new-lts.Need-loop-less-4 (calls t) (count-new-at t) count-new.Post count-new-Inv-loop count-new-μ-loop
@@ -266,7 +266,7 @@ count-new-loop-again-4 t c =
     let place = c .before .before .before .before .before .before .before .before .before .before in
     let f = facts t place in
     let a = c .before .before .before .before .before .before .before .before .before .before .before .before .before .before .before .before .before .before .args in
-    let here = entry-table (a .handle) (st (a .words .now) (a .ledger .now)) (a .level) (a .k) (chunkOf t place) (place .entry-index .ensures) (c .before .before .before .before .before .before .before .before .subtable .ensures) (ruled t (c .before .before .before) _ (c .before .before .before .rule-of .ensures)) _ (c .before .before .before .before .before .before .kind .given .1) (c .before .enum-told2 .given .1) in
+    let here = entry-table (a .handle) (st (a .words .now) (a .ledger .now)) (a .k) (a .level) (chunkOf t place) (place .entry-index .ensures) (c .before .before .before .before .before .before .before .before .subtable .ensures) (ruled t (c .before .before .before) _ (c .before .before .before .rule-of .ensures)) _ (c .before .before .before .before .before .before .kind .given .1) (c .before .enum-told2 .given .1) in
     (f .under, f .paged, f .framed, f .room, counted t place (c .count-new .result) (here ∙ sym (lower t c _ (c .count-new .ensures))))
 
 count-new-returns-3 : (t : ℕ) → count-new-lts.Need-returns-3 (calls t) (count-new-at t) count-new.Post count-new-Inv-loop count-new-μ-loop
@@ -274,9 +274,9 @@ count-new-returns-3 t c =
     let at = c .before in
     let a = c .before .before .before .before .before .before .args in
     let s = (st (a .words .now) (a .ledger .now)) in
-    let f = countAt (a .level) (a .handle) s (a .k) in
+    let f = countAt (a .handle) s (a .k) (a .level) in
     let none = sum-none (a .level) f (chunkMap (a .map) (region (at .loop .at) (a .map .region .end .0)) (at .loop .frame)) (omega arith) in
-    let all = closed-open (a .level) (a .handle) s (a .k) (a .map) (omega arith) in
+    let all = closed-open (a .handle) s (a .k) (a .level) (a .map) (omega arith) in
     omega (arith, at .loop .inv .4)
 
 pub +count-new-spec : {M : Type 1} → statement M

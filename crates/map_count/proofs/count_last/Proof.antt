@@ -25,7 +25,7 @@ use Rattle.map_rules.proofs.rule_of.Reads as rule-of-reads
 abbrev Inv-loop : tie.InvT-loop
 Inv-loop words ledger handle k map end at₀ frame₀ count₀ at frame count =
     (at ≤ map .region .end .0) × (at % 4096 ≡ 0) × (frame % 4096 ≡ 0) × (frame + (map .region .end .0 - at) ≤ 2 ^ 48)
-    × (count + sumChunks 2 (countAt 2 handle (st words ledger) k) (chunkMap map (region at (map .region .end .0)) frame) ≡ sumChunks 2 (countAt 2 handle (st words ledger) k) map)
+    × (count + sumChunks 2 (countAt handle (st words ledger) k 2) (chunkMap map (region at (map .region .end .0)) frame) ≡ sumChunks 2 (countAt handle (st words ledger) k 2) map)
 
 abbrev μ-loop : tie.MeasureT-loop
 μ-loop words ledger handle k map end at₀ frame₀ count₀ at frame count = map .region .end .0 - at
@@ -45,7 +45,7 @@ leftOf c =
 
 -- what one chunk counts
 abbrev counts : Place → Map → ℕ
-counts c = let a = c .before .before .before .before .before .before .before .args in countAt 2 (a .handle) (st (a .words .now) (a .ledger .now)) (a .k)
+counts c = let a = c .before .before .before .before .before .before .before .args in countAt (a .handle) (st (a .words .now) (a .ledger .now)) (a .k) 2
 
 record Facts (c : Place) : Type 0 where
   above : c .before .before .before .before .loop .at < c .before .before .chunk-end .result
@@ -73,7 +73,7 @@ facts c =
     let stop = c .before .before .chunk-end .ensures in
     let chunk = c .chunk-of .ensures in
     let fits = chunk-fits 2 (at .loop .at) (a .map .region .end .0) low in
-    let f = countAt 2 (a .handle) s (a .k) in
+    let f = countAt (a .handle) s (a .k) 2 in
     let above : at .loop .at < c .before .before .chunk-end .result = omega (arith, fits .0) in
     record {
       above = above;
@@ -92,7 +92,7 @@ facts c =
           ∙ ap (λ (x : ℕ). at .loop .count + (f (chunkMap (a .map) (region (at .loop .at) x) (at .loop .frame)) + sumChunks 2 f (chunkMap (a .map) (region x (a .map .region .end .0)) (at .loop .frame + (x - at .loop .at))))) stop
           ∙ ap (λ (x : ℕ). at .loop .count + x) (sym (sum-first 2 f (chunkMap (a .map) (region (at .loop .at) (a .map .region .end .0)) (at .loop .frame)) low))
           ∙ inv .4;
-      most = omega (arith, count-fit 2 (a .handle) s (a .k) (a .map) (omega arith), p .2 .some, p .2 .room);
+      most = omega (arith, count-fit (a .handle) s (a .k) 2 (a .map) (omega arith), p .2 .some, p .2 .room);
     }
 
 -- the chunk's part, where it is what the code adds: the sum that is left after it
@@ -187,8 +187,8 @@ returns c =
     let at = c .before in
     let a = c .before .before .before .before .args in
     let s = st (a .words .now) (a .ledger .now) in
-    let none = sum-none 2 (countAt 2 (a .handle) s (a .k)) (chunkMap (a .map) (region (at .loop .at) (a .map .region .end .0)) (at .loop .frame)) (omega arith) in
-    let all = closed-open 2 (a .handle) s (a .k) (a .map) (omega arith) in
+    let none = sum-none 2 (countAt (a .handle) s (a .k) 2) (chunkMap (a .map) (region (at .loop .at) (a .map .region .end .0)) (at .loop .frame)) (omega arith) in
+    let all = closed-open (a .handle) s (a .k) 2 (a .map) (omega arith) in
     omega (arith, at .loop .inv .4)
 
 pub count-last-spec : {M : Type 1} → statement M

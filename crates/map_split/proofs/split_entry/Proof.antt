@@ -91,7 +91,7 @@ returns c =
     let s = (st (a .words .now) (a .ledger .now)) in
     let w = wordAt s (a .k) (a .i) in
     c .before .before .before .before .take-table .ensures
-    ∙ split-is (a .handle) (a .level) (a .k) (a .i) s _ (ap (λ (f : ℕ). rising 512 f 0) (c .before .before .before .before .before .before .before .before .flags .ensures) ∙ fill-hole (a .level) w (c .before .before .before .before .before .before .before .if1 .taken))
+    ∙ split-is (a .handle) (a .k) (a .level) (a .i) s _ (ap (λ (f : ℕ). rising 512 f 0) (c .before .before .before .before .before .before .before .before .flags .ensures) ∙ fill-hole (a .level) w (c .before .before .before .before .before .before .before .if1 .taken))
 
 granularity-at-level-requires : tie.Need-granularity-at-level-requires
 granularity-at-level-requires c κs = tt
@@ -137,7 +137,7 @@ returns-2 c =
     let s = (st (a .words .now) (a .ledger .now)) in
     let w = word (c .before .before .before .before .before .before .before .before .before) in
     c .before .before .before .before .take-table2 .ensures
-    ∙ split-is (a .handle) (a .level) (a .k) (a .i) s _ (ap₂ (rising 512) (first (c .before .before .before .before .before .before .before .before)) (c .before .before .before .before .before .before .before .granularity-at-level2 .ensures) ∙ fill-leaf (a .level) w (c .before .before .before .before .before .before .before .before .before .before .if1 .left))
+    ∙ split-is (a .handle) (a .k) (a .level) (a .i) s _ (ap₂ (rising 512) (first (c .before .before .before .before .before .before .before .before)) (c .before .before .before .before .before .before .before .granularity-at-level2 .ensures) ∙ fill-leaf (a .level) w (c .before .before .before .before .before .before .before .before .before .before .if1 .left))
 
 pub split-entry-spec : {M : Type 1} → statement M
 split-entry-spec =

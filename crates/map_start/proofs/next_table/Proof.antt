@@ -16,13 +16,13 @@ use Rattle.address_slot.proofs.entry_index.Reads as entry-index-reads
 use Rattle.map_rules.proofs.rule_of.Reads as rule-of-reads
 
 returns : tie.Need-returns
-returns c = let a = c .before .before .before .args in none-leads (a .handle) (a .level) (a .k) (a .map) (st (a .words .now) (a .ledger .now))
+returns c = let a = c .before .before .before .args in none-leads (a .handle) (a .k) (a .level) (a .map) (st (a .words .now) (a .ledger .now))
 
 chunk-end-requires : tie.Need-chunk-end-requires
 chunk-end-requires c κs = tt
 
 returns-2 : tie.Need-returns-2
-returns-2 c = let a = c .before .before .before .before .before .args in none-leads (a .handle) (a .level) (a .k) (a .map) (st (a .words .now) (a .ledger .now))
+returns-2 c = let a = c .before .before .before .before .before .args in none-leads (a .handle) (a .k) (a .level) (a .map) (st (a .words .now) (a .ledger .now))
 
 entry-index-requires : tie.Need-entry-index-requires
 entry-index-requires c κs = tt
@@ -50,7 +50,7 @@ enum-known-kind : tie.Need-enum-known-kind
 enum-known-kind c = c .match .keys1
 
 returns-3 : tie.Need-returns-3
-returns-3 c = let a = c .before .before .before .before .before .before .before .before .before .args in none-leads (a .handle) (a .level) (a .k) (a .map) (st (a .words .now) (a .ledger .now))
+returns-3 c = let a = c .before .before .before .before .before .before .before .before .before .args in none-leads (a .handle) (a .k) (a .level) (a .map) (st (a .words .now) (a .ledger .now))
 
 rule-of-requires : tie.Need-rule-of-requires
 rule-of-requires c κs = (c .before .before .before .before .before .before .before .before .before .before .before .pre .3, c .before .before .before .before .before .before .before .before .if1 .left)
@@ -59,7 +59,7 @@ enum-told : tie.Need-enum-told
 enum-told c = c .match2 .keys1
 
 returns-4 : tie.Need-returns-4
-returns-4 c = let a = c .before .before .before .before .before .before .before .before .before .before .before .before .before .args in none-leads (a .handle) (a .level) (a .k) (a .map) (st (a .words .now) (a .ledger .now))
+returns-4 c = let a = c .before .before .before .before .before .before .before .before .before .before .before .before .before .args in none-leads (a .handle) (a .k) (a .level) (a .map) (st (a .words .now) (a .ledger .now))
 
 returns-5 : tie.Need-returns-5
 returns-5 c =
@@ -68,9 +68,9 @@ returns-5 c =
     let s = st (a .words .now) (a .ledger .now) in
     let kind = c .before .before .before .before .before .before .subtable .ensures in
     let table = c .before .before .before .before .kind .given .1 in
-    let same = map-below (a .handle) (a .level) (a .k) (a .map) s (start .pre .2) (c .before .before .before .before .before .before .before .before .before .before .before .if1 .left) (sym (c .before .before .before .before .before .before .before .before .before .before .chunk-end .ensures) ∙ c .before .before .before .before .before .before .before .before .before .if2 .left)
+    let same = map-below (a .handle) (a .k) (a .level) (a .map) s (start .pre .2) (c .before .before .before .before .before .before .before .before .before .before .before .if1 .left) (sym (c .before .before .before .before .before .before .before .before .before .before .chunk-end .ensures) ∙ c .before .before .before .before .before .before .before .before .before .if2 .left)
     (c .before .before .before .before .before .before .before .before .entry-index .ensures) (c .before .before .rule-of .ensures) (c .enum-told .given .1) kind _ table in
-    some-leads (a .handle) (a .level) (a .k) (a .map) s same (sub-below (a .handle .base .0) _ (a .level) _ _ (sym kind ∙ table))
+    some-leads (a .handle) (a .k) (a .level) (a .map) s same (sub-below (a .handle .base .0) _ (a .level) _ _ (sym kind ∙ table))
 
 pub next-table-spec : {M : Type 1} → statement M
 next-table-spec =

@@ -21,7 +21,7 @@ use Rattle.address_slot.proofs.entry_index.Reads as entry-index-reads
 abbrev Inv-loop : tie.InvT-loop
 Inv-loop words₀ k level edit list₀ before end at₀ count₀ words list at count =
     (length words ≡ length words₀) × (length list ≡ length list₀)
-    × (eachChunk level (ownChunk level k edit) (region at (edit .region .end .0)) (noted words list count) ≡ eachChunk level (ownChunk level k edit) (edit .region) (noted words₀ list₀ before))
+    × (eachChunk level (ownChunk k level edit) (region at (edit .region .end .0)) (noted words list count) ≡ eachChunk level (ownChunk k level edit) (edit .region) (noted words₀ list₀ before))
 
 abbrev μ-loop : tie.MeasureT-loop
 μ-loop words₀ k level edit list₀ before end at₀ count₀ words list at count = edit .region .end .0 - at
@@ -36,7 +36,7 @@ record Facts (c : Place) : Type 0 where
   slot : c .before .entry-index .result < 512
   index : c .before .entry-index .result ≡ entryIndex (c .before .before .before .before .before .before .before .args .level) (c .before .before .before .before .loop .at)
   room : 512 * c .before .before .before .before .before .before .before .args .k + 512 ≤ length (c .before .before .before .before .loop .words)
-  next : let a = c .before .before .before .before .before .before .before .args in let f = ownChunk (a .level) (a .k) (a .edit) in
+  next : let a = c .before .before .before .before .before .before .before .args in let f = ownChunk (a .k) (a .level) (a .edit) in
       eachChunk (a .level) f (region (c .before .before .chunk-end .result) (a .edit .region .end .0)) (f (region (c .before .before .before .before .loop .at) (c .before .before .chunk-end .result)) (noted (c .before .before .before .before .loop .words) (c .before .before .before .before .loop .list) (c .before .before .before .before .loop .count)))
       ≡ eachChunk (a .level) f (a .edit .region) (noted (a .words .now) (a .list .now) (a .before))
 
@@ -50,7 +50,7 @@ facts c =
     let low = c .before .before .before .loop-test .taken in
     let stop = c .before .before .chunk-end .ensures in
     let fits = chunk-fits (a .level) (at .loop .at) (a .edit .region .end .0) low in
-    let f = ownChunk (a .level) (a .k) (a .edit) in
+    let f = ownChunk (a .k) (a .level) (a .edit) in
     let n = noted (at .loop .words) (at .loop .list) (at .loop .count) in
     record {
       above = omega (arith, fits .0);
@@ -100,8 +100,8 @@ loop-again c =
     let at = c .before .before .before .before .before .before .before in
     let a = c .before .before .before .before .before .before .before .before .before .before .args in
     let n = noted (at .loop .words) (at .loop .list) (at .loop .count) in
-    let same = own-same (a .level) (a .k) (a .edit) (region (at .loop .at) (place .before .before .chunk-end .result)) n (f .index) (c .before .edit-word .ensures) (c .if1 .taken) in
-    (at .loop .inv .0, at .loop .inv .1, ap (eachChunk (a .level) (ownChunk (a .level) (a .k) (a .edit)) (region (place .before .before .chunk-end .result) (a .edit .region .end .0))) same ∙ f .next)
+    let same = own-same (a .k) (a .level) (a .edit) (region (at .loop .at) (place .before .before .chunk-end .result)) n (f .index) (c .before .edit-word .ensures) (c .if1 .taken) in
+    (at .loop .inv .0, at .loop .inv .1, ap (eachChunk (a .level) (ownChunk (a .k) (a .level) (a .edit)) (region (place .before .before .chunk-end .result) (a .edit .region .end .0))) same ∙ f .next)
 
 mul-words : tie.Need-mul-words Inv-loop μ-loop
 mul-words c = let f = facts (c .before .before .before) in omega (arith, f .slot, f .room)
@@ -128,10 +128,10 @@ loop-again-2 c =
     let at = c .before .before .before .before .before .before .before .before .before .before .before in
     let a = c .before .before .before .before .before .before .before .before .before .before .before .before .before .before .args in
     let n = noted (at .loop .words) (at .loop .list) (at .loop .count) in
-    let changed = own-changed (a .level) (a .k) (a .edit) (region (at .loop .at) (place .before .before .chunk-end .result)) n (f .index) (c .before .before .before .before .before .edit-word .ensures) (c .before .before .before .before .if1 .left) (place .tlbi-address .ensures) (c .before .before .put-number .ensures) in (
+    let changed = own-changed (a .k) (a .level) (a .edit) (region (at .loop .at) (place .before .before .chunk-end .result)) n (f .index) (c .before .before .before .before .before .edit-word .ensures) (c .before .before .before .before .if1 .left) (place .tlbi-address .ensures) (c .before .before .put-number .ensures) in (
       length-set (at .loop .words) _ _ ∙ at .loop .inv .0,
       c .before .before .put-number .kept .1 .0 ∙ at .loop .inv .1,
-      ap (eachChunk (a .level) (ownChunk (a .level) (a .k) (a .edit)) (region (place .before .before .chunk-end .result) (a .edit .region .end .0))) changed ∙ f .next,
+      ap (eachChunk (a .level) (ownChunk (a .k) (a .level) (a .edit)) (region (place .before .before .chunk-end .result) (a .edit .region .end .0))) changed ∙ f .next,
     )
 
 same-length : tie.Need-same-length Inv-loop μ-loop
@@ -144,9 +144,9 @@ returns : tie.Need-returns Inv-loop μ-loop
 returns c =
     let at = c .before in
     let a = c .before .before .before .before .args in
-    sym (each-done (a .level) (ownChunk (a .level) (a .k) (a .edit)) (at .loop .at) (a .edit .region .end .0) (noted (at .loop .words) (at .loop .list) (at .loop .count)) (omega arith))
+    sym (each-done (a .level) (ownChunk (a .k) (a .level) (a .edit)) (at .loop .at) (a .edit .region .end .0) (noted (at .loop .words) (at .loop .list) (at .loop .count)) (omega arith))
     ∙ at .loop .inv .2
-    ∙ own-all (a .level) (a .k) (a .edit) (noted (a .words .now) (a .list .now) (a .before))
+    ∙ own-all (a .k) (a .level) (a .edit) (noted (a .words .now) (a .list .now) (a .before))
 
 pub edit-own-spec : {M : Type 1} → statement M
 edit-own-spec =

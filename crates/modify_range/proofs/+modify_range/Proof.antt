@@ -48,8 +48,8 @@ calls t = (edit-own-reads.Asked, edit-own-reads.Learnt, chunk-end-reads.Asked, c
 abbrev modify-range-Inv-loop : modify-range-lts.InvT-loop
 modify-range-Inv-loop words₀ ledger₀ handle k level edit list₀ before end at₀ count₀ words ledger list at count =
     (length words ≡ length words₀) × (length ledger ≡ length ledger₀) × (length list ≡ length list₀)
-    × (eachChunk level (stepAt level handle k edit) (region at (edit .region .end .0)) (work (st words ledger) list count)
-    ≡ eachChunk level (stepAt level handle k edit) (edit .region) (work (st words₀ ledger₀) list₀ before))
+    × (eachChunk level (stepAt handle k level edit) (region at (edit .region .end .0)) (work (st words ledger) list count)
+    ≡ eachChunk level (stepAt handle k level edit) (edit .region) (work (st words₀ ledger₀) list₀ before))
 
 abbrev modify-range-μ-loop : modify-range-lts.MeasureT-loop
 modify-range-μ-loop words₀ ledger₀ handle k level edit list₀ before end at₀ count₀ words ledger list at count = edit .region .end .0 - at
@@ -70,7 +70,7 @@ record Facts (t : ℕ) (c : Place t) : Type 0 where
   index : c .entry-index .result ≡ entryIndex (c .before .before .before .before .before .before .before .before .args .level) (c .before .before .before .loop .at)
   shape : Shaped (c .before .before .before .before .before .before .before .before .args .handle) (st (c .before .before .before .loop .words) (c .before .before .before .loop .ledger))
   table : c .before .before .before .before .before .before .before .before .args .k < length (c .before .before .before .loop .ledger)
-  next : let a = c .before .before .before .before .before .before .before .before .args in let f = stepAt (a .level) (a .handle) (a .k) (a .edit) in
+  next : let a = c .before .before .before .before .before .before .before .before .args in let f = stepAt (a .handle) (a .k) (a .level) (a .edit) in
       eachChunk (a .level) f (region (c .before .chunk-end .result) (a .edit .region .end .0)) (f (region (c .before .before .before .loop .at) (c .before .chunk-end .result)) (workOf t c))
       ≡ eachChunk (a .level) f (a .edit .region) (work (st (a .words .now) (a .ledger .now)) (a .list .now) (a .before))
 
@@ -85,7 +85,7 @@ facts t c =
     let low = c .before .before .loop-test .taken in
     let stop = c .before .chunk-end .ensures in
     let fits = chunk-fits (a .level) (at .loop .at) (a .edit .region .end .0) low in
-    let f = stepAt (a .level) (a .handle) (a .k) (a .edit) in
+    let f = stepAt (a .handle) (a .k) (a .level) (a .edit) in
     record {
       high = omega arith;
       above = omega (arith, fits .0);
@@ -100,12 +100,12 @@ facts t c =
     }
 
 -- what is left to do after the chunk, where the step is known
-onwards : (t : ℕ) (c : Place t) (w : Work) → let a = c .before .before .before .before .before .before .before .before .args in let f = stepAt (a .level) (a .handle) (a .k) (a .edit) in
+onwards : (t : ℕ) (c : Place t) (w : Work) → let a = c .before .before .before .before .before .before .before .before .args in let f = stepAt (a .handle) (a .k) (a .level) (a .edit) in
     w ≡ f (region (c .before .before .before .loop .at) (c .before .chunk-end .result)) (workOf t c)
     → eachChunk (a .level) f (region (c .before .chunk-end .result) (a .edit .region .end .0)) w ≡ eachChunk (a .level) f (a .edit .region) (work (st (a .words .now) (a .ledger .now)) (a .list .now) (a .before))
 onwards t c w e =
     let a = c .before .before .before .before .before .before .before .before .args in
-    ap (eachChunk (a .level) (stepAt (a .level) (a .handle) (a .k) (a .edit)) (region (c .before .chunk-end .result) (a .edit .region .end .0))) e ∙ facts t c .next
+    ap (eachChunk (a .level) (stepAt (a .handle) (a .k) (a .level) (a .edit)) (region (c .before .chunk-end .result) (a .edit .region .end .0))) e ∙ facts t c .next
 
 -- whether the chunk's entry is the table's own, asked of the region itself
 is-own : (t : ℕ) (c : modify-range-lts.After-is-own (calls t) (modify-range-at t) modify-range.Post modify-range-Inv-loop modify-range-μ-loop) → let place = c .before .before .before in let a = c .before .before .before .before .before .before .before .before .before .before .before .args in
@@ -128,7 +128,7 @@ modify-range-returns : (t : ℕ) → modify-range-lts.Need-returns (calls t) (mo
 modify-range-returns t c =
     let a = c .before .before .before .before .before .before .before .before .before .before .before .args in
     let w = work (st (a .words .now) (a .ledger .now)) (a .list .now) (a .before) in
-    own-done (a .level) (a .k) (a .edit) w (c .before .before .before .before .edit-own .ensures) ∙ modify-pages (a .level) (a .handle) (a .k) (a .edit) w (c .before .before .before .before .before .before .before .before .before .before .before .pre .1 .2) (c .before .before .before .before .before .before .before .if1 .taken)
+    own-done (a .k) (a .level) (a .edit) w (c .before .before .before .before .edit-own .ensures) ∙ modify-pages (a .handle) (a .k) (a .level) (a .edit) w (c .before .before .before .before .before .before .before .before .before .before .before .pre .1 .2) (c .before .before .before .before .before .before .before .if1 .taken)
 
 modify-range-loop-holds : (t : ℕ) → modify-range-lts.Need-loop-holds (calls t) (modify-range-at t) modify-range.Post modify-range-Inv-loop modify-range-μ-loop
 modify-range-loop-holds t c = (refl, refl, refl, refl)
@@ -165,7 +165,7 @@ modify-range-loop-again t c =
     let at = c .before .before .before .before .before .before .before in
     let a = c .before .before .before .before .before .before .before .before .before .before .before .before .args in
     let f = facts t (c .before .before .before .before) in
-    (at .loop .inv .0, at .loop .inv .1, at .loop .inv .2, onwards t (c .before .before .before .before) (workOf t (c .before .before .before .before)) (step-own (a .handle) (a .level) (a .k) (a .edit) _ (workOf t (c .before .before .before .before)) (f .index) (is-own t (c .before) ∙ c .if2 .taken)))
+    (at .loop .inv .0, at .loop .inv .1, at .loop .inv .2, onwards t (c .before .before .before .before) (workOf t (c .before .before .before .before)) (step-own (a .handle) (a .k) (a .level) (a .edit) _ (workOf t (c .before .before .before .before)) (f .index) (is-own t (c .before) ∙ c .if2 .taken)))
 
 modify-range-descend-requires : (t : ℕ) → modify-range-lts.Need-descend-requires (calls t) (modify-range-at t) modify-range.Post modify-range-Inv-loop modify-range-μ-loop
 modify-range-descend-requires t c κs = let f = facts t (c .before .before .before .before .before .before) in (f .shape, f .high, f .table, f .slot)
@@ -184,7 +184,7 @@ modify-range-loop-again-2 t c =
     let at = c .before .before .before .before .before .before .before .before .before .before .before .before .before .before .before .before in
     let a = c .before .before .before .before .before .before .before .before .before .before .before .before .before .before .before .before .before .before .before .before .before .args in
     let f = facts t (c .before .before .before .before .before .before .before .before .before .before .before .before .before) in
-    let step = step-none (a .handle) (a .level) (a .k) (a .edit) _ (workOf t (c .before .before .before .before .before .before .before .before .before .before .before .before .before)) (f .index) (is-own t (c .before .before .before .before .before .before .before .before .before .before) ∙ c .before .before .before .before .before .before .before .before .before .if2 .left) (c .before .before .before .before .before .before .descend .ensures) (c .enum-told .given .1) in
+    let step = step-none (a .handle) (a .k) (a .level) (a .edit) _ (workOf t (c .before .before .before .before .before .before .before .before .before .before .before .before .before)) (f .index) (is-own t (c .before .before .before .before .before .before .before .before .before .before) ∙ c .before .before .before .before .before .before .before .before .before .if2 .left) (c .before .before .before .before .before .before .descend .ensures) (c .enum-told .given .1) in
     (c .before .before .before .before .before .before .descend .kept .0 ∙ at .loop .inv .0, c .before .before .before .before .before .before .descend .kept .1 .0 ∙ at .loop .inv .1, at .loop .inv .2, onwards t (c .before .before .before .before .before .before .before .before .before .before .before .before .before) _ step)
 
 modify-range-add-modify-range : (t : ℕ) → modify-range-lts.Need-add-modify-range (calls t) (modify-range-at t) modify-range.Post modify-range-Inv-loop modify-range-μ-loop
@@ -198,7 +198,7 @@ modify-range-modify-range-requires t c κs =
     let at = c .before .before .before .before .before .before .before .before .before .before .before .before .before .before .before .before .before .before .before .before in
     let under = c .before .before .before .before .before .before .before .before .before .before in
     let s = st (at .loop .words) (at .loop .ledger) in
-    let found = below-inside (a .handle) (a .level) (a .k) (place .entry-index .result) s _ (under .descend .ensures) (c .before .before .before .before .under .given .1) in (
+    let found = below-inside (a .handle) (a .k) (a .level) (place .entry-index .result) s _ (under .descend .ensures) (c .before .before .before .before .under .given .1) in (
       omega (arith, f .high, c .before .before .before .before .before .before .before .before .before .before .before .before .before .before .before .before .before .before .before .before .before .before .before .before .before .pre .0),
       (shaped-keep (a .handle) s (st (under .descend .last .0) (under .descend .last .1 .0)) (f .shape) (under .descend .kept .0) (under .descend .kept .1 .0), omega (arith, found, under .descend .kept .1 .0), omega (arith, f .high)),
     )
@@ -216,7 +216,7 @@ modify-range-loop-again-3 t c =
     let j = c .before .before .before .before .before .before .before .before .before .before .before .under .given .0 .0 in
     let lent = work (st (under .descend .last .0) (under .descend .last .1 .0)) (at .loop .list) (at .loop .count) in
     let part = ap (λ (e : Edit). modifyRange (3 - (a .level + 1)) (a .handle) j e lent) (c .before .before .before .before .before .before .before .before .before .before .before .before .before .before .before .before .before .before .before .before .before .before .before .chunk-edit .ensures) in
-    let step = rec .ensures ∙ part ∙ step-into (a .handle) (a .level) (a .k) (a .edit) _ (workOf t (c .before .before .before .before .before .before .before .before .before .before .before .before .before .before .before .before .before .before .before .before .before .before .before .before)) (f .index) (is-own t (c .before .before .before .before .before .before .before .before .before .before .before .before .before .before .before .before .before .before .before .before .before) ∙ c .before .before .before .before .before .before .before .before .before .before .before .before .before .before .before .before .before .before .before .before .if2 .left) (under .descend .ensures) j (c .before .before .before .before .before .before .before .before .before .before .before .under .given .1) in
+    let step = rec .ensures ∙ part ∙ step-into (a .handle) (a .k) (a .level) (a .edit) _ (workOf t (c .before .before .before .before .before .before .before .before .before .before .before .before .before .before .before .before .before .before .before .before .before .before .before .before)) (f .index) (is-own t (c .before .before .before .before .before .before .before .before .before .before .before .before .before .before .before .before .before .before .before .before .before) ∙ c .before .before .before .before .before .before .before .before .before .before .before .before .before .before .before .before .before .before .before .before .if2 .left) (under .descend .ensures) j (c .before .before .before .before .before .before .before .before .before .before .before .under .given .1) in
     (rec .kept .0 ∙ under .descend .kept .0 ∙ at .loop .inv .0, rec .kept .1 .0 ∙ under .descend .kept .1 .0 ∙ at .loop .inv .1, rec .kept .1 .1 .1 .1 .1 .1 .0 ∙ at .loop .inv .2, onwards t (c .before .before .before .before .before .before .before .before .before .before .before .before .before .before .before .before .before .before .before .before .before .before .before .before) _ step)
 
 modify-range-edit-own-requires-2 : (t : ℕ) → modify-range-lts.Need-edit-own-requires-2 (calls t) (modify-range-at t) modify-range.Post modify-range-Inv-loop modify-range-μ-loop
@@ -236,9 +236,9 @@ modify-range-returns-2 t c =
     let at = c .before .before .before .before .before .before .before .before in
     let a = c .before .before .before .before .before .before .before .before .before .before .before .before .before .args in
     let w = work (st (at .loop .words) (at .loop .ledger)) (at .loop .list) (at .loop .count) in
-    own-done (a .level) (a .k) (a .edit) w (c .before .before .before .before .edit-own2 .ensures)
-    ∙ ap (ownWork (a .level) (a .k) (a .edit)) (sym (each-done (a .level) (stepAt (a .level) (a .handle) (a .k) (a .edit)) (at .loop .at) (a .edit .region .end .0) w (omega arith)) ∙ at .loop .inv .3)
-    ∙ modify-open (a .level) (a .handle) (a .k) (a .edit) (work (st (a .words .now) (a .ledger .now)) (a .list .now) (a .before)) (omega arith)
+    own-done (a .k) (a .level) (a .edit) w (c .before .before .before .before .edit-own2 .ensures)
+    ∙ ap (ownWork (a .k) (a .level) (a .edit)) (sym (each-done (a .level) (stepAt (a .handle) (a .k) (a .level) (a .edit)) (at .loop .at) (a .edit .region .end .0) w (omega arith)) ∙ at .loop .inv .3)
+    ∙ modify-open (a .handle) (a .k) (a .level) (a .edit) (work (st (a .words .now) (a .ledger .now)) (a .list .now) (a .before)) (omega arith)
 
 pub +modify-range-spec : {M : Type 1} → statement M
 +modify-range-spec = close μ-modify-range λ t. modify-range-lts.spec (calls t)

@@ -48,7 +48,7 @@ calls t = (chunk-end-reads.Asked, chunk-end-reads.Learnt, entry-index-reads.Aske
 abbrev survey-range-Inv-loop : survey-range-lts.InvT-loop
 survey-range-Inv-loop words ledger handle k level edit end at₀ seen₀ at seen =
     Room (region at (edit .region .end .0)) seen
-    × (eachChunk level (stepAt level handle (st words ledger) k edit) (region at (edit .region .end .0)) seen ≡ eachChunk level (stepAt level handle (st words ledger) k edit) (edit .region) seen₀)
+    × (eachChunk level (stepAt handle (st words ledger) k level edit) (region at (edit .region .end .0)) seen ≡ eachChunk level (stepAt handle (st words ledger) k level edit) (edit .region) seen₀)
 
 abbrev survey-range-μ-loop : survey-range-lts.MeasureT-loop
 survey-range-μ-loop words ledger handle k level edit end at₀ seen₀ at seen = edit .region .end .0 - at
@@ -59,7 +59,7 @@ Place t = survey-range-lts.After-entry-index (calls t) (survey-range-at t) surve
 
 -- what is done with one chunk
 abbrev stepOf : (t : ℕ) → Place t → Survey → Survey
-stepOf t c v = let a = c .before .before .before .before .before .before .args in stepAt (a .level) (a .handle) (st (a .words .now) (a .ledger .now)) (a .k) (a .edit) (region (c .before .before .before .loop .at) (c .before .chunk-end .result)) v
+stepOf t c v = let a = c .before .before .before .before .before .before .args in stepAt (a .handle) (st (a .words .now) (a .ledger .now)) (a .k) (a .level) (a .edit) (region (c .before .before .before .loop .at) (c .before .chunk-end .result)) v
 
 record Facts (t : ℕ) (c : Place t) : Type 0 where
   above : c .before .before .before .loop .at < c .before .chunk-end .result
@@ -67,7 +67,7 @@ record Facts (t : ℕ) (c : Place t) : Type 0 where
   slot : c .entry-index .result < 512
   index : c .entry-index .result ≡ entryIndex (c .before .before .before .before .before .before .args .level) (c .before .before .before .loop .at)
   room : Room (region (c .before .before .before .loop .at) (c .before .chunk-end .result)) (c .before .before .before .loop .seen)
-  next : let a = c .before .before .before .before .before .before .args in let f = stepAt (a .level) (a .handle) (st (a .words .now) (a .ledger .now)) (a .k) (a .edit) in
+  next : let a = c .before .before .before .before .before .before .args in let f = stepAt (a .handle) (st (a .words .now) (a .ledger .now)) (a .k) (a .level) (a .edit) in
       eachChunk (a .level) f (region (c .before .chunk-end .result) (a .edit .region .end .0)) (stepOf t c (c .before .before .before .loop .seen)) ≡ eachChunk (a .level) f (a .edit .region) (a .before)
 
 facts : (t : ℕ) (c : Place t) → Facts t c
@@ -79,7 +79,7 @@ facts t c =
     let low = c .before .before .loop-test .taken in
     let stop = c .before .chunk-end .ensures in
     let fits = chunk-fits (a .level) (at .loop .at) (a .edit .region .end .0) low in
-    let f = stepAt (a .level) (a .handle) (st (a .words .now) (a .ledger .now)) (a .k) (a .edit) in
+    let f = stepAt (a .handle) (st (a .words .now) (a .ledger .now)) (a .k) (a .level) (a .edit) in
     record {
       above = omega (arith, fits .0);
       under = omega (arith, fits .1);
@@ -93,13 +93,13 @@ facts t c =
 
 -- the invariant after the chunk, where the step and what it adds are known
 again : (t : ℕ) (c : Place t) (x : Survey) → Adds (region (c .before .before .before .loop .at) (c .before .chunk-end .result)) (c .before .before .before .loop .seen) x → x ≡ stepOf t c (c .before .before .before .loop .seen)
-    → let a = c .before .before .before .before .before .before .args in let f = stepAt (a .level) (a .handle) (st (a .words .now) (a .ledger .now)) (a .k) (a .edit) in
+    → let a = c .before .before .before .before .before .before .args in let f = stepAt (a .handle) (st (a .words .now) (a .ledger .now)) (a .k) (a .level) (a .edit) in
     Room (region (c .before .chunk-end .result) (a .edit .region .end .0)) x × (eachChunk (a .level) f (region (c .before .chunk-end .result) (a .edit .region .end .0)) x ≡ eachChunk (a .level) f (a .edit .region) (a .before))
 again t c x adds e =
     let a = c .before .before .before .before .before .before .args in
     let f = facts t c in (
       room-after (c .before .before .before .loop .at) (c .before .chunk-end .result) (a .edit .region .end .0) (f .above) (f .under) (c .before .before .before .loop .seen) (c .before .before .before .loop .inv .0) x adds,
-      ap (eachChunk (a .level) (stepAt (a .level) (a .handle) (st (a .words .now) (a .ledger .now)) (a .k) (a .edit)) (region (c .before .chunk-end .result) (a .edit .region .end .0))) e ∙ f .next,
+      ap (eachChunk (a .level) (stepAt (a .handle) (st (a .words .now) (a .ledger .now)) (a .k) (a .level) (a .edit)) (region (c .before .chunk-end .result) (a .edit .region .end .0))) e ∙ f .next,
     )
 
 survey-range-loop-holds : (t : ℕ) → survey-range-lts.Need-loop-holds (calls t) (survey-range-at t) survey-range.Post survey-range-Inv-loop survey-range-μ-loop
@@ -144,7 +144,7 @@ survey-range-loop-again t c =
     let f = facts t (c .before .before .before .before .before) in
     let s = st (a .words .now) (a .ledger .now) in
     let r = region (c .before .before .before .before .before .before .before .before .loop .at) (c .before .before .before .before .before .before .chunk-end .result) in
-    again t (c .before .before .before .before .before) (c .before .before .before .before .before .before .before .before .loop .seen) (same-adds r (c .before .before .before .before .before .before .before .before .loop .seen)) (step-outside (a .handle) s (a .level) (a .k) (a .edit) r (c .before .before .before .before .before .before .before .before .loop .seen) (f .index) (c .before .before .subtable .ensures) (is-outside _ (c .before .match .keys2) (c .match2 .keys2)))
+    again t (c .before .before .before .before .before) (c .before .before .before .before .before .before .before .before .loop .seen) (same-adds r (c .before .before .before .before .before .before .before .before .loop .seen)) (step-outside (a .handle) s (a .k) (a .level) (a .edit) r (c .before .before .before .before .before .before .before .before .loop .seen) (f .index) (c .before .before .subtable .ensures) (is-outside _ (c .before .match .keys2) (c .match2 .keys2)))
 
 survey-range-survey-entry-requires : (t : ℕ) → survey-range-lts.Need-survey-entry-requires (calls t) (survey-range-at t) survey-range.Post survey-range-Inv-loop survey-range-μ-loop
 survey-range-survey-entry-requires t c κs =
@@ -164,7 +164,7 @@ survey-range-loop-again-2 t c =
     let r = region (place .before .before .before .loop .at) (place .before .chunk-end .result) in
     let done = c .survey-entry .ensures ∙ ap (λ (e : Edit). surveyEntry (a .handle) (a .level) e (wordAt s (a .k) (place .entry-index .result)) seen) (c .before .before .before .before .before .before .chunk-edit .ensures) in
     let adds = subst⁻¹ (Adds r seen) done (entry-adds (a .handle) (a .level) (chunkEdit (a .edit) r) _ seen (f .above)) in
-    again t place _ adds (done ∙ step-entry (a .handle) s (a .level) (a .k) (a .edit) r seen (f .index) (c .before .before .before .before .subtable .ensures) (c .before .enum-told .given .1))
+    again t place _ adds (done ∙ step-entry (a .handle) s (a .k) (a .level) (a .edit) r seen (f .index) (c .before .before .before .before .subtable .ensures) (c .before .enum-told .given .1))
 
 survey-range-add-survey-range : (t : ℕ) → survey-range-lts.Need-add-survey-range (calls t) (survey-range-at t) survey-range.Post survey-range-Inv-loop survey-range-μ-loop
 survey-range-add-survey-range t c =
@@ -193,16 +193,16 @@ survey-range-loop-again-3 t c =
     let found = sub-found _ _ _ _ _ (sym (c .before .before .before .before .subtable .ensures) ∙ c .before .before .kind .given .1) in
     let done = c .survey-range .ensures ∙ ap (λ (e : Edit). surveyRange (3 - (a .level + 1)) (a .handle) s j e seen) (c .before .before .before .before .before .before .chunk-edit .ensures) in
     let adds = subst⁻¹ (Adds r seen) done (range-adds (3 - (a .level + 1)) (a .handle) s j (chunkEdit (a .edit) r) seen) in
-    again t place _ adds (done ∙ step-table (a .handle) s (a .level) (a .k) (a .edit) r seen (f .index) (c .before .before .before .before .subtable .ensures) j (c .before .before .kind .given .1) (found .high))
+    again t place _ adds (done ∙ step-table (a .handle) s (a .k) (a .level) (a .edit) r seen (f .index) (c .before .before .before .before .subtable .ensures) j (c .before .before .kind .given .1) (found .high))
 
 survey-range-returns : (t : ℕ) → survey-range-lts.Need-returns (calls t) (survey-range-at t) survey-range.Post survey-range-Inv-loop survey-range-μ-loop
 survey-range-returns t c =
     let at = c .before in
     let a = c .before .before .before .before .args in
     let s = st (a .words .now) (a .ledger .now) in
-    sym (each-done (a .level) (stepAt (a .level) (a .handle) s (a .k) (a .edit)) (at .loop .at) (a .edit .region .end .0) (at .loop .seen) (omega arith))
+    sym (each-done (a .level) (stepAt (a .handle) s (a .k) (a .level) (a .edit)) (at .loop .at) (a .edit .region .end .0) (at .loop .seen) (omega arith))
     ∙ at .loop .inv .1
-    ∙ survey-open (a .level) (a .handle) s (a .k) (a .edit) (a .before) (c .before .before .before .before .pre .1 .2)
+    ∙ survey-open (a .handle) s (a .k) (a .level) (a .edit) (a .before) (c .before .before .before .before .pre .1 .2)
 
 pub +survey-range-spec : {M : Type 1} → statement M
 +survey-range-spec = close μ-survey-range λ t. survey-range-lts.spec (calls t)

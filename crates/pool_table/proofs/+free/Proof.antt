@@ -41,7 +41,7 @@ below level handle = λ j t. freeTree (3 - (level + 1)) handle j t
 abbrev free-Inv-loop : free-lts.InvT-loop
 free-Inv-loop words₀ ledger₀ handle k level i₀ words ledger i =
     (i ≤ 512) × (length words ≡ length words₀) × (length ledger ≡ length ledger₀)
-    × (st words ledger ≡ iter (freeSlot (below level handle) handle level k) i (st words₀ ledger₀))
+    × (st words ledger ≡ iter (freeSlot (below level handle) handle k level) i (st words₀ ledger₀))
 
 abbrev free-μ-loop : free-lts.MeasureT-loop
 free-μ-loop words₀ ledger₀ handle k level i₀ words ledger i = 512 - i
@@ -58,7 +58,7 @@ free-same-length-2 t c = c .before .before .before .before .clear-table .kept .1
 free-returns : (t : ℕ) → free-lts.Need-returns (calls t) (free-at t) free.Post free-Inv-loop free-μ-loop
 free-returns t c =
     let a = c .before .before .before .before .before .before .before .before .before .before .args in
-    c .before .before .before .before .clear-table .ensures ∙ free-last (a .level) (a .handle) (a .k) (st (a .words .now) (a .ledger .now)) (omega arith)
+    c .before .before .before .before .clear-table .ensures ∙ free-last (a .handle) (a .k) (a .level) (st (a .words .now) (a .ledger .now)) (omega arith)
 
 free-loop-holds : (t : ℕ) → free-lts.Need-loop-holds (calls t) (free-at t) free.Post free-Inv-loop free-μ-loop
 free-loop-holds t c = (omega arith, refl, refl, iter-none _ _)
@@ -96,9 +96,9 @@ free-loop-again t c =
       omega arith,
       at .loop .inv .1,
       at .loop .inv .2,
-      iter-step (freeSlot (below (a .level) (a .handle)) (a .handle) (a .level) (a .k)) (at .loop .i) (st (a .words .now) (a .ledger .now)) (at .loop .inv .3)
-          (⊎-elim (λ e. slot-outside (below (a .level) (a .handle)) (a .handle) (a .level) (a .k) (at .loop .i) s (sub .ensures) e)
-          (λ e. slot-leaf (below (a .level) (a .handle)) (a .handle) (a .level) (a .k) (at .loop .i) s (sub .ensures) e)
+      iter-step (freeSlot (below (a .level) (a .handle)) (a .handle) (a .k) (a .level)) (at .loop .i) (st (a .words .now) (a .ledger .now)) (at .loop .inv .3)
+          (⊎-elim (λ e. slot-outside (below (a .level) (a .handle)) (a .handle) (a .k) (a .level) (at .loop .i) s (sub .ensures) e)
+          (λ e. slot-leaf (below (a .level) (a .handle)) (a .handle) (a .k) (a .level) (at .loop .i) s (sub .ensures) e)
           (no-table (sub .result) (c .match .keys2))),
     )
 
@@ -126,8 +126,8 @@ free-loop-again-2 t c =
       omega (arith, c .before .before .before .before .before .before .before .before .before .before .before .before .loop-test .taken),
       called .free .kept .0 ∙ at .loop .inv .1,
       called .free .kept .1 .0 ∙ at .loop .inv .2,
-      iter-step (freeSlot (below (a .level) (a .handle)) (a .handle) (a .level) (a .k)) (at .loop .i) (st (a .words .now) (a .ledger .now)) (at .loop .inv .3)
-          (called .free .ensures ∙ slot-table (below (a .level) (a .handle)) (a .handle) (a .level) (a .k) (at .loop .i) s (c .before .before .before .before .before .before .before .before .before .before .subtable .ensures) _ (c .before .before .before .before .before .before .before .before .kind .given .1)),
+      iter-step (freeSlot (below (a .level) (a .handle)) (a .handle) (a .k) (a .level)) (at .loop .i) (st (a .words .now) (a .ledger .now)) (at .loop .inv .3)
+          (called .free .ensures ∙ slot-table (below (a .level) (a .handle)) (a .handle) (a .k) (a .level) (at .loop .i) s (c .before .before .before .before .before .before .before .before .before .before .subtable .ensures) _ (c .before .before .before .before .before .before .before .before .kind .given .1)),
     )
 
 free-clear-table-requires-2 : (t : ℕ) → free-lts.Need-clear-table-requires-2 (calls t) (free-at t) free.Post free-Inv-loop free-μ-loop
@@ -149,7 +149,7 @@ free-returns-2 t c =
     let all : at .loop .i ≡ 512 = omega arith in
     c .before .before .before .before .clear-table2 .ensures
     ∙ ap (clear (a .k)) (rw all at (at .loop .inv .3))
-    ∙ free-down (a .level) (a .handle) (a .k) (st (a .words .now) (a .ledger .now)) (omega arith)
+    ∙ free-down (a .handle) (a .k) (a .level) (st (a .words .now) (a .ledger .now)) (omega arith)
 
 pub +free-spec : {M : Type 1} → statement M
 +free-spec = close μ-free λ t. free-lts.spec (calls t)

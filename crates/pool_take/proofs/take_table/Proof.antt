@@ -26,16 +26,16 @@ lowest : (c : tie.After-known-told) → Lowest (c .before .before .before .befor
 lowest c = lowest-found (c .before .before .before .before .before .before .before .args .ledger .now) _ (sym (c .before .before .before .lowest-free .ensures) ∙ c .before .free .given .1)
 
 -- the parts of the new table's number fit
-record Fits (level p i : ℕ) : Type 0 where
+record Fits (p level i : ℕ) : Type 0 where
   front : 4 + level < 2 ^ 64
   row : 512 * p < 2 ^ 64
   slot : 512 * p + i < 2 ^ 64
 
-fits : (n level p i : ℕ) → n ≤ maxTables → level ≤ 3 → p < n → i < 512 → Fits level p i
+fits : (n p level i : ℕ) → n ≤ maxTables → level ≤ 3 → p < n → i < 512 → Fits p level i
 unfolding maxTables
-fits n level p i most low inside slot = record { front = omega arith; row = omega arith; slot = omega arith }
+fits n p level i most low inside slot = record { front = omega arith; row = omega arith; slot = omega arith }
 
-parts : (c : tie.Start) → let a = c .args in Fits (a .level) (a .p) (a .i)
+parts : (c : tie.Start) → let a = c .args in Fits (a .p) (a .level) (a .i)
 parts c = let p = c .pre in fits _ _ _ _ (p .0 .limit) (p .1) (p .2) (p .3)
 
 lowest-free-requires : tie.Need-lowest-free-requires
@@ -53,7 +53,7 @@ same-length c = omega arith
 returns : tie.Need-returns
 returns c =
     let a = c .before .before .before .before .before .before .args in
-    take-none (a .handle) (a .level) (a .p) (a .i) (rising 512 (a .first) (a .step)) (st (a .words .now) (a .ledger .now)) (c .before .before .lowest-free .ensures) (c .enum-told .given .1)
+    take-none (a .handle) (a .p) (a .level) (a .i) (rising 512 (a .first) (a .step)) (st (a .words .now) (a .ledger .now)) (c .before .before .lowest-free .ensures) (c .enum-told .given .1)
 
 mul-a : tie.Need-mul-a
 mul-a c = omega (arith, lowest c .inside)
@@ -138,7 +138,7 @@ returns-2 c =
     let linked : c .link .result ≡ linkOf (a .handle .base .0) j = c .link .ensures ∙ link-fits (a .handle .base .0) j (shape .paged) (omega (arith, shape .ended)) in
     let filled = ap (putMid (512 * j) (512 * j + 512 - 512 * j) (a .words .now)) (part .ensures) ∙ table-part j (a .words .now) all (length-rising 512 (a .first) (a .step)) in
     ap₂ (λ (w : List ℕ) (x : ℕ). taken (At j) (st (set w (512 * a .p + a .i) x) (set (a .ledger .now) j (4 + a .level + 8 * (512 * a .p + a .i + 1))))) filled linked
-    ∙ take-some (a .handle) (a .level) (a .p) (a .i) all (st (a .words .now) (a .ledger .now)) j (told .before .before .before .lowest-free .ensures) (told .before .free .given .1)
+    ∙ take-some (a .handle) (a .p) (a .level) (a .i) all (st (a .words .now) (a .ledger .now)) j (told .before .before .before .lowest-free .ensures) (told .before .free .given .1)
 
 pub take-table-spec : {M : Type 1} → statement M
 take-table-spec =

@@ -27,7 +27,7 @@ pub fn scan_tables(words: &[u64], ledger: &[u32], handle: Handle) -> Run
         while r < 4 {
             let a = 512 * k + 128 * r;
             let e = a + 128;
-            let run = checker_words::scan(&words[a..e], set, number);
+            let run = checker_words::scan_run(&words[a..e], set, number);
             let Run::Passed(count) = run else {
                 break 'tables Run::Failed;
             };

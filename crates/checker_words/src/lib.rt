@@ -86,7 +86,7 @@ fn allowed_at(set: u64, level: usize) -> u64
 }
 
 // A run of a table with this ledger number.
-pub fn scan(run: &[u64], set: u64, number: u32) -> Run
+pub fn scan_run(run: &[u64], set: u64, number: u32) -> Run
     requires { ⌜ PlainSet set ⌝ }
     ensures { λ r. ⌜ r ≡ runOf set number (now (run .entry)) ⌝ }
 {

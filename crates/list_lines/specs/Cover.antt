@@ -118,22 +118,22 @@ list-covers h s r here l = lines-cover (h .base .0) (tables s) (s .words) (3 - h
 
 -- ---- what that says, line by line
 
-abbrev pub nth : List Line → ℕ → Line
-nth ls i = getD ls i (record { start = 0; end = 0; word = 0; level = 0 })
+abbrev pub nthLine : List Line → ℕ → Line
+nthLine ls i = getD ls i (record { start = 0; end = 0; word = 0; level = 0 })
 
 -- ascending and disjoint: a line ends where a later one begins, or before
-pub inside : {P : Line → Type 0} {e s : ℕ} {ls : List Line} → Covers P e s ls → (i : ℕ) → i < length ls → (s ≤ nth ls i .start) × (nth ls i .start < nth ls i .end) × (nth ls i .end ≤ e)
+pub inside : {P : Line → Type 0} {e s : ℕ} {ls : List Line} → Covers P e s ls → (i : ℕ) → i < length ls → (s ≤ nthLine ls i .start) × (nthLine ls i .start < nthLine ls i .end) × (nthLine ls i .end ≤ e)
 inside (done q) i h = absurd (omega arith)
 inside (next a b c p t) zero h = (omega arith, omega arith, c)
 inside (next a b c p t) (suc i) h = let r = inside t i (omega arith) in (omega (arith, r .0), r .1, r .2)
 
-pub ascending : {P : Line → Type 0} {e s : ℕ} {ls : List Line} → Covers P e s ls → (i j : ℕ) → i < j → j < length ls → nth ls i .end ≤ nth ls j .start
+pub ascending : {P : Line → Type 0} {e s : ℕ} {ls : List Line} → Covers P e s ls → (i j : ℕ) → i < j → j < length ls → nthLine ls i .end ≤ nthLine ls j .start
 ascending (done q) i j k h = absurd (omega arith)
 ascending (next a b c p t) i zero k h = absurd (omega arith)
 ascending (next a b c p t) zero (suc j) k h = inside t j (omega arith) .0
 ascending (next a b c p t) (suc i) (suc j) k h = ascending t i j (omega arith) (omega arith)
 
-pub holds : {P : Line → Type 0} {e s : ℕ} {ls : List Line} → Covers P e s ls → (i : ℕ) → i < length ls → P (nth ls i)
+pub holds : {P : Line → Type 0} {e s : ℕ} {ls : List Line} → Covers P e s ls → (i : ℕ) → i < length ls → P (nthLine ls i)
 holds (done q) i h = absurd (omega arith)
 holds (next a b c p t) zero h = p
 holds (next a b c p t) (suc i) h = holds t i (omega arith)
@@ -142,9 +142,9 @@ holds (next a b c p t) (suc i) h = holds t i (omega arith)
 pub record InLine (P : Line → Type 0) (ls : List Line) (a : ℕ) : Type 0 where
   pub place : ℕ
   pub known : place < length ls
-  pub from : nth ls place .start ≤ a
-  pub below : a < nth ls place .end
-  pub holds : P (nth ls place)
+  pub from : nthLine ls place .start ≤ a
+  pub below : a < nthLine ls place .end
+  pub holds : P (nthLine ls place)
 
 pub covered : {P : Line → Type 0} {e s : ℕ} {ls : List Line} → Covers P e s ls → (a : ℕ) → s ≤ a → a < e → InLine P ls a
 covered (done q) a l u = absurd (omega arith)

@@ -30,8 +30,8 @@ startOf m = m .region .start .0
 abbrev pub endOf : Map → ℕ
 endOf m = m .region .end .0
 
-abbrev pub frameOf : Map → ℕ
-frameOf m = m .frame .0
+abbrev pub firstFrame : Map → ℕ
+firstFrame m = m .frame .0
 
 -- the last entry of this level that the region meets, if it is met in part
 unfoldable pub lastPart : ℕ → ℕ → ℕ → ℕ
@@ -40,7 +40,7 @@ lastPart level s e = cond (ltb s e && not (eqb (e % sizeAt level) 0)) 1 0
 -- the entries of this level that are split in a region that begins with one, where rule 2 fits nothing: where rule 3 takes the whole ones the part at the end, else
 -- all
 unfoldable pub restAt : ℕ → Map → ℕ
-restAt level m = cond (m .blocks && eqb (frameOf m % sizeAt level) 0) (lastPart level (startOf m) (endOf m)) (met level (startOf m) (endOf m))
+restAt level m = cond (m .blocks && eqb (firstFrame m % sizeAt level) 0) (lastPart level (startOf m) (endOf m)) (met level (startOf m) (endOf m))
 
 -- .. of all levels from the one with `depth` levels below on
 unfoldable pub rests : ℕ → Map → ℕ
@@ -101,7 +101,7 @@ choose b level s e = cond b (lastPart level s e) (met level s e)
 
 pub rest-none : (level : ℕ) (m : Map) → endOf m ≤ startOf m → restAt level m ≡ 0
 unfolding restAt
-rest-none level m h = go (m .blocks && eqb (frameOf m % sizeAt level) 0)
+rest-none level m h = go (m .blocks && eqb (firstFrame m % sizeAt level) 0)
   where
     go : (b : Bool) → choose b level (startOf m) (endOf m) ≡ 0
     go true = part-none level (startOf m) (endOf m) h
@@ -109,7 +109,7 @@ rest-none level m h = go (m .blocks && eqb (frameOf m % sizeAt level) 0)
 
 rest-met : (level : ℕ) (m : Map) → restAt level m ≤ met level (startOf m) (endOf m)
 unfolding restAt
-rest-met level m = go (m .blocks && eqb (frameOf m % sizeAt level) 0)
+rest-met level m = go (m .blocks && eqb (firstFrame m % sizeAt level) 0)
   where
     part : (endOf m ≤ startOf m) ⊎ (startOf m < endOf m) → lastPart level (startOf m) (endOf m) ≤ met level (startOf m) (endOf m)
     part (inl h) = let z = part-none level (startOf m) (endOf m) h in omega arith
@@ -120,56 +120,56 @@ rest-met level m = go (m .blocks && eqb (frameOf m % sizeAt level) 0)
     go false = omega arith
 
 -- where rule 3 fits none is split
-pub rest-blocks : (level : ℕ) (m : Map) → m .blocks ≡ true → frameOf m % sizeAt level ≡ 0 → endOf m % sizeAt level ≡ 0 → restAt level m ≡ 0
+pub rest-blocks : (level : ℕ) (m : Map) → m .blocks ≡ true → firstFrame m % sizeAt level ≡ 0 → endOf m % sizeAt level ≡ 0 → restAt level m ≡ 0
 unfolding restAt
-rest-blocks level m b p e = rw (b, eq-eqb (frameOf m % sizeAt level) 0 p) (part-whole level (startOf m) (endOf m) e)
+rest-blocks level m b p e = rw (b, eq-eqb (firstFrame m % sizeAt level) 0 p) (part-whole level (startOf m) (endOf m) e)
 
 -- a chunk of one entry where it doesn't: one
 pub rest-one : (level : ℕ) (m : Map) → startOf m < endOf m → endOf m ≤ entryLast level (startOf m) + 1
-    → (m .blocks ≡ false) ⊎ ((frameOf m % sizeAt level ≡ 0 → ⊥) ⊎ (endOf m % sizeAt level ≡ 0 → ⊥)) → restAt level m ≡ 1
+    → (m .blocks ≡ false) ⊎ ((firstFrame m % sizeAt level ≡ 0 → ⊥) ⊎ (endOf m % sizeAt level ≡ 0 → ⊥)) → restAt level m ≡ 1
 unfolding restAt
-rest-one level m h l why = go (m .blocks) (eq-or (frameOf m % sizeAt level) 0) refl why
+rest-one level m h l why = go (m .blocks) (eq-or (firstFrame m % sizeAt level) 0) refl why
   where
     one : met level (startOf m) (endOf m) ≡ 1
     one = met-one level (startOf m) (endOf m) h l
 
-    go : (b : Bool) → (frameOf m % sizeAt level ≡ 0) ⊎ (frameOf m % sizeAt level ≡ 0 → ⊥) → m .blocks ≡ b
-        → (m .blocks ≡ false) ⊎ ((frameOf m % sizeAt level ≡ 0 → ⊥) ⊎ (endOf m % sizeAt level ≡ 0 → ⊥))
-        → choose (m .blocks && eqb (frameOf m % sizeAt level) 0) level (startOf m) (endOf m) ≡ 1
+    go : (b : Bool) → (firstFrame m % sizeAt level ≡ 0) ⊎ (firstFrame m % sizeAt level ≡ 0 → ⊥) → m .blocks ≡ b
+        → (m .blocks ≡ false) ⊎ ((firstFrame m % sizeAt level ≡ 0 → ⊥) ⊎ (endOf m % sizeAt level ≡ 0 → ⊥))
+        → choose (m .blocks && eqb (firstFrame m % sizeAt level) 0) level (startOf m) (endOf m) ≡ 1
     go b f q (inl n) = rw n one
-    go b f q (inr (inl n)) = rw (ne-eqb (frameOf m % sizeAt level) 0 n) (both (m .blocks))
+    go b f q (inr (inl n)) = rw (ne-eqb (firstFrame m % sizeAt level) 0 n) (both (m .blocks))
       where
         both : (b : Bool) → choose (b && false) level (startOf m) (endOf m) ≡ 1
         both true = one
         both false = one
     go false f q (inr (inr n)) = rw q one
-    go true (inl z) q (inr (inr n)) = rw (q, eq-eqb (frameOf m % sizeAt level) 0 z) (part-some level (startOf m) (endOf m) h n)
-    go true (inr z) q (inr (inr n)) = rw (q, ne-eqb (frameOf m % sizeAt level) 0 z) one
+    go true (inl z) q (inr (inr n)) = rw (q, eq-eqb (firstFrame m % sizeAt level) 0 z) (part-some level (startOf m) (endOf m) h n)
+    go true (inr z) q (inr (inr n)) = rw (q, ne-eqb (firstFrame m % sizeAt level) 0 z) one
 
 -- the map m from its start to x, and from x on
 abbrev pub upTo : Map → ℕ → Map
-upTo m x = chunkMap m (region (startOf m) x) (frameOf m)
+upTo m x = chunkMap m (region (startOf m) x) (firstFrame m)
 
 abbrev pub onFrom : Map → ℕ → Map
-onFrom m x = chunkMap m (region x (endOf m)) (frameOf m + (x - startOf m))
+onFrom m x = chunkMap m (region x (endOf m)) (firstFrame m + (x - startOf m))
 
 -- x is a place to cut: the end, or where an entry of the level begins
-abbrev pub Cut : ℕ → Map → ℕ → Type 0
-Cut level m x = (x ≡ endOf m) ⊎ ((x < endOf m) × (x % sizeAt level ≡ 0))
+abbrev pub CutsAt : ℕ → Map → ℕ → Type 0
+CutsAt level m x = (x ≡ endOf m) ⊎ ((x < endOf m) × (x % sizeAt level ≡ 0))
 
 rest-inside : (level : ℕ) (m : Map) (x : ℕ) → startOf m < x → startOf m % sizeAt level ≡ 0 → x < endOf m → x % sizeAt level ≡ 0
     → restAt level m ≡ restAt level (upTo m x) + restAt level (onFrom m x)
 unfolding restAt
 rest-inside level m x h z l a =
-    let same : (frameOf m + (x - startOf m)) % sizeAt level ≡ frameOf m % sizeAt level
-    = add-multiple (frameOf m) (x - startOf m) (sizeAt level) (between-multiples (startOf m) x (sizeAt level) (omega arith) z a) in
-    rw same (go (m .blocks && eqb (frameOf m % sizeAt level) 0))
+    let same : (firstFrame m + (x - startOf m)) % sizeAt level ≡ firstFrame m % sizeAt level
+    = add-multiple (firstFrame m) (x - startOf m) (sizeAt level) (between-multiples (startOf m) x (sizeAt level) (omega arith) z a) in
+    rw same (go (m .blocks && eqb (firstFrame m % sizeAt level) 0))
   where
     go : (b : Bool) → choose b level (startOf m) (endOf m) ≡ choose b level (startOf m) x + choose b level x (endOf m)
     go true = let p = part-whole level (startOf m) x a in let q = part-end level (startOf m) x (endOf m) (omega arith) l in omega arith
     go false = met-split level (startOf m) x (endOf m) h l a
 
-pub rest-cut : (level : ℕ) (m : Map) (x : ℕ) → startOf m < x → startOf m % sizeAt level ≡ 0 → Cut level m x
+pub rest-cut : (level : ℕ) (m : Map) (x : ℕ) → startOf m < x → startOf m % sizeAt level ≡ 0 → CutsAt level m x
     → restAt level m ≡ restAt level (upTo m x) + restAt level (onFrom m x)
 rest-cut level m x h z (inl e) =
     let r : restAt level (onFrom m x) ≡ 0 = rest-none level (onFrom m x) (omega arith) in
@@ -192,15 +192,15 @@ unfolding rests
 rests-none zero m h = refl
 rests-none (suc depth) m h = let a = rest-none (3 - suc depth) m h in let b = rests-none depth m h in omega arith
 
-pub rests-blocks : (depth : ℕ) (m : Map) → depth ≤ 3 → m .blocks ≡ true → frameOf m % sizeAt (3 - depth) ≡ 0 → endOf m % sizeAt (3 - depth) ≡ 0 → rests depth m ≡ 0
+pub rests-blocks : (depth : ℕ) (m : Map) → depth ≤ 3 → m .blocks ≡ true → firstFrame m % sizeAt (3 - depth) ≡ 0 → endOf m % sizeAt (3 - depth) ≡ 0 → rests depth m ≡ 0
 unfolding rests
 rests-blocks zero m l b p e = refl
 rests-blocks (suc depth) m l b p e =
     let a = rest-blocks (3 - suc depth) m b p e in
-    let r = rests-blocks depth m (omega arith) b (left-next depth (frameOf m) l p) (left-next depth (endOf m) l e) in
+    let r = rests-blocks depth m (omega arith) b (left-next depth (firstFrame m) l p) (left-next depth (endOf m) l e) in
     omega arith
 
-pub rests-cut : (depth : ℕ) (m : Map) (x : ℕ) → depth ≤ 3 → startOf m < x → startOf m % sizeAt (3 - depth) ≡ 0 → Cut (3 - depth) m x
+pub rests-cut : (depth : ℕ) (m : Map) (x : ℕ) → depth ≤ 3 → startOf m < x → startOf m % sizeAt (3 - depth) ≡ 0 → CutsAt (3 - depth) m x
     → rests depth m ≡ rests depth (upTo m x) + rests depth (onFrom m x)
 unfolding rests
 rests-cut zero m x l h z c = refl
@@ -209,7 +209,7 @@ rests-cut (suc depth) m x l h z c =
     let b = rests-cut depth m x (omega arith) h (left-next depth (startOf m) l z) (deeper c) in
     omega arith
   where
-    deeper : Cut (3 - suc depth) m x → Cut (3 - depth) m x
+    deeper : CutsAt (3 - suc depth) m x → CutsAt (3 - depth) m x
     deeper (inl e) = inl e
     deeper (inr d) = inr (d .0, left-next depth x l (d .1))
 

@@ -20,7 +20,7 @@ use Rattle.map_rules.specs.declared.Rule.{Rule}
 use Rattle.map_rules.specs.declared.Rule.the-variants.{Down}
 use Rattle.map_rules.specs.Rules.{rule2, ruleOf}
 use Rattle.map_count_spec.specs.Needed.{ifDown, childWord, neededLeaf, needBelow, needChunk, needTable, needed, sumChunks, firstChunk, afterFirst, sum-none, sum-first, sum-is, slot-below}
-use Rattle.map_count_spec.specs.Closed.{startOf, endOf, frameOf, rests, closedLeaf, closed, rest-one, level-next, left-next, rests-none, rests-blocks, rests-cut}
+use Rattle.map_count_spec.specs.Closed.{startOf, endOf, firstFrame, rests, closedLeaf, closed, rest-one, level-next, left-next, rests-none, rests-blocks, rests-cut}
 use Rattle.map_count_spec.specs.Missed.{says-same, Blocks, Barred, blocks-or, fits-block, barred-block, rule-none, rule-whole, rule-down, Lawful, child-lawful, Missed, missed-lawful, missed-plain, missed-rule2, Part, missed-block, missed-part, missed-later}
 
 -- ---- a region that begins with an entry, chunk by chunk
@@ -38,7 +38,7 @@ first-chunk level m h = let f = chunk-fits level (startOf m) (endOf m) h in reco
 record Along (level : ℕ) (m c : Map) : Type 0 where
   from : startOf m ≤ startOf c
   ends : endOf c ≡ endOf m
-  frame : frameOf c ≡ frameOf m + (startOf c - startOf m)
+  frame : firstFrame c ≡ firstFrame m + (startOf c - startOf m)
   flags : c .flags ≡ m .flags
   begins : (startOf c % sizeAt level ≡ 0) ⊎ (endOf c ≤ startOf c)
 
@@ -110,7 +110,7 @@ later-missed level m c w h one law misses p after z = go (eq-or (w % 2) 1)
         odd : (w % 4 ≡ 3 → ⊥) → w % 4 ≡ 1
         odd n = omega arith
 
-        not-same : flagsOf w ≡ m .flags → frameOf m ≡ addressOf w + startOf m % sizeAt level → ⊥
+        not-same : flagsOf w ≡ m .flags → firstFrame m ≡ addressOf w + startOf m % sizeAt level → ⊥
         not-same f e = let t = says-same level m w (record { plain = law .plain; flags = f; place = e }) in let q : true ≡ false = sym t ∙ misses in true≢false q
     go (inr n) = missed-later level c w (omega arith) z (omega (arith, p .frame))
 

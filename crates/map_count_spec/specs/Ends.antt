@@ -16,7 +16,7 @@ use Rattle.map_rules.specs.declared.Rule.the-variants.{Write, Keep, Drop, Down}
 use Rattle.map_rules.specs.Rules.{ruleOf}
 use Rattle.map_rules.specs.Fit.{Fit, chunk-fit}
 use Rattle.map_count_spec.specs.Needed.{ifDown, childWord, firstChunk, afterFirst}
-use Rattle.map_count_spec.specs.Closed.{startOf, endOf, frameOf, lastPart, restAt, rests, closedLeaf, mets, leaf-most, rests-most, mets-most}
+use Rattle.map_count_spec.specs.Closed.{startOf, endOf, firstFrame, lastPart, restAt, rests, closedLeaf, mets, leaf-most, rests-most, mets-most}
 
 -- ---- entries_met
 
@@ -30,17 +30,17 @@ pub rest-all : (level : ℕ) (m : Map) → m .blocks ≡ false → met level (st
 unfolding restAt
 rest-all level m b = rw b
 
-pub rest-off : (level : ℕ) (m : Map) → (frameOf m % sizeAt level ≡ 0 → ⊥) → met level (startOf m) (endOf m) ≡ restAt level m
+pub rest-off : (level : ℕ) (m : Map) → (firstFrame m % sizeAt level ≡ 0 → ⊥) → met level (startOf m) (endOf m) ≡ restAt level m
 unfolding restAt
-rest-off level m n = rw (ne-eqb (frameOf m % sizeAt level) 0 n) (both (m .blocks))
+rest-off level m n = rw (ne-eqb (firstFrame m % sizeAt level) 0 n) (both (m .blocks))
   where
     both : (b : Bool) → met level (startOf m) (endOf m) ≡ cond (b && false) (lastPart level (startOf m) (endOf m)) (met level (startOf m) (endOf m))
     both true = refl
     both false = refl
 
-pub rest-on : (level : ℕ) (m : Map) → m .blocks ≡ true → frameOf m % sizeAt level ≡ 0 → lastPart level (startOf m) (endOf m) ≡ restAt level m
+pub rest-on : (level : ℕ) (m : Map) → m .blocks ≡ true → firstFrame m % sizeAt level ≡ 0 → lastPart level (startOf m) (endOf m) ≡ restAt level m
 unfolding restAt
-rest-on level m b z = rw (b, eq-eqb (frameOf m % sizeAt level) 0 z)
+rest-on level m b z = rw (b, eq-eqb (firstFrame m % sizeAt level) 0 z)
 
 -- ---- count_rest
 
@@ -166,7 +166,7 @@ part-fits level w i h slot fits =
 -- the first chunk below a leaf fits as the leaf does, and what remains is no longer
 module _ (level : ℕ) (m : Map) (fit : Fit m) (some : startOf m < endOf m) where
   pub first-fit : Fit (firstChunk level m)
-  first-fit = chunk-fit level (startOf m) (endOf m) (frameOf m) m fit some (fit .from) (fit .to) (fit .frame) (fit .room)
+  first-fit = chunk-fit level (startOf m) (endOf m) (firstFrame m) m fit some (fit .from) (fit .to) (fit .frame) (fit .room)
 
   pub length-fits : endOf m - startOf m ≤ 2 ^ 48
   length-fits = omega (arith, fit .room)

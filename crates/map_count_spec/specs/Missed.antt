@@ -19,14 +19,14 @@ use Rattle.map_rules.specs.declared.Rule.{Rule}
 use Rattle.map_rules.specs.declared.Rule.the-variants.{Drop, Down}
 use Rattle.map_rules.specs.Rules.{tableWord, rule2, blockable, rule3, rule4, ruleOf}
 use Rattle.map_count_spec.specs.Needed.{ifDown, childWord, child-hole, child-block}
-use Rattle.map_count_spec.specs.Closed.{startOf, endOf, frameOf}
+use Rattle.map_count_spec.specs.Closed.{startOf, endOf, firstFrame}
 
 -- ---- rule 2
 
 pub record Same (level : ℕ) (m : Map) (w : ℕ) : Type 0 where
   pub plain : w % 4 ≡ 3 → ⊥
   pub flags : flagsOf w ≡ m .flags
-  pub place : frameOf m ≡ addressOf w + startOf m % sizeAt level
+  pub place : firstFrame m ≡ addressOf w + startOf m % sizeAt level
 
 pub same-says : (level : ℕ) (m : Map) (w : ℕ) → T (rule2 level m w) → Same level m w
 unfolding rule2 tableWord
@@ -34,12 +34,12 @@ same-says level m w t =
     let o = startOf m % sizeAt level in
     let a = not (eqb (w % 4) 3) in
     let b = eqb (flagsOf w) (m .flags) in
-    let c = leb o (frameOf m) in
-    let d = eqb (frameOf m - o) (addressOf w) in
+    let c = leb o (firstFrame m) in
+    let d = eqb (firstFrame m - o) (addressOf w) in
     let t₁ = and-r a (b && (c && d)) t in
     let t₂ = and-r b (c && d) t₁ in
-    let low = leb→le o (frameOf m) (and-l c d t₂) in
-    let is = eqb→eq (frameOf m - o) (addressOf w) (and-r c d t₂) in
+    let low = leb→le o (firstFrame m) (and-l c d t₂) in
+    let is = eqb→eq (firstFrame m - o) (addressOf w) (and-r c d t₂) in
     record {
       plain = eqb-false (w % 4) 3 (not-true (eqb (w % 4) 3) (is-true a (and-l a (b && (c && d)) t)));
       flags = eqb→eq (flagsOf w) (m .flags) (and-l b (c && d) t₁);
@@ -50,26 +50,26 @@ pub says-same : (level : ℕ) (m : Map) (w : ℕ) → Same level m w → rule2 l
 unfolding rule2 tableWord
 says-same level m w p =
     let o = startOf m % sizeAt level in
-    let low : o ≤ frameOf m = omega (arith, p .place) in
-    let is : frameOf m - o ≡ addressOf w = omega (arith, p .place) in
-    rw (ne-eqb (w % 4) 3 (p .plain), eq-eqb (flagsOf w) (m .flags) (p .flags), le-leb o (frameOf m) low, eq-eqb (frameOf m - o) (addressOf w) is)
+    let low : o ≤ firstFrame m = omega (arith, p .place) in
+    let is : firstFrame m - o ≡ addressOf w = omega (arith, p .place) in
+    rw (ne-eqb (w % 4) 3 (p .plain), eq-eqb (flagsOf w) (m .flags) (p .flags), le-leb o (firstFrame m) low, eq-eqb (firstFrame m - o) (addressOf w) is)
 
 -- ---- rule 3
 
 -- what rule 3 asks of a chunk that begins with its entry
 pub record Blocks (level : ℕ) (m : Map) : Type 0 where
   pub allowed : m .blocks ≡ true
-  pub frame : frameOf m % sizeAt level ≡ 0
+  pub frame : firstFrame m % sizeAt level ≡ 0
   pub ends : endOf m % sizeAt level ≡ 0
 
 -- .. and what bars it
 abbrev pub Barred : ℕ → Map → Type 0
-Barred level m = (m .blocks ≡ false) ⊎ ((frameOf m % sizeAt level ≡ 0 → ⊥) ⊎ (endOf m % sizeAt level ≡ 0 → ⊥))
+Barred level m = (m .blocks ≡ false) ⊎ ((firstFrame m % sizeAt level ≡ 0 → ⊥) ⊎ (endOf m % sizeAt level ≡ 0 → ⊥))
 
 pub blocks-or : (level : ℕ) (m : Map) → Blocks level m ⊎ Barred level m
-blocks-or level m = byBool (m .blocks) (λ b. go b (eq-or (frameOf m % sizeAt level) 0) (eq-or (endOf m % sizeAt level) 0)) (λ b. inr (inl b))
+blocks-or level m = byBool (m .blocks) (λ b. go b (eq-or (firstFrame m % sizeAt level) 0) (eq-or (endOf m % sizeAt level) 0)) (λ b. inr (inl b))
   where
-    go : m .blocks ≡ true → (frameOf m % sizeAt level ≡ 0) ⊎ (frameOf m % sizeAt level ≡ 0 → ⊥) → (endOf m % sizeAt level ≡ 0) ⊎ (endOf m % sizeAt level ≡ 0 → ⊥)
+    go : m .blocks ≡ true → (firstFrame m % sizeAt level ≡ 0) ⊎ (firstFrame m % sizeAt level ≡ 0 → ⊥) → (endOf m % sizeAt level ≡ 0) ⊎ (endOf m % sizeAt level ≡ 0 → ⊥)
         → Blocks level m ⊎ Barred level m
     go b (inl p) (inl e) = inl (record { allowed = b; frame = p; ends = e })
     go b (inl p) (inr e) = inr (inr (inr e))
@@ -78,7 +78,7 @@ blocks-or level m = byBool (m .blocks) (λ b. go b (eq-or (frameOf m % sizeAt le
 pub fits-block : (level : ℕ) (m : Map) (w : ℕ) → 0 < level → (w % 4 ≡ 3 → ⊥) → startOf m % sizeAt level ≡ 0 → Blocks level m → rule3 level m w ≡ true
 unfolding rule3 blockable whole tableWord
 fits-block level m w h n s b =
-    rw (eq-eqb (startOf m % sizeAt level) 0 s, eq-eqb (endOf m % sizeAt level) 0 (b .ends), ne-eqb (w % 4) 3 n, eq-eqb (frameOf m % sizeAt level) 0 (b .frame), b .allowed, lt-ltb 0 level h)
+    rw (eq-eqb (startOf m % sizeAt level) 0 s, eq-eqb (endOf m % sizeAt level) 0 (b .ends), ne-eqb (w % 4) 3 n, eq-eqb (firstFrame m % sizeAt level) 0 (b .frame), b .allowed, lt-ltb 0 level h)
 
 pub barred-block : (level : ℕ) (m : Map) (w : ℕ) → Barred level m → rule3 level m w ≡ false
 unfolding rule3 blockable whole tableWord
@@ -108,10 +108,10 @@ barred-block level m w why = go why
     third true y = refl
     third false y = refl
 
-    go : Barred level m → ((a && b) && (c && (eqb (frameOf m % sizeAt level) 0 && (m .blocks && ltb 0 level)))) ≡ false
-    go (inl n) = rw n (first (a && b) c (eqb (frameOf m % sizeAt level) 0))
-    go (inr (inl n)) = rw (ne-eqb (frameOf m % sizeAt level) 0 n) (second (a && b) c)
-    go (inr (inr n)) = rw (ne-eqb (endOf m % sizeAt level) 0 n) (third a (c && (eqb (frameOf m % sizeAt level) 0 && (m .blocks && ltb 0 level))))
+    go : Barred level m → ((a && b) && (c && (eqb (firstFrame m % sizeAt level) 0 && (m .blocks && ltb 0 level)))) ≡ false
+    go (inl n) = rw n (first (a && b) c (eqb (firstFrame m % sizeAt level) 0))
+    go (inr (inl n)) = rw (ne-eqb (firstFrame m % sizeAt level) 0 n) (second (a && b) c)
+    go (inr (inr n)) = rw (ne-eqb (endOf m % sizeAt level) 0 n) (third a (c && (eqb (firstFrame m % sizeAt level) 0 && (m .blocks && ltb 0 level))))
 
 -- ---- which rule
 
@@ -200,13 +200,13 @@ child-lawful level w a h p = go (eq-or (w % 2) 1)
 -- ---- the chunks of which rule 2 fits no part
 
 pub data Missed (level : ℕ) (m : Map) (w : ℕ) : Type 0 where
-  hole : w % 2 ≡ 0 → addressOf w ≡ 0 → startOf m % sizeAt level < frameOf m → Missed level m w
-  block : w % 4 ≡ 1 → addressOf w % sizeAt level ≡ 0 → (flagsOf w ≡ m .flags → frameOf m ≡ addressOf w + startOf m % sizeAt level → ⊥) → Missed level m w
+  hole : w % 2 ≡ 0 → addressOf w ≡ 0 → startOf m % sizeAt level < firstFrame m → Missed level m w
+  block : w % 4 ≡ 1 → addressOf w % sizeAt level ≡ 0 → (flagsOf w ≡ m .flags → firstFrame m ≡ addressOf w + startOf m % sizeAt level → ⊥) → Missed level m w
 
 -- as it is tested, where rule 2 doesn't fit the chunk itself and the chunk begins with an entry of the next level
 unfoldable pub missedCase : ℕ → Map → ℕ → Bool
 missedCase level m w =
-    cond (eqb (w % 2) 0) (eqb (addressOf w) 0 && ltb (startOf m % sizeAt level) (frameOf m)) (not (tableWord w) && eqb (addressOf w % sizeAt level) 0)
+    cond (eqb (w % 2) 0) (eqb (addressOf w) 0 && ltb (startOf m % sizeAt level) (firstFrame m)) (not (tableWord w) && eqb (addressOf w % sizeAt level) 0)
 
 unfoldable pub missedb : ℕ → Map → ℕ → Bool
 missedb level m w = eqb (startOf m % sizeAt (level + 1)) 0 && missedCase level m w
@@ -221,7 +221,7 @@ unfolding missedb missedCase tableWord
 missed-says level m w misses e = byBool (eqb (w % 2) 0) even odd
   where
     a : Bool
-    a = eqb (addressOf w) 0 && ltb (startOf m % sizeAt level) (frameOf m)
+    a = eqb (addressOf w) 0 && ltb (startOf m % sizeAt level) (firstFrame m)
 
     b : Bool
     b = not (eqb (w % 4) 3) && eqb (addressOf w % sizeAt level) 0
@@ -235,8 +235,8 @@ missed-says level m w misses e = byBool (eqb (w % 2) 0) even odd
     even : eqb (w % 2) 0 ≡ true → Missed level m w
     even e =
         let t : T a = tells (sym (ap (λ (x : Bool). cond x a b) e) ∙ holds) in
-        hole (eqb→eq (w % 2) 0 (tells e)) (eqb→eq (addressOf w) 0 (and-l (eqb (addressOf w) 0) (ltb (startOf m % sizeAt level) (frameOf m)) t))
-        (ltb→lt (startOf m % sizeAt level) (frameOf m) (and-r (eqb (addressOf w) 0) (ltb (startOf m % sizeAt level) (frameOf m)) t))
+        hole (eqb→eq (w % 2) 0 (tells e)) (eqb→eq (addressOf w) 0 (and-l (eqb (addressOf w) 0) (ltb (startOf m % sizeAt level) (firstFrame m)) t))
+        (ltb→lt (startOf m % sizeAt level) (firstFrame m) (and-r (eqb (addressOf w) 0) (ltb (startOf m % sizeAt level) (firstFrame m)) t))
 
     odd : eqb (w % 2) 0 ≡ false → Missed level m w
     odd e =
@@ -268,7 +268,7 @@ missed-rule2 level m w x = is-false (rule2 level m w) (λ t. go x (same-says lev
 pub record Part (m c : Map) : Type 0 where
   pub from : startOf m ≤ startOf c
   pub below : startOf c < endOf m
-  pub frame : frameOf c ≡ frameOf m + (startOf c - startOf m)
+  pub frame : firstFrame c ≡ firstFrame m + (startOf c - startOf m)
   pub flags : c .flags ≡ m .flags
 
 module _ (level : ℕ) (m c : Map) (w : ℕ) (high : level + 1 < 3) (one : endOf m ≤ entryLast level (startOf m) + 1) (p : Part m c) where
@@ -280,7 +280,7 @@ module _ (level : ℕ) (m c : Map) (w : ℕ) (high : level + 1 < 3) (one : endOf
   unfolding entryIndex
   slots = size-parts level (startOf c) (omega arith)
 
-  pub missed-block : w % 4 ≡ 1 → addressOf w % sizeAt level ≡ 0 → (flagsOf w ≡ m .flags → frameOf m ≡ addressOf w + startOf m % sizeAt level → ⊥)
+  pub missed-block : w % 4 ≡ 1 → addressOf w % sizeAt level ≡ 0 → (flagsOf w ≡ m .flags → firstFrame m ≡ addressOf w + startOf m % sizeAt level → ⊥)
       → Missed (level + 1) c (childWord level w (startOf c))
   missed-block a b n =
       let q = piece level w (startOf c) high a b in
@@ -288,7 +288,7 @@ module _ (level : ℕ) (m c : Map) (w : ℕ) (high : level + 1 < 3) (one : endOf
       let i = slots in
       block (q .low) (q .aligned) (λ f e. n (sym (q .flags) ∙ f ∙ p .flags) (omega (arith, q .address, p .frame, p .from)))
 
-  pub missed-hole : w % 2 ≡ 0 → startOf m % sizeAt level < frameOf m → Missed (level + 1) c (childWord level w (startOf c))
+  pub missed-hole : w % 2 ≡ 0 → startOf m % sizeAt level < firstFrame m → Missed (level + 1) c (childWord level w (startOf c))
   missed-hole a l =
       let e = child-hole level w (startOf c) (λ z. omega arith) in
       let o = offset in
@@ -300,7 +300,7 @@ module _ (level : ℕ) (m c : Map) (w : ℕ) (high : level + 1 < 3) (one : endOf
   missed-part (block a b n) = missed-block a b n
 
 -- a later part of a hole, from where an entry begins: its frame is above 0
-pub missed-later : (level : ℕ) (c : Map) (w : ℕ) → w % 2 ≡ 0 → startOf c % sizeAt (level + 1) ≡ 0 → 0 < frameOf c → Missed (level + 1) c (childWord level w (startOf c))
+pub missed-later : (level : ℕ) (c : Map) (w : ℕ) → w % 2 ≡ 0 → startOf c % sizeAt (level + 1) ≡ 0 → 0 < firstFrame c → Missed (level + 1) c (childWord level w (startOf c))
 missed-later level c w a z l =
     let e = child-hole level w (startOf c) (λ z. omega arith) in
     hole (ap (λ (x : ℕ). x % 2) e ∙ (let f = flags-low w in omega arith)) (ap addressOf e ∙ flags-alone w) (omega arith)
@@ -318,7 +318,7 @@ module _ (level : ℕ) (m : Map) (w : ℕ) where
       unfolding missedb missedCase
       test-address n = rw (eq-eqb (startOf m % sizeAt (level + 1)) 0 starts, eq-eqb (w % 2) 0 low, ne-eqb (addressOf w) 0 n)
 
-      pub test-hole : addressOf w ≡ 0 → ltb (startOf m % sizeAt level) (frameOf m) ≡ missedb level m w
+      pub test-hole : addressOf w ≡ 0 → ltb (startOf m % sizeAt level) (firstFrame m) ≡ missedb level m w
       unfolding missedb missedCase
       test-hole e = rw (eq-eqb (startOf m % sizeAt (level + 1)) 0 starts, eq-eqb (w % 2) 0 low, eq-eqb (addressOf w) 0 e)
 

@@ -26,19 +26,19 @@ use Rattle.map_put.specs.Laws.{put-here}
 -- ---- one level down
 
 -- at level 3 there is nothing below
-unfoldable pub recAt : Handle → ℕ → ℕ → Map → St → St
-recAt h level = cond (ltb level 3) (λ j n t. mapRange (3 - (level + 1)) h j n t) (λ j n t. t)
+unfoldable pub mapBelow : Handle → ℕ → ℕ → Map → St → St
+mapBelow h level = cond (ltb level 3) (λ j n t. mapRange (3 - (level + 1)) h j n t) (λ j n t. t)
 
-pub rec-down : (h : Handle) (j level : ℕ) (n : Map) (t : St) → level < 3 → mapRange (3 - (level + 1)) h j n t ≡ recAt h level j n t
-unfolding recAt
+pub rec-down : (h : Handle) (j level : ℕ) (n : Map) (t : St) → level < 3 → mapRange (3 - (level + 1)) h j n t ≡ mapBelow h level j n t
+unfolding mapBelow
 rec-down h j level n t l = rw (lt-ltb level 3 l)
 
 -- one chunk of table k
-unfoldable pub stepAt : Handle → ℕ → ℕ → Map → St → St
-stepAt h k level = mapChunk (recAt h level) h k level
+unfoldable pub mapStep : Handle → ℕ → ℕ → Map → St → St
+mapStep h k level = mapChunk (mapBelow h level) h k level
 
-pub map-open : (h : Handle) (k level : ℕ) (m : Map) (s : St) → level ≤ 3 → eachChunk level (stepAt h k level) m s ≡ mapRange (3 - level) h k m s
-unfolding stepAt recAt mapRange
+pub map-open : (h : Handle) (k level : ℕ) (m : Map) (s : St) → level ≤ 3 → eachChunk level (mapStep h k level) m s ≡ mapRange (3 - level) h k m s
+unfolding mapStep mapBelow mapRange
 map-open h k level m s l = ⊎-elim
     (λ ge.
     let e : 3 ≡ level = omega arith in
@@ -66,37 +66,37 @@ module _ (level : ℕ) (f : Map → St → St) (m : Map) (at end frame : ℕ) (s
 -- ---- one chunk, by its rule
 
 module _ (h : Handle) (k level : ℕ) (m : Map) (s : St) {i : ℕ} (index : i ≡ entryIndex level (m .region .start .0)) {r : Rule} (is : r ≡ ruleOf level m (wordAt s k i)) where
-  chosen : (q : Rule) → r ≡ q → byRule (λ j t. recAt h level j m t) h k level i q s ≡ stepAt h k level m s
-  unfolding stepAt mapChunk
+  chosen : (q : Rule) → r ≡ q → byRule (λ j t. mapBelow h level j m t) h k level i q s ≡ mapStep h k level m s
+  unfolding mapStep mapChunk
   chosen q e =
-      ap (λ (x : Rule). byRule (λ j t. recAt h level j m t) h k level i x s) (sym e ∙ is)
-      ∙ ap (λ (x : ℕ). byRule (λ j t. recAt h level j m t) h k level x (ruleOf level m (wordAt s k x)) s) index
+      ap (λ (x : Rule). byRule (λ j t. mapBelow h level j m t) h k level i x s) (sym e ∙ is)
+      ∙ ap (λ (x : ℕ). byRule (λ j t. mapBelow h level j m t) h k level x (ruleOf level m (wordAt s k x)) s) index
 
-  pub chunk-write : (x : ℕ) → r ≡ Write x → storeAt k i x s ≡ stepAt h k level m s
+  pub chunk-write : (x : ℕ) → r ≡ Write x → storeAt k i x s ≡ mapStep h k level m s
   unfolding byRule
   chunk-write x e = chosen (Write x) e
 
-  pub chunk-keep : r ≡ Keep → s ≡ stepAt h k level m s
+  pub chunk-keep : r ≡ Keep → s ≡ mapStep h k level m s
   unfolding byRule
   chunk-keep e = chosen Keep e
 
-  pub chunk-drop : (x : ℕ) → r ≡ Drop x → dropEntry h level (wordAt s k i) (storeAt k i x s) ≡ stepAt h k level m s
+  pub chunk-drop : (x : ℕ) → r ≡ Drop x → dropEntry h level (wordAt s k i) (storeAt k i x s) ≡ mapStep h k level m s
   unfolding byRule
   chunk-drop x e = chosen (Drop x) e
 
   -- any rule that goes no lower
-  pub chunk-here : (r ≡ Down → ⊥) → byRule (λ j t. t) h k level i r s ≡ stepAt h k level m s
-  chunk-here n = put-here (λ j t. t) (λ j t. recAt h level j m t) h k level i s r n ∙ chosen r refl
+  pub chunk-here : (r ≡ Down → ⊥) → byRule (λ j t. t) h k level i r s ≡ mapStep h k level m s
+  chunk-here n = put-here (λ j t. t) (λ j t. mapBelow h level j m t) h k level i s r n ∙ chosen r refl
 
   module _ (e : r ≡ Down) {f : Found} {t : St} (found : taken f t ≡ below h k level i s) where
-    gone-down : inFound (λ j u. recAt h level j m u) f t ≡ stepAt h k level m s
+    gone-down : inFound (λ j u. mapBelow h level j m u) f t ≡ mapStep h k level m s
     unfolding byRule into
-    gone-down = ap (λ (x : Taken). inFound (λ j u. recAt h level j m u) (x .table) (x .state)) found ∙ chosen Down e
+    gone-down = ap (λ (x : Taken). inFound (λ j u. mapBelow h level j m u) (x .table) (x .state)) found ∙ chosen Down e
 
-    pub chunk-none : f ≡ Nothing → t ≡ stepAt h k level m s
+    pub chunk-none : f ≡ Nothing → t ≡ mapStep h k level m s
     unfolding inFound
-    chunk-none q = ap (λ (x : Found). inFound (λ j u. recAt h level j m u) x t) (sym q) ∙ gone-down
+    chunk-none q = ap (λ (x : Found). inFound (λ j u. mapBelow h level j m u) x t) (sym q) ∙ gone-down
 
-    pub chunk-into : (j : ℕ) → f ≡ At j → level < 3 → mapRange (3 - (level + 1)) h j m t ≡ stepAt h k level m s
+    pub chunk-into : (j : ℕ) → f ≡ At j → level < 3 → mapRange (3 - (level + 1)) h j m t ≡ mapStep h k level m s
     unfolding inFound
-    chunk-into j q l = rec-down h j level m t l ∙ ap (λ (x : Found). inFound (λ j u. recAt h level j m u) x t) (sym q) ∙ gone-down
+    chunk-into j q l = rec-down h j level m t l ∙ ap (λ (x : Found). inFound (λ j u. mapBelow h level j m u) x t) (sym q) ∙ gone-down

@@ -57,7 +57,7 @@ pub fn leaf_word(level: usize, frame: PhysicalAddress, flags: u64) -> u64
 }
 
 // Rule 2: the entry maps the chunk already.
-pub fn is_same(level: usize, map: Map, word: u64) -> bool
+pub fn is_already_mapped(level: usize, map: Map, word: u64) -> bool
     ensures { λ r. ⌜ r ≡ rule2 level map word ⌝ }
 {
     if word % 4 == 3 {
@@ -94,7 +94,7 @@ pub fn rule_of(level: usize, map: Map, word: u64) -> Rule
     if address::LEAF_LEVEL <= level { // rule 1
         return Rule::Write(leaf_word(level, map.frame, map.flags));
     }
-    if is_same(level, map, word) {
+    if is_already_mapped(level, map, word) {
         return Rule::Keep;
     }
     let region = map.region;

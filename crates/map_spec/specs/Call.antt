@@ -19,7 +19,7 @@ use Rattle.pool.specs.declared.Counted.the-variants as counted
 use Rattle.map_rules.specs.declared.Map.{Map}
 use Rattle.map_put.specs.Put.{mapRange}
 use Rattle.map_count_spec.specs.Needed.{needed}
-use Rattle.map_verify.specs.Ask.{asked, verifyMap}
+use Rattle.map_verify.specs.Ask.{askedMap, verifyMap}
 
 -- a refusal leaves the state as it was
 abbrev pub refused : Refusal → St → Out Counted
@@ -43,7 +43,7 @@ orElse (Refused r) next s = refused r s
 -- refusal 1, refusals 2 to 7, then the rest
 unfoldable pub mapCall : Handle → ℕ → ℕ → ℕ → ℕ → ℕ → St → Out Counted
 mapCall h start end frame flags constraints s =
-    let m = asked start end frame flags constraints in
+    let m = askedMap start end frame flags constraints in
     cond (shaped h s) (orElse (verifyMap h end m) (mapSound h m s) s) (refused Shape s)
 
 -- ---- laws: one for each way through the code
@@ -68,7 +68,7 @@ module _ (h : Handle) (m : Map) (s : St) where
 
 module _ (h : Handle) (start end frame flags constraints : ℕ) (s : St) where
   abbrev m : Map
-  m = asked start end frame flags constraints
+  m = askedMap start end frame flags constraints
 
   pub call-misshaped : shaped h s ≡ false → refused Shape s ≡ mapCall h start end frame flags constraints s
   unfolding mapCall

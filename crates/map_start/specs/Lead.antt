@@ -17,7 +17,7 @@ use Rattle.map_rules.specs.declared.Rule.the-variants.{Down}
 use Rattle.map_rules.specs.Rules.{ruleOf, chunkMap}
 use Rattle.map_split.specs.Split.{below-table}
 use Rattle.map_put.specs.Put.{eachChunk, mapRange}
-use Rattle.map_put.specs.Range.{stepAt, map-open, each-done, each-step, chunk-into}
+use Rattle.map_put.specs.Range.{mapStep, map-open, each-done, each-step, chunk-into}
 
 -- a table of this level from which the map does what it does from the root
 abbrev pub Serves : Handle → Map → St → ℕ → ℕ → Type 0
@@ -46,7 +46,7 @@ module _ (h : Handle) (k level : ℕ) (m : Map) (s : St) where
       → mapRange (3 - (level + 1)) h j m s ≡ mapRange (3 - level) h k m s
   map-below low some one {i} index is down kind j table =
       chunk-into h k level m s index is down (below-table h k level i s kind j table) j refl low
-      ∙ sym (one-chunk level (stepAt h k level) m s some one)
+      ∙ sym (one-chunk level (mapStep h k level) m s some one)
       ∙ map-open h k level m s (omega arith)
 
   pub none-leads : LeadsTo h k level m s Nothing

@@ -26,13 +26,13 @@ use Rattle.map_rules.specs.declared.Map.{Map}
 use Rattle.map_rules.specs.Fit.{Fit}
 
 -- the map that a call asks for: "start is rounded down and end up to 4096"; "blocks allowed" is NO_BLOCK_MAPPINGS unset, the constraints' bit 0
-unfoldable pub asked : ℕ → ℕ → ℕ → ℕ → ℕ → Map
-asked start end frame flags constraints = record { region = rounded start end; frame = record { 0 = frame }; flags = flags; blocks = eqb (constraints % 2) 0 }
+unfoldable pub askedMap : ℕ → ℕ → ℕ → ℕ → ℕ → Map
+askedMap start end frame flags constraints = record { region = rounded start end; frame = record { 0 = frame }; flags = flags; blocks = eqb (constraints % 2) 0 }
 
 -- with the region that was rounded for it
 pub asked-is : (start end frame flags constraints : ℕ) {r : MemoryRegion} → r ≡ rounded start end
-    → _≡_ {A = Map} (record { region = r; frame = record { 0 = frame }; flags = flags; blocks = eqb (constraints % 2) 0 }) (asked start end frame flags constraints)
-unfolding asked
+    → _≡_ {A = Map} (record { region = r; frame = record { 0 = frame }; flags = flags; blocks = eqb (constraints % 2) 0 }) (askedMap start end frame flags constraints)
+unfolding askedMap
 asked-is start end frame flags constraints e =
     ap (λ (x : MemoryRegion). record { region = x; frame = record { 0 = frame }; flags = flags; blocks = eqb (constraints % 2) 0 }) e
 
@@ -173,10 +173,10 @@ unfolding alignUp up sizeAt
 up-pages a = byBool (ltb (up a 4096) (2 ^ 64)) (λ e. rw e (down-paged 3 (a + 4095))) (λ e. rw e refl)
 
 -- what is put down is whole pages, with frames below 2^48 and flags that share no bit with them
-pub asked-fit : (h : Handle) (start end frame flags constraints : ℕ) → flags < 2 ^ 64 → let m = asked start end frame flags constraints in verifyMap h end m ≡ Accepted → Fit m
-unfolding asked rounded sizeAt
+pub asked-fit : (h : Handle) (start end frame flags constraints : ℕ) → flags < 2 ^ 64 → let m = askedMap start end frame flags constraints in verifyMap h end m ≡ Accepted → Fit m
+unfolding askedMap rounded sizeAt
 asked-fit h start end frame flags constraints low ok =
-    let m = asked start end frame flags constraints in
+    let m = askedMap start end frame flags constraints in
     let p = passes h end m ok in
     let f = frame-says frame (m .region .end .0 - m .region .start .0) (p .frame) in
     record {

@@ -20,7 +20,7 @@ use Rattle.modify_survey.specs.declared.Survey.{Survey}
 use Rattle.modify_survey.specs.Find.{surveyRange}
 use Rattle.modify.specs.declared.Modified.{Modified}
 use Rattle.modify.specs.declared.Modified.the-variants as modified
-use Rattle.modify_verify.specs.Permit.{asked, verifyEdit, verifySurvey}
+use Rattle.modify_verify.specs.Permit.{askedEdit, verifyEdit, verifySurvey}
 
 -- the answer, the state and the list
 pub record Modifying : Type 0 where
@@ -63,7 +63,7 @@ modifySound h e s list =
 -- refusal 1, refusals 2 to 6, then the rest
 unfoldable pub modifyCall : Handle → ℕ → ℕ → ℕ → ℕ → Bool → St → List ℕ → Modifying
 modifyCall h start end set clear live s list =
-    let e = asked start end set clear live in
+    let e = askedEdit start end set clear live in
     let next = orElse (verifyEdit h end e) (modifySound h e s list) s list in
     cond (shaped h s) next (refused Shape s list)
 
@@ -108,8 +108,8 @@ module _ (h : Handle) (start end set clear : ℕ) (live : Bool) (s : St) (list :
   unfolding modifyCall
   call-misshaped q = rw q
 
-  module _ (shape : shaped h s ≡ true) {x : Outcome} (is : x ≡ verifyEdit h end (asked start end set clear live)) where
-    by-asked : (y : Outcome) → x ≡ y → orElse y (modifySound h (asked start end set clear live) s list) s list ≡ modifyCall h start end set clear live s list
+  module _ (shape : shaped h s ≡ true) {x : Outcome} (is : x ≡ verifyEdit h end (askedEdit start end set clear live)) where
+    by-asked : (y : Outcome) → x ≡ y → orElse y (modifySound h (askedEdit start end set clear live) s list) s list ≡ modifyCall h start end set clear live s list
     unfolding modifyCall
     by-asked y q = rw (shape, ← is, q)
 
@@ -117,6 +117,6 @@ module _ (h : Handle) (start end set clear : ℕ) (live : Bool) (s : St) (list :
     unfolding orElse
     call-refused r q = by-asked (Refused r) q
 
-    pub call-asked : x ≡ Accepted → modifySound h (asked start end set clear live) s list ≡ modifyCall h start end set clear live s list
+    pub call-asked : x ≡ Accepted → modifySound h (askedEdit start end set clear live) s list ≡ modifyCall h start end set clear live s list
     unfolding orElse
     call-asked q = by-asked Accepted q

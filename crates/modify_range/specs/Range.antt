@@ -75,8 +75,8 @@ unfolding ownWork
 own-done k level e w q = ap (λ (n : Noted). work (st (n .words) (w .state .ledger)) (n .list) (n .count)) q
 
 -- one chunk that goes down
-unfoldable pub stepAt : Handle → ℕ → ℕ → Edit → MemoryRegion → Work → Work
-stepAt h k level e = downChunk (λ j c. modifyRange (3 - (level + 1)) h j (chunkEdit e c)) h k level
+unfoldable pub downStep : Handle → ℕ → ℕ → Edit → MemoryRegion → Work → Work
+downStep h k level e = downChunk (λ j c. modifyRange (3 - (level + 1)) h j (chunkEdit e c)) h k level
 
 pub modify-pages : (h : Handle) (k level : ℕ) (e : Edit) (w : Work) → level ≤ 3 → 3 ≤ level → ownWork k level e w ≡ modifyRange (3 - level) h k e w
 unfolding modifyRange
@@ -85,8 +85,8 @@ modify-pages h k level e w l m =
     ap (λ (x : ℕ). ownWork k x e w) q ∙ ap (λ (x : ℕ). modifyRange (3 - x) h k e w) (sym q)
 
 pub modify-open : (h : Handle) (k level : ℕ) (e : Edit) (w : Work) → level < 3
-    → ownWork k level e (eachChunk level (stepAt h k level e) (e .region) w) ≡ modifyRange (3 - level) h k e w
-unfolding modifyRange stepAt
+    → ownWork k level e (eachChunk level (downStep h k level e) (e .region) w) ≡ modifyRange (3 - level) h k e w
+unfolding modifyRange downStep
 modify-open h k level e w l =
     let p : suc (3 - (level + 1)) ≡ 3 - level = omega arith in
     let q : level ≡ 3 - suc (3 - (level + 1)) = omega arith in
@@ -94,21 +94,21 @@ modify-open h k level e w l =
     ∙ ap (λ (x : ℕ). modifyRange x h k e w) p
 
 module _ (h : Handle) (k level : ℕ) (e : Edit) (c : MemoryRegion) (w : Work) {i : ℕ} (index : i ≡ entryIndex level (c .start .0)) where
-  pub step-own : own level c (wordAt (w .state) k i) ≡ true → w ≡ stepAt h k level e c w
-  unfolding stepAt downChunk
+  pub step-own : own level c (wordAt (w .state) k i) ≡ true → w ≡ downStep h k level e c w
+  unfolding downStep downChunk
   step-own q = rw (← index, q)
 
   module _ (q : own level c (wordAt (w .state) k i) ≡ false) {f : Found} {t : St} (found : taken f t ≡ below h k level i (w .state)) where
-    gone-down : onward (λ j. modifyRange (3 - (level + 1)) h j (chunkEdit e c)) f (work t (w .list) (w .count)) ≡ stepAt h k level e c w
-    unfolding stepAt downChunk
+    gone-down : onward (λ j. modifyRange (3 - (level + 1)) h j (chunkEdit e c)) f (work t (w .list) (w .count)) ≡ downStep h k level e c w
+    unfolding downStep downChunk
     gone-down =
         rw (← index, q)
         (ap (λ (x : Taken). onward (λ j. modifyRange (3 - (level + 1)) h j (chunkEdit e c)) (x .table) (work (x .state) (w .list) (w .count))) found)
 
-    pub step-none : f ≡ Nothing → work t (w .list) (w .count) ≡ stepAt h k level e c w
+    pub step-none : f ≡ Nothing → work t (w .list) (w .count) ≡ downStep h k level e c w
     unfolding onward
     step-none z = rw (← gone-down, z)
 
-    pub step-into : (j : ℕ) → f ≡ At j → modifyRange (3 - (level + 1)) h j (chunkEdit e c) (work t (w .list) (w .count)) ≡ stepAt h k level e c w
+    pub step-into : (j : ℕ) → f ≡ At j → modifyRange (3 - (level + 1)) h j (chunkEdit e c) (work t (w .list) (w .count)) ≡ downStep h k level e c w
     unfolding onward
     step-into j z = rw (← gone-down, z)

@@ -153,16 +153,16 @@ module _ (h : Handle) (level : ℕ) (e : Edit) (w : ℕ) (v : Survey) where
   entry-part q = rw q
 
 -- at level 3 there is nothing below
-unfoldable pub recAt : Handle → St → ℕ → ℕ → Edit → Survey → Survey
-recAt h s level = cond (ltb level 3) (λ j n x. surveyRange (3 - (level + 1)) h s j n x) (λ j n x. x)
+unfoldable pub surveyBelow : Handle → St → ℕ → ℕ → Edit → Survey → Survey
+surveyBelow h s level = cond (ltb level 3) (λ j n x. surveyRange (3 - (level + 1)) h s j n x) (λ j n x. x)
 
 -- one chunk of table k
-unfoldable pub stepAt : Handle → St → ℕ → ℕ → Edit → MemoryRegion → Survey → Survey
-stepAt h s k level e = surveyChunk (recAt h s level) h s k level e
+unfoldable pub surveyStep : Handle → St → ℕ → ℕ → Edit → MemoryRegion → Survey → Survey
+surveyStep h s k level e = surveyChunk (surveyBelow h s level) h s k level e
 
 pub survey-open : (h : Handle) (s : St) (k level : ℕ) (e : Edit) (v : Survey) → level ≤ 3
-    → eachChunk level (stepAt h s k level e) (e .region) v ≡ surveyRange (3 - level) h s k e v
-unfolding stepAt recAt surveyRange
+    → eachChunk level (surveyStep h s k level e) (e .region) v ≡ surveyRange (3 - level) h s k e v
+unfolding surveyStep surveyBelow surveyRange
 survey-open h s k level e v l = ⊎-elim
     (λ ge.
     let q : 3 ≡ level = omega arith in
@@ -177,18 +177,18 @@ survey-open h s k level e v l = ⊎-elim
 
 module _ (h : Handle) (s : St) (k level : ℕ) (e : Edit) (c : MemoryRegion) (v : Survey) {i : ℕ} (index : i ≡ entryIndex level (c .start .0))
     {x : Sub} (is : x ≡ subOf (h .base .0) (tables s) level (wordAt s k i)) where
-  found : (y : Sub) → x ≡ y → surveySub y (λ j. recAt h s level j (chunkEdit e c) v) (surveyEntry h level (chunkEdit e c) (wordAt s k i) v) v ≡ stepAt h s k level e c v
-  unfolding stepAt surveyChunk
+  found : (y : Sub) → x ≡ y → surveySub y (λ j. surveyBelow h s level j (chunkEdit e c) v) (surveyEntry h level (chunkEdit e c) (wordAt s k i) v) v ≡ surveyStep h s k level e c v
+  unfolding surveyStep surveyChunk
   found y q = rw (← index, ← is, q)
 
-  pub step-table : (j : ℕ) → x ≡ Table j → level < 3 → surveyRange (3 - (level + 1)) h s j (chunkEdit e c) v ≡ stepAt h s k level e c v
-  unfolding surveySub recAt
+  pub step-table : (j : ℕ) → x ≡ Table j → level < 3 → surveyRange (3 - (level + 1)) h s j (chunkEdit e c) v ≡ surveyStep h s k level e c v
+  unfolding surveySub surveyBelow
   step-table j q l = rw (← found (Table j) q, lt-ltb level 3 l)
 
-  pub step-entry : x ≡ Leaf → surveyEntry h level (chunkEdit e c) (wordAt s k i) v ≡ stepAt h s k level e c v
+  pub step-entry : x ≡ Leaf → surveyEntry h level (chunkEdit e c) (wordAt s k i) v ≡ surveyStep h s k level e c v
   unfolding surveySub
   step-entry q = found Leaf q
 
-  pub step-outside : x ≡ Outside → v ≡ stepAt h s k level e c v
+  pub step-outside : x ≡ Outside → v ≡ surveyStep h s k level e c v
   unfolding surveySub
   step-outside q = found Outside q

@@ -22,13 +22,13 @@ use Rattle.modify_entry.specs.declared.Edit.{Edit}
 use Rattle.modify_survey.specs.declared.Survey.{Survey}
 
 -- the edit that a call asks for: "start is rounded down and end up to 4096"
-unfoldable pub asked : ℕ → ℕ → ℕ → ℕ → Bool → Edit
-asked start end set clear live = record { region = rounded start end; set = set; clear = clear; live = live }
+unfoldable pub askedEdit : ℕ → ℕ → ℕ → ℕ → Bool → Edit
+askedEdit start end set clear live = record { region = rounded start end; set = set; clear = clear; live = live }
 
 -- with the region that was rounded for it
 pub asked-is : (start end set clear : ℕ) (live : Bool) {r : MemoryRegion} → r ≡ rounded start end
-    → _≡_ {A = Edit} (record { region = r; set = set; clear = clear; live = live }) (asked start end set clear live)
-unfolding asked
+    → _≡_ {A = Edit} (record { region = r; set = set; clear = clear; live = live }) (askedEdit start end set clear live)
+unfolding askedEdit
 asked-is start end set clear live e = ap (λ (x : MemoryRegion). record { region = x; set = set; clear = clear; live = live }) e
 
 -- bits that may be set: from the set m, bit 0 not among them, none that is cleared too
@@ -169,13 +169,13 @@ module _ (free room : ℕ) (live : Bool) (v : Survey) where
 
 -- ---- a region that was verified is no longer than the largest span
 
-pub asked-span : (h : Handle) (start end set clear : ℕ) (live : Bool) → let e = asked start end set clear live in
+pub asked-span : (h : Handle) (start end set clear : ℕ) (live : Bool) → let e = askedEdit start end set clear live in
     verifyEdit h end e ≡ Accepted → e .region .end .0 - e .region .start .0 ≤ 2 ^ 48
-unfolding asked rounded
+unfolding askedEdit rounded
 asked-span h start end set clear live ok =
-    byBool (endFits end) (λ f. bits f (verifyBits h set clear) refl) (λ f. absurd (refused-never (edit-end h end (asked start end set clear live) f ∙ ok)))
+    byBool (endFits end) (λ f. bits f (verifyBits h set clear) refl) (λ f. absurd (refused-never (edit-end h end (askedEdit start end set clear live) f ∙ ok)))
   where
     bits : endFits end ≡ true → (x : Outcome) → verifyBits h set clear ≡ x → rounded start end .end .0 - rounded start end .start .0 ≤ 2 ^ 48
     bits f Accepted q =
-        span-length (h .range) (h .level) (rounded start end) (verified-span h (rounded start end) (edit-region h end (asked start end set clear live) f (sym q) refl ∙ ok)) (up-below end 4096)
-    bits f (Refused r) q = absurd (refused-never (edit-bits h end (asked start end set clear live) f (sym q) r refl ∙ ok))
+        span-length (h .range) (h .level) (rounded start end) (verified-span h (rounded start end) (edit-region h end (askedEdit start end set clear live) f (sym q) refl ∙ ok)) (up-below end 4096)
+    bits f (Refused r) q = absurd (refused-never (edit-bits h end (askedEdit start end set clear live) f (sym q) r refl ∙ ok))

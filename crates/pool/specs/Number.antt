@@ -81,12 +81,12 @@ pub first-miss : (l : List ℕ) (i : ℕ) → i < length l → (getD l i 0 ≡ 0
 first-miss l i h n = rw (drop-cons l i 0 h, add-one) (first-skip i (getD l i 0) (drop (suc i) l) n)
 
 -- what is found is free, below n, and no lower table is free
-pub record Lowest (l : List ℕ) (j : ℕ) : Type 0 where
+pub record LowestFree (l : List ℕ) (j : ℕ) : Type 0 where
   pub inside : j < length l
   pub free : getD l j 0 ≡ 0
   pub lower : (k : ℕ) → k < j → 0 < getD l k 0
 
-first-lowest : (i : ℕ) (l : List ℕ) (j : ℕ) → firstFrom i l ≡ At j → (i ≤ j) × Lowest l (j - i)
+first-lowest : (i : ℕ) (l : List ℕ) (j : ℕ) → firstFrom i l ≡ At j → (i ≤ j) × LowestFree l (j - i)
 unfolding firstFrom
 first-lowest i [] j e = let z : _≡_ {A = ℕ} 0 1 = cc in absurd (omega arith)
 first-lowest i (zero ∷ l) j e =
@@ -102,7 +102,7 @@ first-lowest i (suc x ∷ l) j e =
     below m h zero q = omega arith
     below m h (suc k) q = h k (omega arith)
 
-pub lowest-found : (l : List ℕ) (j : ℕ) → lowestFree l ≡ At j → Lowest l j
+pub lowest-found : (l : List ℕ) (j : ℕ) → lowestFree l ≡ At j → LowestFree l j
 unfolding lowestFree
 lowest-found l j e = let z : j - 0 ≡ j = omega arith in rw z at (first-lowest 0 l j e .1)
 

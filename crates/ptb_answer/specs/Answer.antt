@@ -27,62 +27,62 @@ abbrev pub slip : ℕ → List ℕ → Slip
 slip n a = record { number = n; answer = a }
 
 -- values over the front of what stood in `answer`, whose rest is untouched
-unfoldable pub over : List ℕ → List ℕ → List ℕ
-over [] old = old
-over (value ∷ values) [] = []
-over (value ∷ values) (x ∷ old) = value ∷ over values old
+unfoldable pub overFront : List ℕ → List ℕ → List ℕ
+overFront [] old = old
+overFront (value ∷ values) [] = []
+overFront (value ∷ values) (x ∷ old) = value ∷ overFront values old
 
 -- accepted: 0, and the call's values
 unfoldable pub accepted : List ℕ → List ℕ → Slip
-accepted values old = slip 0 (over values old)
+accepted values old = slip 0 (overFront values old)
 
 -- refused: the refusal's number, and what it carries (document 01, "The refusal slip")
-unfoldable pub refused : Refusal → List ℕ → Slip
-refused r old = slip (number r) (over (carried r) old)
+unfoldable pub toldRefusal : Refusal → List ℕ → Slip
+toldRefusal r old = slip (number r) (overFront (carried r) old)
 
 -- a call that has nothing more to say than that it was done
 unfoldable pub told : Outcome → List ℕ → Slip
 told Accepted old = accepted [] old
-told (Refused r) old = refused r old
+told (Refused r) old = toldRefusal r old
 
 -- a call that counts the tables in use
 unfoldable pub toldCounted : Counted → List ℕ → Slip
 toldCounted (counted.Tables tables) old = accepted (tables ∷ []) old
-toldCounted (counted.Refused r) old = refused r old
+toldCounted (counted.Refused r) old = toldRefusal r old
 
 -- look up: the values of its answer
 unfoldable pub toldLooked : Looked → List ℕ → Slip
 toldLooked (looked.Hole level flags) old = accepted (values (looked.Hole level flags)) old
 toldLooked (looked.Block level flags frame) old = accepted (values (looked.Block level flags frame)) old
 toldLooked (looked.Page level flags frame) old = accepted (values (looked.Page level flags frame)) old
-toldLooked (looked.Refused r) old = refused r old
+toldLooked (looked.Refused r) old = toldRefusal r old
 
 -- list: the count of lines
 unfoldable pub toldListed : Listed → List ℕ → Slip
 toldListed (listed.Lines lines) old = accepted (lines ∷ []) old
-toldListed (listed.Refused r) old = refused r old
+toldListed (listed.Refused r) old = toldRefusal r old
 
 -- modify: the tables in use and, live, the count of numbers
 unfoldable pub toldModified : Modified → List ℕ → Slip
 toldModified (modified.Tables tables) old = accepted (tables ∷ []) old
 toldModified (modified.Live tables numbers) old = accepted (tables ∷ numbers ∷ []) old
-toldModified (modified.Refused r) old = refused r old
+toldModified (modified.Refused r) old = toldRefusal r old
 
 -- ---- laws: values stored one by one
 
-pub over-one : (old : List ℕ) (a : ℕ) → set old 0 a ≡ over (a ∷ []) old
-unfolding over
+pub over-one : (old : List ℕ) (a : ℕ) → set old 0 a ≡ overFront (a ∷ []) old
+unfolding overFront
 over-one [] a = refl
 over-one (x ∷ old) a = refl
 
-pub over-two : (old : List ℕ) (a b : ℕ) → set (set old 0 a) 1 b ≡ over (a ∷ b ∷ []) old
-unfolding over
+pub over-two : (old : List ℕ) (a b : ℕ) → set (set old 0 a) 1 b ≡ overFront (a ∷ b ∷ []) old
+unfolding overFront
 over-two [] a b = refl
 over-two (x ∷ []) a b = refl
 over-two (x ∷ y ∷ old) a b = refl
 
-pub over-four : (old : List ℕ) (a b c d : ℕ) → set (set (set (set old 0 a) 1 b) 2 c) 3 d ≡ over (a ∷ b ∷ c ∷ d ∷ []) old
-unfolding over
+pub over-four : (old : List ℕ) (a b c d : ℕ) → set (set (set (set old 0 a) 1 b) 2 c) 3 d ≡ overFront (a ∷ b ∷ c ∷ d ∷ []) old
+unfolding overFront
 over-four [] a b c d = refl
 over-four (x ∷ []) a b c d = refl
 over-four (x ∷ y ∷ []) a b c d = refl

@@ -23,7 +23,7 @@ use Rattle.compact_spec.specs.Call as compact
 use Rattle.modify.specs.Call as modify
 use Rattle.modify.specs.declared.Modified.{Modified}
 use Rattle.pool_handle.specs.Handle.{handleOf, no-range}
-use Rattle.ptb_answer.specs.Answer.{Slip, refused, told, toldCounted, toldLooked, toldListed, toldModified}
+use Rattle.ptb_answer.specs.Answer.{Slip, toldRefusal, told, toldCounted, toldLooked, toldListed, toldModified}
 
 -- ---- make
 
@@ -41,7 +41,7 @@ module _ (base level range : ℕ) (s : St) (old : List ℕ) where
   unfolding makeFace
   make-told {s′ = s′} e m t = ap (λ (y : Slip). out y s′) t ∙ ap (toldOut old) (m ∙ ap (λ (g : Handle). makeCall g s) e)
 
-  pub make-no-range : 1 < range → makeFace base level range s old ≡ out (refused Shape old) s
+  pub make-no-range : 1 < range → makeFace base level range s old ≡ out (toldRefusal Shape old) s
   unfolding makeFace told
   make-no-range above = ap (toldOut old) (sym (make-refused (handleOf base level range) s (no-range base level range s above)))
 
@@ -57,7 +57,7 @@ module _ (base level range : ℕ) (s : St) (old : List ℕ) where
   unfolding checkFace
   check-told e m t = t ∙ ap (λ (o : Outcome). told o old) (m ∙ ap (λ (g : Handle). checkCall g s) e)
 
-  pub check-no-range : 1 < range → checkFace base level range s old ≡ refused Shape old
+  pub check-no-range : 1 < range → checkFace base level range s old ≡ toldRefusal Shape old
   unfolding checkFace told
   check-no-range above = ap (λ (o : Outcome). told o old) (sym (check-misshaped (handleOf base level range) s (no-range base level range s above)))
 
@@ -73,7 +73,7 @@ module _ (base level range : ℕ) (s : St) (va : ℕ) (old : List ℕ) where
   unfolding lookUpFace
   look-up-told e m t = t ∙ ap (λ (o : Looked). toldLooked o old) (m ∙ ap (λ (g : Handle). lookUpCall g s va) e)
 
-  pub look-up-no-range : 1 < range → lookUpFace base level range s va old ≡ refused Shape old
+  pub look-up-no-range : 1 < range → lookUpFace base level range s va old ≡ toldRefusal Shape old
   unfolding lookUpFace toldLooked
   look-up-no-range above = ap (λ (o : Looked). toldLooked o old) (sym (look-misshaped (handleOf base level range) s va (no-range base level range s above)))
 
@@ -101,7 +101,7 @@ module _ (base level range : ℕ) (s : St) (start end : ℕ) (lines old : List �
   unfolding listFace
   list-told {lines′ = lines′} e m t = ap (λ (y : Slip). filled y lines′) t ∙ ap (toldListing old) (m ∙ ap (λ (g : Handle). listCall g s start end lines) e)
 
-  pub list-no-range : 1 < range → listFace base level range s start end lines old ≡ filled (refused Shape old) lines
+  pub list-no-range : 1 < range → listFace base level range s start end lines old ≡ filled (toldRefusal Shape old) lines
   unfolding listFace toldListed
   list-no-range above = ap (toldListing old) (sym (list-misshaped (handleOf base level range) s start end lines (no-range base level range s above)))
 
@@ -121,7 +121,7 @@ module _ (base level range start end frame flags constraints : ℕ) (s : St) (ol
   unfolding mapFace
   map-told {s′ = s′} e m t = ap (λ (y : Slip). out y s′) t ∙ ap (toldCount old) (m ∙ ap (λ (g : Handle). map.mapCall g start end frame flags constraints s) e)
 
-  pub map-no-range : 1 < range → mapFace base level range start end frame flags constraints s old ≡ out (refused Shape old) s
+  pub map-no-range : 1 < range → mapFace base level range start end frame flags constraints s old ≡ out (toldRefusal Shape old) s
   unfolding mapFace toldCounted
   map-no-range above = ap (toldCount old) (sym (map.call-misshaped (handleOf base level range) start end frame flags constraints s (no-range base level range s above)))
 
@@ -137,7 +137,7 @@ module _ (base level range : ℕ) (s : St) (old : List ℕ) where
   unfolding compactFace
   compact-told {s′ = s′} e m t = ap (λ (y : Slip). out y s′) t ∙ ap (toldCount old) (m ∙ ap (λ (g : Handle). compact.compactCall g s) e)
 
-  pub compact-no-range : 1 < range → compactFace base level range s old ≡ out (refused Shape old) s
+  pub compact-no-range : 1 < range → compactFace base level range s old ≡ out (toldRefusal Shape old) s
   unfolding compactFace toldCounted
   compact-no-range above = ap (toldCount old) (sym (compact.call-misshaped (handleOf base level range) s (no-range base level range s above)))
 
@@ -170,7 +170,7 @@ module _ (base level range start end set clear live : ℕ) (s : St) (list old : 
   unfolding modifyFace
   modify-told {s′ = s′} {list′ = list′} e m t = ap (λ (y : Slip). changed y s′ list′) t ∙ ap (toldModify old) (m ∙ ap (λ (g : Handle). modify.modifyCall g start end set clear (liveOf live) s list) e)
 
-  pub modify-no-range : 1 < range → modifyFace base level range start end set clear live s list old ≡ changed (refused Shape old) s list
+  pub modify-no-range : 1 < range → modifyFace base level range start end set clear live s list old ≡ changed (toldRefusal Shape old) s list
   unfolding modifyFace toldModified
   modify-no-range above = ap (toldModify old) (sym (modify.call-misshaped (handleOf base level range) start end set clear (liveOf live) s list (no-range base level range s above)))
 
@@ -190,6 +190,6 @@ module _ (base level range : ℕ) (s : St) (table : ℕ) (page old : List ℕ) w
   unfolding imageFace
   image-told {page′ = page′} e m t = ap (λ (y : Slip). filled y page′) t ∙ ap (toldImage old) (m ∙ ap (λ (g : Handle). imageCall g s table page) e)
 
-  pub image-no-range : 1 < range → imageFace base level range s table page old ≡ filled (refused Shape old) page
+  pub image-no-range : 1 < range → imageFace base level range s table page old ≡ filled (toldRefusal Shape old) page
   unfolding imageFace told
   image-no-range above = ap (toldImage old) (sym (image-misshaped (handleOf base level range) s table page (no-range base level range s above)))

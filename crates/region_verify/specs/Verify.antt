@@ -96,11 +96,11 @@ pub verified-forwards : (h : Handle) (r : MemoryRegion) → verify h r ≡ Accep
 verified-forwards h r e = ⊎-elim (λ h. h) (λ l. absurd (refused-never (verify-backwards h r l ∙ e))) (le-or (r .start .0) (r .end .0))
 
 -- it lies in the root's span
-abbrev pub InSpan : VaRange → ℕ → MemoryRegion → Type 0
-InSpan Lower level r = r .end .0 ≤ span level
-InSpan Upper level r = 2 ^ 64 - span level ≤ r .start .0
+abbrev pub RegionInSpan : VaRange → ℕ → MemoryRegion → Type 0
+RegionInSpan Lower level r = r .end .0 ≤ span level
+RegionInSpan Upper level r = 2 ^ 64 - span level ≤ r .start .0
 
-ranged-span : (range : VaRange) (level : ℕ) (r : MemoryRegion) → inRange range level r ≡ Accepted → InSpan range level r
+ranged-span : (range : VaRange) (level : ℕ) (r : MemoryRegion) → inRange range level r ≡ Accepted → RegionInSpan range level r
 unfolding inRange
 ranged-span Lower level r e = go (le-or (2 ^ 63) (r .start .0)) (le-or (r .end .0) (span level))
   where
@@ -118,11 +118,11 @@ ranged-span Upper level r e = go (le-or (2 ^ 64 - span level) (r .start .0))
     go (inl l) = l
     go (inr l) = absurd (either (ltb (r .start .0) (2 ^ 63)) (rw (lt-ltb (r .start .0) (2 ^ 64 - span level) l) at e))
 
-pub verified-span : (h : Handle) (r : MemoryRegion) → verify h r ≡ Accepted → InSpan (h .range) (h .level) r
+pub verified-span : (h : Handle) (r : MemoryRegion) → verify h r ≡ Accepted → RegionInSpan (h .range) (h .level) r
 verified-span h r e = ranged-span (h .range) (h .level) r (verify-forwards h r (verified-forwards h r e) ∙ e)
 
 -- it is no longer than the largest span
-pub span-length : (range : VaRange) (level : ℕ) (r : MemoryRegion) → InSpan range level r → r .end .0 < 2 ^ 64 → r .end .0 - r .start .0 ≤ 2 ^ 48
+pub span-length : (range : VaRange) (level : ℕ) (r : MemoryRegion) → RegionInSpan range level r → r .end .0 < 2 ^ 64 → r .end .0 - r .start .0 ≤ 2 ^ 48
 unfolding span
 span-length Lower level r l below = let b = size-high level in omega arith
 span-length Upper level r l below = let b = size-high level in omega arith

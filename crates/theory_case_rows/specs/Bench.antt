@@ -30,19 +30,19 @@ use Rattle.map_rules.specs.Rules.{tableWord, rule2, blockable, rule3, rule4, ru
 use Rattle.map_split.specs.Split.{splitEntry, belowOf, below, inFound, into}
 use Rattle.map_put.specs.Put.{dropEntry, byRule, mapChunk, eachOf, eachChunk, mapRange}
 use Rattle.map_count_spec.specs.Needed.{ifDown, sumOf, sumChunks, childWord, neededLeaf, needBelow, needChunk, needTable, needed}
-use Rattle.map_verify.specs.Ask.{asked, frameAsked, first, verifyMap}
+use Rattle.map_verify.specs.Ask.{askedMap, frameAsked, first, verifyMap}
 use Rattle.map_spec.specs.Call.{putDown, mapSound, orElse, mapCall}
 
 unfoldable pub handle : ℕ → Handle
 handle level = record { base = record { 0 = 0x8000_0000 }; level = level; range = Lower }
 
 -- n tables, made for a root of this level
-unfoldable pub fresh : ℕ → ℕ → St
-fresh level n = st (replicate (512 * n) 0) (set (replicate n 0) 0 (rootNumber level))
+unfoldable pub freshRow : ℕ → ℕ → St
+freshRow level n = st (replicate (512 * n) 0) (set (replicate n 0) 0 (rootNumber level))
 
 -- make gives it of whatever words and numbers were lent: here all 9
 unfoldable pub Makes : ℕ → ℕ → Type 0
-Makes level n = makeCall (handle level) (st (replicate (512 * n) 9) (replicate n 9)) ≡ out Accepted (fresh level n)
+Makes level n = makeCall (handle level) (st (replicate (512 * n) 9) (replicate n 9)) ≡ out Accepted (freshRow level n)
 
 -- the word w in slot i of table k; the table t, with its number, as table k; all else as in s
 unfoldable pub word : ℕ → ℕ → ℕ → St → St
@@ -62,47 +62,47 @@ pub record Row : Type 0 where
   pub answer : Counted
   pub after : St
 
-unfoldable pub Holds : Row → Type 0
-Holds r = mapCall (handle (r .level)) (r .start) (r .end) (r .frame) (r .flags) 0 (r .before) ≡ out (r .answer) (r .after)
+unfoldable pub RowHolds : Row → Type 0
+RowHolds r = mapCall (handle (r .level)) (r .start) (r .end) (r .frame) (r .flags) 0 (r .before) ≡ out (r .answer) (r .after)
 
 -- ---- what the document says stands in the pool
 
 -- A: root word 0 is 0x4000_0401
 unfoldable pub poolA : St
-poolA = word 0 0 0x4000_0401 (fresh 1 8)
+poolA = word 0 0 0x4000_0401 (freshRow 1 8)
 
 -- B: root word 0 is 0x8000_1003, table 1 word 0 is 0x8000_2003, table 2 words 1 and 2 are 0x9403 and 0xA403; ledger starts 5, 14, 4111
 unfoldable pub poolB : ℕ → St
-poolB n = word 0 0 0x8000_1003 (word 1 0 0x8000_2003 (word 2 1 0x9403 (word 2 2 0xA403 (table 1 zeros 14 (table 2 zeros 4111 (fresh 1 n))))))
+poolB n = word 0 0 0x8000_1003 (word 1 0 0x8000_2003 (word 2 1 0x9403 (word 2 2 0xA403 (table 1 zeros 14 (table 2 zeros 4111 (freshRow 1 n))))))
 
 -- D: table 1 words 1 and 2 are 0x8000_2003 and 0x4040_0401, table 2 words 0 and 1 are 0x5000_0403 and 0x4020_1403: the block of A, cut twice
 unfoldable pub poolD : St
 poolD =
     word 0 0 0x8000_1003 (word 1 1 0x8000_2003 (word 2 0 0x5000_0403
-    (table 1 (rising 512 0x4000_0401 0x20_0000) 14 (table 2 (rising 512 0x4020_0403 0x1000) 4119 (fresh 1 8)))))
+    (table 1 (rising 512 0x4000_0401 0x20_0000) 14 (table 2 (rising 512 0x4020_0403 0x1000) 4119 (freshRow 1 8)))))
 
 -- F: table 2 word 0 is 0x4000_0403, table 1 word 1 is 0x4020_0401
 unfoldable pub poolF : St
 poolF =
     word 0 0 0x8000_1003 (word 1 0 0x8000_2003
-    (table 1 (rising 512 0x4000_0401 0x20_0000) 14 (table 2 (rising 512 0x4000_0403 0x1000) 4111 (fresh 1 8))))
+    (table 1 (rising 512 0x4000_0401 0x20_0000) 14 (table 2 (rising 512 0x4000_0403 0x1000) 4111 (freshRow 1 8))))
 
 -- G: two empty tables
 unfoldable pub poolG : St
-poolG = word 0 0 0x8000_1003 (word 1 0 0x8000_2003 (table 1 zeros 14 (table 2 zeros 4111 (fresh 1 8))))
+poolG = word 0 0 0x8000_1003 (word 1 0 0x8000_2003 (table 1 zeros 14 (table 2 zeros 4111 (freshRow 1 8))))
 
 -- H: no block in the root, 512 blocks below it
 unfoldable pub poolH : St
-poolH = word 0 0 0x8000_1003 (table 1 (rising 512 0x401 0x4000_0000) 13 (fresh 0 8))
+poolH = word 0 0 0x8000_1003 (table 1 (rising 512 0x401 0x4000_0000) 13 (freshRow 0 8))
 
 -- ---- the rows
 
 unfoldable pub A : Row
-A = record { level = 1; before = fresh 1 8; start = 0; end = 0x4000_0000; frame = 0x4000_0000; flags = 0x401; answer = Tables 1; after = poolA }
+A = record { level = 1; before = freshRow 1 8; start = 0; end = 0x4000_0000; frame = 0x4000_0000; flags = 0x401; answer = Tables 1; after = poolA }
 
 -- B with n tables
 unfoldable pub B : ℕ → Counted → St → Row
-B n answer after = record { level = 1; before = fresh 1 n; start = 0x1000; end = 0x3000; frame = 0x9000; flags = 0x401; answer = answer; after = after }
+B n answer after = record { level = 1; before = freshRow 1 n; start = 0x1000; end = 0x3000; frame = 0x9000; flags = 0x401; answer = answer; after = after }
 
 -- beside the document's cases: the next GiB after A
 unfoldable pub poolAA : St
@@ -121,10 +121,10 @@ EF frame flags count after = record { level = 1; before = poolB 8; start = 0; en
 
 -- G: one page without VALID, by its frame
 unfoldable pub G : ℕ → ℕ → St → Row
-G frame count after = record { level = 1; before = fresh 1 8; start = 0x1000; end = 0x2000; frame = frame; flags = 0; answer = Tables count; after = after }
+G frame count after = record { level = 1; before = freshRow 1 8; start = 0x1000; end = 0x2000; frame = frame; flags = 0; answer = Tables count; after = after }
 
 unfoldable pub H : Row
-H = record { level = 0; before = fresh 0 8; start = 0; end = 0x80_0000_0000; frame = 0; flags = 0x401; answer = Tables 2; after = poolH }
+H = record { level = 0; before = freshRow 0 8; start = 0; end = 0x80_0000_0000; frame = 0; flags = 0x401; answer = Tables 2; after = poolH }
 
 -- ---- the rows that hold
 
@@ -133,22 +133,22 @@ abbrev pub Made : Type 0
 Made = Makes 1 8 × Makes 1 3 × Makes 1 2 × Makes 0 8
 
 pub made : Made
-unfolding rootNumber maxTables shaped makeCall freshly handle fresh Makes
+unfolding rootNumber maxTables shaped makeCall freshly handle freshRow Makes
 made = (refl, refl, refl, refl)
 
 -- those of map that compute in a second: A, B with 8, 3 and 2 tables, C, D, both of G, and the next GiB after A
 abbrev pub Quick : Type 0
 Quick =
-    Holds A
-    × Holds (B 8 (Tables 3) (poolB 8)) × Holds (B 3 (Tables 3) (poolB 3)) × Holds (B 2 (Refused (WantOfRoom 2 1)) (fresh 1 2))
-    × Holds (CD 0x4020_0000 1 poolA) × Holds (CD 0x5000_0000 3 poolD)
-    × Holds (G 0 3 poolG) × Holds (G 0x1000 1 (fresh 1 8))
-    × Holds AA
+    RowHolds A
+    × RowHolds (B 8 (Tables 3) (poolB 8)) × RowHolds (B 3 (Tables 3) (poolB 3)) × RowHolds (B 2 (Refused (WantOfRoom 2 1)) (freshRow 1 2))
+    × RowHolds (CD 0x4020_0000 1 poolA) × RowHolds (CD 0x5000_0000 3 poolD)
+    × RowHolds (G 0 3 poolG) × RowHolds (G 0x1000 1 (freshRow 1 8))
+    × RowHolds AA
 
 pub quick : Quick
 unfolding sizeAt down up iter putPart allBelow allFrom alignUp addressOf flagsOf kindOf linkOf only el1Flags inPool leads subOf rounded entryLast entryIndex chunkEnd met
     chunksIn chunks rootNumber numberOf firstFrom lowestFree used free putTable zeros clear rising takeAt takeFound takeTable freeSub freeSlot freeTree maxTables shaped flagSet
     plainFlags fits leafb namesb hangsb tableb linkb refersb slotb soundb endFits span inRange verify valid tableWord leafWord whole rule2 blockable rule3 rule4 ruleOf fillOf
     splitEntry belowOf below inFound into dropEntry byRule mapChunk eachOf eachChunk mapRange ifDown sumOf sumChunks childWord neededLeaf needBelow needChunk needTable needed
-    asked frameAsked first verifyMap putDown mapSound orElse mapCall handle fresh word table Holds poolA poolAA poolB poolD poolG A AA B CD G
+    askedMap frameAsked first verifyMap putDown mapSound orElse mapCall handle freshRow word table RowHolds poolA poolAA poolB poolD poolG A AA B CD G
 quick = (refl, refl, refl, refl, refl, refl, refl, refl, refl)

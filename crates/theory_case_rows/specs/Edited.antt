@@ -27,32 +27,32 @@ use Rattle.modify_entry.specs.Own.{putNumber, ownChunk, ownRange}
 use Rattle.modify_range.specs.Range.{own, onward, downChunk, ownWork, modifyRange}
 use Rattle.modify_survey.specs.House.{houseRule, mayChange}
 use Rattle.modify_survey.specs.Find.{adding, splitsIn, breach, ifBlock, surveyPart, surveyWhole, surveyEntry, surveySub, surveyChunk, surveyRange}
-use Rattle.modify_verify.specs.Permit.{asked, settable, verifyBits, thenRegion, verifyEdit, verifySurvey}
+use Rattle.modify_verify.specs.Permit.{askedEdit, settable, verifyBits, thenRegion, verifyEdit, verifySurvey}
 use Rattle.modify.specs.Call.{modifying, answerOf, editTables, orElse, modifySound, modifyCall}
 use Rattle.modify.specs.declared.Modified.{Modified}
 use Rattle.modify.specs.declared.Modified.the-variants.{Tables, Live, Refused}
-use Rattle.theory_case_rows.specs.Bench.{handle, fresh, word, table, poolA, poolF}
+use Rattle.theory_case_rows.specs.Bench.{handle, freshRow, word, table, poolA, poolF}
 
 -- bit 7 set after A: what is asked, and what document 01 says of it: the answer, every word and number, and the list
 unfoldable pub Sets : ℕ → ℕ → Bool → Modified → St → List ℕ → Type 0
 Sets start end live answer after list = modifyCall (handle 1) start end 0x80 0 live poolA (7 ∷ 7 ∷ []) ≡ modifying answer after list
 
 -- live, on the whole block: word 0x4000_0481, list [0]; the rest of the list stays
-abbrev pub Whole : Type 0
-Whole = Sets 0 0x4000_0000 true (Live 1 1) (word 0 0 0x4000_0481 (fresh 1 8)) (0 ∷ 7 ∷ [])
+abbrev pub WholeEdited : Type 0
+WholeEdited = Sets 0 0x4000_0000 true (Live 1 1) (word 0 0 0x4000_0481 (freshRow 1 8)) (0 ∷ 7 ∷ [])
 
 -- live, on one page of it: refused 10 (0x4000_0401)
-abbrev pub Part : Type 0
-Part = Sets 0x1000 0x2000 true (Refused (HouseRule 0x4000_0401)) poolA (7 ∷ 7 ∷ [])
+abbrev pub PartEdited : Type 0
+PartEdited = Sets 0x1000 0x2000 true (Refused (HouseRule 0x4000_0401)) poolA (7 ∷ 7 ∷ [])
 
 -- not live: table 2 word 1 is 0x4000_1483; the block of A is cut twice, as in F
-abbrev pub Still : Type 0
-Still = Sets 0x1000 0x2000 false (Tables 3) (word 2 1 0x4000_1483 poolF) (7 ∷ 7 ∷ [])
+abbrev pub StillEdited : Type 0
+StillEdited = Sets 0x1000 0x2000 false (Tables 3) (word 2 1 0x4000_1483 poolF) (7 ∷ 7 ∷ [])
 
-pub case-I : Whole × Part × Still
+pub case-I : WholeEdited × PartEdited × StillEdited
 unfolding sizeAt down up putPart allBelow allFrom alignUp addressOf flagsOf kindOf linkOf only el1Flags inPool leads subOf rounded entryLast entryIndex chunkEnd met chunksIn
     chunks rootNumber numberOf firstFrom lowestFree used free putTable zeros rising takeAt takeFound takeTable maxTables shaped flagSet plainFlags fits leafb namesb hangsb
     tableb linkb refersb slotb soundb endFits span inRange verify valid tableWord leafWord whole fillOf splitEntry belowOf below edited ofKind editWord eachOf eachChunk
     putNumber ownChunk ownRange own onward downChunk ownWork modifyRange houseRule mayChange adding splitsIn breach ifBlock surveyPart surveyWhole surveyEntry surveySub
-    surveyChunk surveyRange asked settable verifyBits thenRegion verifyEdit verifySurvey answerOf editTables orElse modifySound modifyCall handle fresh word table poolA poolF Sets
+    surveyChunk surveyRange askedEdit settable verifyBits thenRegion verifyEdit verifySurvey answerOf editTables orElse modifySound modifyCall handle freshRow word table poolA poolF Sets
 case-I = (refl, refl, refl)

@@ -20,7 +20,7 @@ use Rattle.arm.specs.Arm.{bits, lowBit, index, fetch}
 use Rattle.list_lines.specs.Lines.{numbers, each, subLines, chunkLines, linesAt, linesFrom, linesOf}
 use Rattle.list.specs.Call.{verifyEnds, listing, put, listLines, listSound, listVerified, listCall}
 use Rattle.list.specs.declared.Listed.the-variants.{Lines}
-use Rattle.theory_case_rows.specs.Bench.{handle, fresh, word, table, poolB}
+use Rattle.theory_case_rows.specs.Bench.{handle, freshRow, word, table, poolB}
 
 -- three lines; the rest of the list stays
 abbrev pub J : Type 0
@@ -31,5 +31,5 @@ J =
 pub case-J : J
 unfolding sizeAt down up putPart allBelow allFrom alignUp addressOf kindOf linkOf only el1Flags inPool leads subOf rounded entryLast chunkEnd met chunksIn chunks rootNumber
     putTable zeros maxTables shaped flagSet plainFlags fits leafb namesb hangsb tableb linkb refersb slotb soundb endFits span inRange verify bits lowBit index fetch numbers
-    each subLines chunkLines linesAt linesFrom verifyEnds put listLines linesOf listSound listVerified listCall handle fresh word table poolB
+    each subLines chunkLines linesAt linesFrom verifyEnds put listLines linesOf listSound listVerified listCall handle freshRow word table poolB
 case-J = refl

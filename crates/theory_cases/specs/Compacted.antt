@@ -13,14 +13,14 @@ use Rattle.pool.specs.declared.Counted.the-variants.{Tables}
 use Rattle.pool_table.specs.Table.{putTable, zeros, clear}
 use Rattle.compact_spec.specs.Compact.{allZero, releaseEmpty, compactSub, compactEntry, compactTable}
 use Rattle.compact_spec.specs.Call.{compacted, compactSound, compactCall}
-use Rattle.theory_case_rows.specs.Bench.{handle, fresh, word, table, poolG}
+use Rattle.theory_case_rows.specs.Bench.{handle, freshRow, word, table, poolG}
 
 -- both empty tables are freed, the lower one first, and the pool is as it was made
-abbrev pub G : Type 0
-G = compactCall (handle 1) poolG ≡ out (Tables 1) (fresh 1 8)
+abbrev pub GCompacted : Type 0
+GCompacted = compactCall (handle 1) poolG ≡ out (Tables 1) (freshRow 1 8)
 
-pub case-G : G
+pub case-G : GCompacted
 unfolding sizeAt iter putPart allBelow allFrom addressOf kindOf linkOf only el1Flags inPool leads subOf rootNumber used maxTables shaped flagSet plainFlags fits leafb namesb
-    hangsb tableb linkb refersb slotb soundb putTable zeros clear allZero releaseEmpty compactSub compactEntry compactTable compacted compactSound compactCall handle fresh word
+    hangsb tableb linkb refersb slotb soundb putTable zeros clear allZero releaseEmpty compactSub compactEntry compactTable compacted compactSound compactCall handle freshRow word
     table poolG
 case-G = refl

@@ -19,18 +19,18 @@ use Rattle.map_rules.specs.Rules.{tableWord, rule2, blockable, rule3, rule4, ru
 use Rattle.map_split.specs.Split.{splitEntry, belowOf, below, inFound, into}
 use Rattle.map_put.specs.Put.{dropEntry, byRule, mapChunk, eachOf, eachChunk, mapRange}
 use Rattle.map_count_spec.specs.Needed.{ifDown, sumOf, sumChunks, childWord, neededLeaf, needBelow, needChunk, needTable, needed}
-use Rattle.map_verify.specs.Ask.{asked, frameAsked, first, verifyMap}
+use Rattle.map_verify.specs.Ask.{askedMap, frameAsked, first, verifyMap}
 use Rattle.map_spec.specs.Call.{putDown, mapSound, orElse, mapCall}
-use Rattle.theory_case_rows.specs.Bench.{handle, fresh, word, table, Holds, poolB, poolF, poolH, EF, H}
+use Rattle.theory_case_rows.specs.Bench.{handle, freshRow, word, table, RowHolds, poolB, poolF, poolH, EF, H}
 
 -- E, F: the whole GiB after B, without VALID and with A's map; H
 abbrev pub Long : Type 0
-Long = Holds (EF 0 0 1 (fresh 1 8)) × Holds (EF 0x4000_0000 0x401 3 poolF) × Holds H
+Long = RowHolds (EF 0 0 1 (freshRow 1 8)) × RowHolds (EF 0x4000_0000 0x401 3 poolF) × RowHolds H
 
 pub long : Long
 unfolding sizeAt down up iter putPart allBelow allFrom alignUp addressOf flagsOf kindOf linkOf only el1Flags inPool leads subOf rounded entryLast entryIndex chunkEnd met
     chunksIn chunks rootNumber numberOf firstFrom lowestFree used free putTable zeros clear rising takeAt takeFound takeTable freeSub freeSlot freeTree maxTables shaped flagSet
     plainFlags fits leafb namesb hangsb tableb linkb refersb slotb soundb endFits span inRange verify valid tableWord leafWord whole rule2 blockable rule3 rule4 ruleOf fillOf
     splitEntry belowOf below inFound into dropEntry byRule mapChunk eachOf eachChunk mapRange ifDown sumOf sumChunks childWord neededLeaf needBelow needChunk needTable needed
-    asked frameAsked first verifyMap putDown mapSound orElse mapCall handle fresh word table Holds poolB poolF poolH EF H
+    askedMap frameAsked first verifyMap putDown mapSound orElse mapCall handle freshRow word table RowHolds poolB poolF poolH EF H
 long = (refl, refl, refl)

@@ -25,7 +25,7 @@ use Rattle.theory_sound.specs.Step.{used-inside}
 use Rattle.arm.specs.Arm.{bits, flagsIn, says}
 use Rattle.arm.specs.Walk.{slot-below}
 use Rattle.theory_walk.specs.AsBefore.{walkOf, hole, shown}
-use Rattle.theory_walk.specs.Any.{slotsOf, met}
+use Rattle.theory_walk.specs.Any.{slotsTaken, reachedAt}
 use Rattle.theory_walk.specs.Walked.{walk-of-tree}
 use Rattle.compact_spec.specs.Call.{compacted, compactCall, call-compacted}
 use Rattle.theory_compact.specs.Empty.{not-all-zero}
@@ -33,12 +33,12 @@ use Rattle.theory_compact.specs.Run.{Ready, Worked, pool-again, shaped-a
 use Rattle.theory_compact.specs.Tight.{NoneEmpty, tight-none, table-same}
 
 -- a word of 0 shows the same at every level
-zero-shows : (va depth : ℕ) → shown (says va (met (record { word = 0; depth = depth }))) ≡ hole 0
-unfolding shown met says bits flagsIn
+zero-shows : (va depth : ℕ) → shown (says va (reachedAt (record { word = 0; depth = depth }))) ≡ hole 0
+unfolding shown reachedAt says bits flagsIn
 zero-shows va depth = refl
 
-slots-below : (va depth : ℕ) → slotsOf va depth < 512
-unfolding slotsOf
+slots-below : (va depth : ℕ) → slotsTaken va depth < 512
+unfolding slotsTaken
 slots-below va depth = slot-below (3 - depth) va
 
 -- at the root of a sound pool
@@ -76,8 +76,8 @@ module _ {h : Handle} {s : St} (shape : Shaped h s) (P : SoundPool h s) where
   pub compact-walks-as-before : (va : ℕ) → shown (walkOf h (compacted h s) va) ≡ shown (walkOf h s va)
   compact-walks-as-before va =
       ap shown (walk-of-tree compact-keeps-shape compact-keeps-sound va)
-      ∙ ap (λ (t : Tree). shown (says va (met (walkTree (slotsOf va) (suc (3 - h .level)) t)))) compact-of-tree
-      ∙ compact-walk (slotsOf va) (slots-below va) (λ e. shown (says va (met e))) (hole 0) (zero-shows va) (3 - h .level) (rootTree h s)
+      ∙ ap (λ (t : Tree). shown (says va (reachedAt (walkTree (slotsTaken va) (suc (3 - h .level)) t)))) compact-of-tree
+      ∙ compact-walk (slotsTaken va) (slots-below va) (λ e. shown (says va (reachedAt e))) (hole 0) (zero-shows va) (3 - h .level) (rootTree h s)
       ∙ sym (ap shown (walk-of-tree shape P va))
 
   -- NO TABLE BUT THE ROOT IS ALL ZERO

@@ -12,7 +12,7 @@ use Rattle.laws.specs.Test.{and-l, and-r, and-i, eq→eqb, same-test, allBelow,
 use Rattle.pool.specs.State.{St, wordAt}
 use Rattle.theory_forest.specs.Compact.{emptyWords}
 use Rattle.theory_sound.specs.Codec.{slotWord, word-in}
-use Rattle.theory_sound.specs.Lists.{Inside}
+use Rattle.theory_sound.specs.Lists.{TableInside}
 use Rattle.compact_spec.specs.Compact.{allZero, tableWords}
 
 -- ---- a list of zeros, word by word
@@ -30,7 +30,7 @@ at-zero (w ∷ ws) h = and-i (eqb w 0) (allZero ws) (eq→eqb w 0 (h 0 (omega ar
 
 -- ---- a table's words
 
-module _ (s : St) (k : ℕ) (inside : Inside s k) where
+module _ (s : St) (k : ℕ) (inside : TableInside s k) where
   part-at : (i : ℕ) → i < 512 → getD (tableWords s k) i 0 ≡ slotWord s k i
   part-at i l = getD-take 512 (drop (512 * k) (s .words)) i 0 l ∙ getD-drop (512 * k) (s .words) i 0 ∙ sym (word-in s k i l)
 

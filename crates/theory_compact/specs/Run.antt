@@ -16,12 +16,12 @@ use Rattle.theory_forest.specs.Sound.{Codec, Refers, Sound}
 use Rattle.theory_forest.specs.Under.{refers-level, refers-over}
 use Rattle.theory_forest.specs.Frame.{slotTree}
 use Rattle.theory_forest.specs.Place.{below-self, over-refers}
-use Rattle.theory_forest.specs.Move.{Move, Work, Runs, work-skip, runs-zero, runs-suc, runs-work}
+use Rattle.theory_forest.specs.Move.{Move, TableMove, Runs, work-skip, runs-zero, runs-suc, runs-work}
 use Rattle.theory_forest.specs.Compact.{squash, compactTree, compact-leaf, compact-keep, compact-drop}
 use Rattle.theory_sound.specs.Codec.{Placed, codecOf, slotWord, view, word-in, treeFrom}
 use Rattle.theory_sound.specs.Clauses.{InUse, levelAt, SoundPool}
 use Rattle.theory_sound.specs.Generic.{pool-sound, sound-pool}
-use Rattle.theory_sound.specs.Lists.{Inside, clear-tables, clear-words}
+use Rattle.theory_sound.specs.Lists.{TableInside, clear-tables, clear-words}
 use Rattle.theory_sound.specs.Step.{used-inside}
 use Rattle.theory_sound.specs.Store.{cleared}
 use Rattle.theory_sound.specs.FreeRun.{SameSize, size-trans}
@@ -54,7 +54,7 @@ module _ {h : Handle} (placed : Placed h) where
 
   -- s′ is s with work done at table k, whose tree is now t
   pub record Worked (s s′ : St) (depth k : ℕ) (t : Tree) : Type 0 where
-    pub work : Work C (view s) (view s′) depth k t
+    pub work : TableMove C (view s) (view s′) depth k t
     pub size : SameSize s s′
 
   -- .. at slot i of table k
@@ -118,7 +118,7 @@ module _ {h : Handle} (placed : Placed h) where
         used : InUse after k
         used = rw (worked .work .over .ledger k (R .used) (λ d. refers-over r (suc d))) (R .used)
 
-        at : Inside after c
+        at : TableInside after c
         at = used-inside pool c (still .used)
 
         freed : SameSize after (clear c (storeAt k i 0 after))

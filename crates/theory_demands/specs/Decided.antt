@@ -81,7 +81,7 @@ range-told Upper level r = go (le-or (2 ^ 64 - 512 * sizeAt level) (r .start .0)
         inr (sym (upper-in Upper level r refl refl (omega arith)), λ a x. ⊎-elim (λ p. omega arith) (λ p. omega arith) (x .0))
     go (inr l) = let z = size-high level in inl (r .start, sym (upper-start Upper level r refl refl (omega arith)), (inr l, refl))
 
-pub record Standing (h : Handle) (r : MemoryRegion) : Type 0 where
+pub record RegionStands (h : Handle) (r : MemoryRegion) : Type 0 where
   pub forwards : ¬ (Backwards r)
   pub within : (a : VirtualAddress) → ¬ (BeyondRange (h .range) (h .level) r a)
 
@@ -90,7 +90,7 @@ abbrev pub RegionTold : Handle → MemoryRegion → Type 0
 RegionTold h r =
     ((verify h r ≡ Refused (RegionBackwards r)) × Backwards r)
     ⊎ (((a : VirtualAddress) × (verify h r ≡ Refused (AddressRange a)) × (¬ (Backwards r)) × BeyondRange (h .range) (h .level) r a)
-    ⊎ ((verify h r ≡ Accepted) × Standing h r))
+    ⊎ ((verify h r ≡ Accepted) × RegionStands h r))
 
 pub region-told : (h : Handle) (r : MemoryRegion) → RegionTold h r
 region-told h r = ⊎-elim ahead (λ l. inl (sym (verify-backwards h r l), l)) (le-or (r .start .0) (r .end .0))

@@ -23,13 +23,13 @@ use Rattle.theory_walk.specs.AsBefore.{walkOf, mapped, shown}
 use Rattle.list.specs.Call.{listCall}
 use Rattle.list.specs.declared.Listed.the-variants as listed
 use Rattle.map_spec.specs.Call.{mapCall}
-use Rattle.theory_map.specs.Terms.{Call, Maps, Valid, InRegion, frameFor, Apart, InTurn, none, next, InSpan}
+use Rattle.theory_map.specs.Terms.{MapArguments, Maps, Valid, InMapRegion, frameFor, RegionsApart, InTurn, none, next, InSpan}
 use Rattle.theory_map.specs.Call.{call-shaped}
 use Rattle.theory_map.specs.Mapped.{map-keeps-sound, map-region-walks, map-elsewhere-as-before}
 use Rattle.modify.specs.declared.Modified.the-variants as modified
 use Rattle.modify.specs.Call.{Modifying, modifyCall}
 use Rattle.theory_demands.specs.Slip.{MakeSlip, CheckSlip, LookUpSlip, ImageSlip, ListSlip, MapSlip, ModifySlip}
-use Rattle.theory_demands.specs.Told.{Lowest, Told, exactly}
+use Rattle.theory_demands.specs.Told.{LowestGiven, Told, exactly}
 use Rattle.theory_demands.specs.Refused.{make-told, check-told, compact-told, look-up-told, image-told, list-told, map-told}
 use Rattle.theory_demands.specs.Modify.{modify-told}
 
@@ -38,38 +38,38 @@ use Rattle.theory_demands.specs.Modify.{modify-told}
 -- (`map-told` and its like say more: what is carried, and that nothing on the slip means no refusal.)
 
 pub make-refused-exactly : (h : Handle) (s : St) (n : ℕ)
-    → ((r : Refusal) × (makeCall h s .answer ≡ outcome.Refused r) × (number r ≡ n)) ↔ ((r : Refusal) × Lowest (MakeSlip h s) r × (number r ≡ n))
+    → ((r : Refusal) × (makeCall h s .answer ≡ outcome.Refused r) × (number r ≡ n)) ↔ ((r : Refusal) × LowestGiven (MakeSlip h s) r × (number r ≡ n))
 make-refused-exactly h s n = exactly (make-told h s) (λ r q e. cc e) n
 
 pub check-refused-exactly : (h : Handle) (s : St) (n : ℕ)
-    → ((r : Refusal) × (checkCall h s ≡ outcome.Refused r) × (number r ≡ n)) ↔ ((r : Refusal) × Lowest (CheckSlip h s) r × (number r ≡ n))
+    → ((r : Refusal) × (checkCall h s ≡ outcome.Refused r) × (number r ≡ n)) ↔ ((r : Refusal) × LowestGiven (CheckSlip h s) r × (number r ≡ n))
 check-refused-exactly h s n = exactly (check-told h s) (λ r q e. cc e) n
 
 pub compact-refused-exactly : (h : Handle) (s : St) (n : ℕ)
-    → ((r : Refusal) × (compactCall h s .answer ≡ counted.Refused r) × (number r ≡ n)) ↔ ((r : Refusal) × Lowest (CheckSlip h s) r × (number r ≡ n))
+    → ((r : Refusal) × (compactCall h s .answer ≡ counted.Refused r) × (number r ≡ n)) ↔ ((r : Refusal) × LowestGiven (CheckSlip h s) r × (number r ≡ n))
 compact-refused-exactly h s n = exactly (compact-told h s) (λ r q e. cc e) n
 
 pub look-up-refused-exactly : (h : Handle) (s : St) (va n : ℕ)
-    → ((r : Refusal) × (lookUpCall h s va ≡ looked.Refused r) × (number r ≡ n)) ↔ ((r : Refusal) × Lowest (LookUpSlip h s va) r × (number r ≡ n))
+    → ((r : Refusal) × (lookUpCall h s va ≡ looked.Refused r) × (number r ≡ n)) ↔ ((r : Refusal) × LowestGiven (LookUpSlip h s va) r × (number r ≡ n))
 look-up-refused-exactly h s va n = exactly (look-up-told h s va) (λ r q e. cc e) n
 
 pub image-refused-exactly : (h : Handle) (s : St) (k : ℕ) (page : List ℕ) (n : ℕ)
-    → ((r : Refusal) × (imageCall h s k page .answer ≡ outcome.Refused r) × (number r ≡ n)) ↔ ((r : Refusal) × Lowest (ImageSlip h s k page) r × (number r ≡ n))
+    → ((r : Refusal) × (imageCall h s k page .answer ≡ outcome.Refused r) × (number r ≡ n)) ↔ ((r : Refusal) × LowestGiven (ImageSlip h s k page) r × (number r ≡ n))
 image-refused-exactly h s k page n = exactly (image-told h s k page) (λ r q e. cc e) n
 
 pub list-refused-exactly : (h : Handle) (s : St) (start end : ℕ) (list : List ℕ) (n : ℕ)
-    → ((r : Refusal) × (listCall h s start end list .answer ≡ listed.Refused r) × (number r ≡ n)) ↔ ((r : Refusal) × Lowest (ListSlip h s start end list) r × (number r ≡ n))
+    → ((r : Refusal) × (listCall h s start end list .answer ≡ listed.Refused r) × (number r ≡ n)) ↔ ((r : Refusal) × LowestGiven (ListSlip h s start end list) r × (number r ≡ n))
 list-refused-exactly h s start end list n = exactly (list-told h s start end list) (λ r q e. cc e) n
 
 pub map-refused-exactly : (h : Handle) (s : St) (start end frame flags constraints n : ℕ)
     → ((r : Refusal) × (mapCall h start end frame flags constraints s .answer ≡ counted.Refused r) × (number r ≡ n))
-    ↔ ((r : Refusal) × Lowest (MapSlip h s start end frame flags constraints) r × (number r ≡ n))
+    ↔ ((r : Refusal) × LowestGiven (MapSlip h s start end frame flags constraints) r × (number r ≡ n))
 map-refused-exactly h s start end frame flags constraints n = exactly (map-told h s start end frame flags constraints) (λ r q e. cc e) n
 
 module _ (h : Handle) (s : St) (start end set clear : ℕ) (live : Bool) (list : List ℕ) where
   pub modify-refused-exactly : (n : ℕ)
       → ((r : Refusal) × (modifyCall h start end set clear live s list .answer ≡ modified.Refused r) × (number r ≡ n))
-      ↔ ((r : Refusal) × Lowest (ModifySlip h s start end set clear live list) r × (number r ≡ n))
+      ↔ ((r : Refusal) × LowestGiven (ModifySlip h s start end set clear live list) r × (number r ≡ n))
   modify-refused-exactly n = exactly answered (λ r q e. cc e) n
     where
       answered : Told (ModifySlip h s start end set clear live list) modified.Refused (modifyCall h start end set clear live s list .answer)
@@ -77,7 +77,7 @@ module _ (h : Handle) (s : St) (start end set clear : ℕ) (live : Bool) (list :
 
 -- ---- DEMAND 2, after an accepted map: "each table in use hangs from the root exactly once"
 
-module _ {h : Handle} {c : Call} {s s′ : St} {n : ℕ} (maps : Maps h c s n s′) where
+module _ {h : Handle} {c : MapArguments} {s s′ : St} {n : ℕ} (maps : Maps h c s n s′) where
   -- by a path of slots from the root ..
   pub map-tables-hang : {j : ℕ} → InUse s′ j → (slots : List ℕ) × Follows h s′ 0 slots j
   map-tables-hang inUse = reach (call-shaped maps) (map-keeps-sound maps) inUse
@@ -102,13 +102,13 @@ module _ {h : Handle} {c : Call} {s s′ : St} {n : ℕ} (maps : Maps h c s n s�
 
 -- ---- DEMAND 3: the walk that both orders leave is "the one demand 2 gives"
 
-module _ {h : Handle} {c d : Call} {s s′ : St} (apart : Apart c d) where
+module _ {h : Handle} {c d : MapArguments} {s s′ : St} (apart : RegionsApart c d) where
   -- each page of either region walks to its frame and flags, every other address as before both
-  pub both-first : InTurn h (c ∷ d ∷ []) s s′ → Valid c → (va : ℕ) → InSpan h va → InRegion c va → shown (walkOf h s′ va) ≡ mapped (c .flags) (frameFor c va)
+  pub both-first : InTurn h (c ∷ d ∷ []) s s′ → Valid c → (va : ℕ) → InSpan h va → InMapRegion c va → shown (walkOf h s′ va) ≡ mapped (c .flags) (frameFor c va)
   both-first (next maps (next later none)) valid va spans at = map-elsewhere-as-before later va spans (apart va at) ∙ map-region-walks maps va at valid
 
-  pub both-second : InTurn h (c ∷ d ∷ []) s s′ → Valid d → (va : ℕ) → InRegion d va → shown (walkOf h s′ va) ≡ mapped (d .flags) (frameFor d va)
+  pub both-second : InTurn h (c ∷ d ∷ []) s s′ → Valid d → (va : ℕ) → InMapRegion d va → shown (walkOf h s′ va) ≡ mapped (d .flags) (frameFor d va)
   both-second (next maps (next later none)) valid va at = map-region-walks later va at valid
 
-  pub both-elsewhere : InTurn h (c ∷ d ∷ []) s s′ → (va : ℕ) → InSpan h va → ¬ (InRegion c va) → ¬ (InRegion d va) → shown (walkOf h s′ va) ≡ shown (walkOf h s va)
+  pub both-elsewhere : InTurn h (c ∷ d ∷ []) s s′ → (va : ℕ) → InSpan h va → ¬ (InMapRegion c va) → ¬ (InMapRegion d va) → shown (walkOf h s′ va) ≡ shown (walkOf h s va)
   both-elsewhere (next maps (next later none)) va spans first second = map-elsewhere-as-before later va spans second ∙ map-elsewhere-as-before maps va spans first

@@ -19,8 +19,8 @@ use Rattle.theory_walk.specs.AsBefore.{walkOf, mapped, hole, shown}
 use Rattle.compact_spec.specs.Call.{compacted, compactCall}
 use Rattle.theory_compact.specs.Compacted.{compact-answers, compact-keeps-sound, compact-walks-as-before, compact-leaves-no-empty-table, compact-again-answers}
 use Rattle.theory_compact.specs.Compacted.{compact-never-more-tables}
-use Rattle.theory_map.specs.Terms.{Lawful, InSpan}
-use Rattle.theory_modify.specs.Terms.{Call, Modifies, InRegion, flagsAfter, madeBy, numbersOf}
+use Rattle.theory_map.specs.Terms.{ShapedSound, InSpan}
+use Rattle.theory_modify.specs.Terms.{ModifyArguments, Modifies, InModifyRegion, flagsAfter, madeByModify, numbersOf}
 use Rattle.theory_modify.specs.Modified.{modify-keeps-sound, modify-valid-pages, modify-cleared-pages, modify-holes-stay, modify-elsewhere-as-before, modify-tables-in-use}
 use Rattle.theory_modify.specs.Modified.{modify-list-untouched, modify-list-exactly}
 use Rattle.theory_demands.specs.Decided.{well-shaped}
@@ -50,7 +50,7 @@ pub record Compacts (h : Handle) (s : St) : Type 0 where
   -- the count never rises
   pub fewer : used (compacted h s .ledger) ≤ used (s .ledger)
 
-pub compact-promises : (h : Handle) (s : St) → Lawful h s → Compacts h s
+pub compact-promises : (h : Handle) (s : St) → ShapedSound h s → Compacts h s
 compact-promises h s law = record {
   answers = compact-answers (law .shape) (law .pool);
   sound = compact-keeps-sound (law .shape) (law .pool);
@@ -62,21 +62,21 @@ compact-promises h s law = record {
 
 -- ---- an accepted modify
 
-pub record Modified (h : Handle) (c : Call) (s : St) (list : List ℕ) (n k : ℕ) (s′ : St) (list′ : List ℕ) : Type 0 where
+pub record Modified (h : Handle) (c : ModifyArguments) (s : St) (list : List ℕ) (n k : ℕ) (s′ : St) (list′ : List ℕ) : Type 0 where
   pub sound : SoundPool h s′
   -- a page of the region that was mapped: the same frame, with flags (flags or set) without clear; a hole with these where that clears VALID;
-  pub valid : (va f p : ℕ) → InRegion c va → shown (walkOf h s va) ≡ mapped f p → flagsAfter c f % 2 ≡ 1 → shown (walkOf h s′ va) ≡ mapped (flagsAfter c f) p
-  pub cleared : (va f p : ℕ) → InRegion c va → shown (walkOf h s va) ≡ mapped f p → flagsAfter c f % 2 ≡ 0 → shown (walkOf h s′ va) ≡ hole (flagsAfter c f)
+  pub valid : (va f p : ℕ) → InModifyRegion c va → shown (walkOf h s va) ≡ mapped f p → flagsAfter c f % 2 ≡ 1 → shown (walkOf h s′ va) ≡ mapped (flagsAfter c f) p
+  pub cleared : (va f p : ℕ) → InModifyRegion c va → shown (walkOf h s va) ≡ mapped f p → flagsAfter c f % 2 ≡ 0 → shown (walkOf h s′ va) ≡ hole (flagsAfter c f)
   -- holes and every other address as before;
-  pub holes : (va f : ℕ) → InRegion c va → shown (walkOf h s va) ≡ hole f → shown (walkOf h s′ va) ≡ hole f
-  pub elsewhere : (va : ℕ) → InSpan h va → ¬ (InRegion c va) → shown (walkOf h s′ va) ≡ shown (walkOf h s va)
+  pub holes : (va f : ℕ) → InModifyRegion c va → shown (walkOf h s va) ≡ hole f → shown (walkOf h s′ va) ≡ hole f
+  pub elsewhere : (va : ℕ) → InSpan h va → ¬ (InModifyRegion c va) → shown (walkOf h s′ va) ≡ shown (walkOf h s va)
   -- the answer: the tables in use afterwards, those before and those made;
-  pub tables : (n ≡ used (s′ .ledger)) × (used (s′ .ledger) ≡ used (s .ledger) + madeBy h c s)
+  pub tables : (n ≡ used (s′ .ledger)) × (used (s′ .ledger) ≡ used (s .ledger) + madeByModify h c s)
   -- the list: untouched, or, live, the numbers of the entries that changed, then what it held
   pub untouched : c .live ≡ false → list′ ≡ list
   pub listed : c .live ≡ true → (k ≡ length (numbersOf h c s)) × (k ≤ length list) × (list′ ≡ numbersOf h c s ++ drop k list)
 
-pub modify-promises : {h : Handle} {c : Call} {s s′ : St} {list list′ : List ℕ} {n k : ℕ} → Modifies h c s list n k s′ list′ → Modified h c s list n k s′ list′
+pub modify-promises : {h : Handle} {c : ModifyArguments} {s s′ : St} {list list′ : List ℕ} {n k : ℕ} → Modifies h c s list n k s′ list′ → Modified h c s list n k s′ list′
 modify-promises call = record {
   sound = modify-keeps-sound call;
   valid = λ va f p at was v. modify-valid-pages call va at was v;

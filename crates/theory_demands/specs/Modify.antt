@@ -27,16 +27,16 @@ use Rattle.region_verify.specs.Verify.{endFits, verify}
 use Rattle.modify_entry.specs.declared.Edit.{Edit}
 use Rattle.modify_survey.specs.declared.Survey.{Survey}
 use Rattle.modify.specs.declared.Modified.the-variants as modified
-use Rattle.modify_verify.specs.Permit.{asked, verifyBits, verifyEdit, verifySurvey, bits-set-invalid, bits-clear-invalid, bits-set-outside, bits-set-valid, bits-clash, bits-clear-outside}
+use Rattle.modify_verify.specs.Permit.{askedEdit, verifyBits, verifyEdit, verifySurvey, bits-set-invalid, bits-clear-invalid, bits-set-outside, bits-set-valid, bits-clash, bits-clear-outside}
 use Rattle.modify_verify.specs.Permit.{bits-accepted, edit-end, edit-bits, edit-region, survey-full, survey-off, survey-broken, survey-short, survey-accepted}
 use Rattle.modify.specs.Call.{Modifying, modifying, answerOf, editTables, surveyOf, modifySound, modifyCall, sound-not, sound-refused, sound-edited, call-misshaped, call-refused}
 use Rattle.modify.specs.Call.{call-asked}
-use Rattle.theory_modify.specs.Terms.{Call, Passed}
-use Rattle.theory_modify.specs.House.{Lowest as LowestBreach}
+use Rattle.theory_modify.specs.Terms.{ModifyArguments, ModifyPassed}
+use Rattle.theory_modify.specs.House.{LowestBreach}
 use Rattle.theory_modify.specs.Modified.{house-rule-lowest}
 use Rattle.theory_demands.specs.Slip.{Misshaped, BadEnd, HasBit1, OutsideSet, Backwards, BeyondRange, BadBit, BadToSet, BadFlags, ModifySlip}
-use Rattle.theory_demands.specs.Told.{Lowest, none-below, number-range, shape-lowest}
-use Rattle.theory_demands.specs.Decided.{misshaped, well-shaped, not-misshaped, unsound, sound, Standing, region-told, end-told, set-told}
+use Rattle.theory_demands.specs.Told.{LowestGiven, none-below, number-range, shape-lowest}
+use Rattle.theory_demands.specs.Decided.{misshaped, well-shaped, not-misshaped, unsound, sound, RegionStands, region-told, end-told, set-told}
 
 -- ---- 3 and 4, decided
 
@@ -98,9 +98,9 @@ module _ (h : Handle) (s : St) (start end set clear : ℕ) (live : Bool) (list :
   Here = ModifySlip h s start end set clear live list
 
   abbrev e : Edit
-  e = asked start end set clear live
+  e = askedEdit start end set clear live
 
-  abbrev c : Call
+  abbrev c : ModifyArguments
   c = record { start = start; end = end; set = set; clear = clear; live = live }
 
   abbrev v : Survey
@@ -123,10 +123,10 @@ module _ (h : Handle) (s : St) (start end set clear : ℕ) (live : Bool) (list :
 
   -- refused by the lowest, with pool and list as they were; or nothing is on the slip and it is no refusal
   abbrev Goal : Type 0
-  Goal = ((x : Refusal) × (Whole ≡ modifying (modified.Refused x) s list) × Lowest Here x) ⊎ (((q : Refusal) → ¬ (Here q)) × ((x : Refusal) → Whole .answer ≢ modified.Refused x))
+  Goal = ((x : Refusal) × (Whole ≡ modifying (modified.Refused x) s list) × LowestGiven Here x) ⊎ (((q : Refusal) → ¬ (Here q)) × ((x : Refusal) → Whole .answer ≢ modified.Refused x))
 
   module _ (fits : shaped h s ≡ true) where
-    refused-by : (x : Refusal) → Refused x ≡ verifyEdit h end e → Lowest Here x → Goal
+    refused-by : (x : Refusal) → Refused x ≡ verifyEdit h end e → LowestGiven Here x → Goal
     refused-by x is lowest = inl (x, sym (call-refused h start end set clear live s list fits is x refl), lowest)
 
     bad-end : (endFits end ≡ false) × BadEnd end → Goal
@@ -141,7 +141,7 @@ module _ (h : Handle) (s : St) (start end set clear : ℕ) (live : Bool) (list :
 
     module _ (ends : endFits end ≡ true) (good : ¬ (BadEnd end)) where
       bad-bit : ((f : ℕ) × (Refused (InvalidFlags f) ≡ verifyBits h set clear) × BadBit set clear f) → Goal
-      unfolding ModifySlip asked
+      unfolding ModifySlip askedEdit
       bad-bit x = refused-by (InvalidFlags (x .0)) (edit-bits h end e ends (x .1) (InvalidFlags (x .0)) refl) (record {
         given = x .2;
         lower = below 3 (λ l. not-misshaped h s fits) (λ l. good) (λ l. absurd (omega arith)) (λ l. absurd (omega arith)) (λ l. absurd (omega arith)) (λ l. absurd (omega arith))
@@ -149,7 +149,7 @@ module _ (h : Handle) (s : St) (start end set clear : ℕ) (live : Bool) (list :
       })
 
       bad-flags : ((f : ℕ) × (Refused (FlagSet f) ≡ verifyBits h set clear) × ((g : ℕ) → ¬ (BadBit set clear g)) × BadFlags h set clear f) → Goal
-      unfolding ModifySlip asked
+      unfolding ModifySlip askedEdit
       bad-flags x = refused-by (FlagSet (x .0)) (edit-bits h end e ends (x .1) (FlagSet (x .0)) refl) (record {
         given = x .3;
         lower = below 4 (λ l. not-misshaped h s fits) (λ l. good) (λ l. x .2) (λ l. absurd (omega arith)) (λ l. absurd (omega arith)) (λ l. absurd (omega arith))
@@ -158,7 +158,7 @@ module _ (h : Handle) (s : St) (start end set clear : ℕ) (live : Bool) (list :
 
       module _ (bits : (Accepted ≡ verifyBits h set clear) × ((g : ℕ) → ¬ (BadBit set clear g)) × ((g : ℕ) → ¬ (BadFlags h set clear g))) where
         region-is : verify h r ≡ verifyEdit h end e
-        unfolding asked
+        unfolding askedEdit
         region-is = edit-region h end e ends (bits .0) refl
 
         backwards : (verify h r ≡ Refused (RegionBackwards r)) × Backwards r → Goal
@@ -177,7 +177,7 @@ module _ (h : Handle) (s : St) (start end set clear : ℕ) (live : Bool) (list :
               (λ l. absurd (omega arith)) (λ l. absurd (omega arith)) (λ l. absurd (omega arith)) (λ l. absurd (omega arith));
         })
 
-        module _ (stands : (verify h r ≡ Accepted) × Standing h r) where
+        module _ (stands : (verify h r ≡ Accepted) × RegionStands h r) where
           whole-is : modifySound h e s list ≡ Whole
           whole-is = call-asked h start end set clear live s list fits region-is (stands .0)
 
@@ -197,7 +197,7 @@ module _ (h : Handle) (s : St) (start end set clear : ℕ) (live : Bool) (list :
           )
 
           module _ (is : soundb h s ≡ true) where
-            passed : Passed h c s
+            passed : ModifyPassed h c s
             passed = record { shape = well-shaped h s fits; asks = sym region-is ∙ stands .0; pool = sound h s fits is }
 
             -- what the survey finds is the lowest breach by the walk
@@ -210,13 +210,13 @@ module _ (h : Handle) (s : St) (start end set clear : ℕ) (live : Bool) (list :
                 let o : _≡_ {A = ℕ} 0 1 = cc in
                 omega arith
 
-            surveyed : {x : Outcome} → x ≡ verifySurvey (free (s .ledger)) (length list) live v → (y : Refusal) → x ≡ Refused y → Lowest Here y → Goal
-            unfolding asked
+            surveyed : {x : Outcome} → x ≡ verifySurvey (free (s .ledger)) (length list) live v → (y : Refusal) → x ≡ Refused y → LowestGiven Here y → Goal
+            unfolding askedEdit
             surveyed told y q lowest = inl (y, sym (sound-refused h e s list is refl refl told y q ∙ whole-is), lowest)
 
             done : Accepted ≡ verifySurvey (free (s .ledger)) (length list) live v → v .splits ≤ free (s .ledger)
                 → (live ≡ true → (v .broken ≡ false) × (v .numbers ≤ length list)) → Goal
-            unfolding asked
+            unfolding askedEdit
             done told room rest = inr (
               (λ q. lower 12 (λ l g. g (sound h s fits is)) (λ l. room) (λ l w g. no-breach (rest (g .0) .0) w g)
                   (λ l on. rest on .1) q (number-range q .1)),

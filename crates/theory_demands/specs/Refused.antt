@@ -37,12 +37,12 @@ use Rattle.list.specs.declared.Listed.{Listed}
 use Rattle.list.specs.declared.Listed.the-variants as listed
 use Rattle.map_count_spec.specs.Needed.{needed}
 use Rattle.map_rules.specs.declared.Map.{Map}
-use Rattle.map_verify.specs.Ask.{asked, frameAsked, verifyMap, ask-end, ask-invalid, ask-set, ask-region, ask-frame}
+use Rattle.map_verify.specs.Ask.{askedMap, frameAsked, verifyMap, ask-end, ask-invalid, ask-set, ask-region, ask-frame}
 use Rattle.map_spec.specs.Call.{putDown, mapSound, mapCall, sound-not, sound-full, sound-mapped, call-misshaped, call-refused, call-asked}
 use Rattle.theory_demands.specs.Slip.{Misshaped, BadEnd, HasBit1, OutsideSet, Backwards, BeyondRange, BeyondSpan, BadFrame, MakeSlip, CheckSlip, LookUpSlip, ImageSlip, ListSlip}
 use Rattle.theory_demands.specs.Slip.{MapSlip}
-use Rattle.theory_demands.specs.Told.{Lowest, Told, none-below, number-range, shape-lowest}
-use Rattle.theory_demands.specs.Decided.{misshaped, not-misshaped, unsound, sound, Standing, region-told, accepted-not, end-told, set-told, span-told, frame-told}
+use Rattle.theory_demands.specs.Told.{LowestGiven, Told, none-below, number-range, shape-lowest}
+use Rattle.theory_demands.specs.Decided.{misshaped, not-misshaped, unsound, sound, RegionStands, region-told, accepted-not, end-told, set-told, span-told, frame-told}
 
 -- ---- make: 1
 
@@ -222,7 +222,7 @@ module _ (h : Handle) (s : St) (start end : ℕ) (list : List ℕ) where
         },
       )
 
-      module _ (stands : (verify h (rounded start end) ≡ Accepted) × Standing h (rounded start end)) where
+      module _ (stands : (verify h (rounded start end) ≡ Accepted) × RegionStands h (rounded start end)) where
         region-ok : Accepted ≡ verifyEnds h start end
         region-ok = sym (stands .0) ∙ ends-fit h start end ends refl
 
@@ -282,10 +282,10 @@ module _ (h : Handle) (s : St) (start end frame flags constraints : ℕ) where
   MapHere = MapSlip h s start end frame flags constraints
 
   abbrev need : ℕ
-  need = needed (3 - h .level) h s 0 (asked start end frame flags constraints)
+  need = needed (3 - h .level) h s 0 (askedMap start end frame flags constraints)
 
   abbrev m : Map
-  m = asked start end frame flags constraints
+  m = askedMap start end frame flags constraints
 
   map-below : (n : ℕ) → (1 < n → ¬ (Misshaped h s)) → (2 < n → ¬ (BadEnd end)) → (3 < n → ¬ (HasBit1 flags)) → (4 < n → ¬ (OutsideSet h flags))
       → (5 < n → ¬ (Backwards (rounded start end))) → (6 < n → (a : VirtualAddress) → ¬ (BeyondRange (h .range) (h .level) (rounded start end) a))
@@ -299,7 +299,7 @@ module _ (h : Handle) (s : St) (start end frame flags constraints : ℕ) where
 
   -- refused for its arguments, whatever the refusal
   module _ (fits : shaped h s ≡ true) where
-    map-refused : (r : Refusal) → Refused r ≡ verifyMap h end m → Lowest MapHere r → MapGoal
+    map-refused : (r : Refusal) → Refused r ≡ verifyMap h end m → LowestGiven MapHere r → MapGoal
     map-refused r e lowest = inl (r, sym (answer-same (call-refused h start end frame flags constraints s fits e r refl)), lowest)
 
     map-end : (endFits end ≡ false) × BadEnd end → MapGoal
@@ -314,7 +314,7 @@ module _ (h : Handle) (s : St) (start end frame flags constraints : ℕ) where
 
     module _ (ends : endFits end ≡ true) (good : ¬ (BadEnd end)) where
       map-bit : HasBit1 flags → MapGoal
-      unfolding MapSlip asked
+      unfolding MapSlip askedMap
       map-bit x = map-refused (InvalidFlags flags) (ask-invalid h end m ends x) (record {
         given = (refl, x);
         lower =
@@ -324,7 +324,7 @@ module _ (h : Handle) (s : St) (start end frame flags constraints : ℕ) where
 
       module _ (plain : ¬ (HasBit1 flags)) where
         map-set : (only (flagSet h) flags ≡ false) × OutsideSet h flags → MapGoal
-        unfolding MapSlip asked
+        unfolding MapSlip askedMap
         map-set x = map-refused (FlagSet flags) (ask-set h end m ends plain (x .0)) (record {
           given = (refl, x .1);
           lower = map-below 4 (λ l. not-misshaped h s fits) (λ l. good) (λ l. plain) (λ l. absurd (omega arith)) (λ l. absurd (omega arith)) (λ l. absurd (omega arith))
@@ -333,7 +333,7 @@ module _ (h : Handle) (s : St) (start end frame flags constraints : ℕ) where
 
         module _ (from : (only (flagSet h) flags ≡ true) × (¬ (OutsideSet h flags))) where
           map-backwards : (verify h (rounded start end) ≡ Refused (RegionBackwards (rounded start end))) × Backwards (rounded start end) → MapGoal
-          unfolding MapSlip asked
+          unfolding MapSlip askedMap
           map-backwards x =
               map-refused (RegionBackwards (rounded start end)) (ask-region h end m ends plain (from .0) (sym (x .0)) (RegionBackwards (rounded start end)) refl) (record {
                 given = (refl, x .1);
@@ -343,16 +343,16 @@ module _ (h : Handle) (s : St) (start end frame flags constraints : ℕ) where
 
           map-beyond : ((a : VirtualAddress) × (verify h (rounded start end) ≡ Refused (AddressRange a)) × (¬ (Backwards (rounded start end)))
               × BeyondRange (h .range) (h .level) (rounded start end) a) → MapGoal
-          unfolding MapSlip asked
+          unfolding MapSlip askedMap
           map-beyond x = map-refused (AddressRange (x .0)) (ask-region h end m ends plain (from .0) (sym (x .1)) (AddressRange (x .0)) refl) (record {
             given = x .3;
             lower = map-below 6 (λ l. not-misshaped h s fits) (λ l. good) (λ l. plain) (λ l. from .1) (λ l. x .2) (λ l. absurd (omega arith))
                 (λ l. absurd (omega arith)) (λ l. absurd (omega arith)) (λ l. absurd (omega arith));
           })
 
-          module _ (stands : (verify h (rounded start end) ≡ Accepted) × Standing h (rounded start end)) where
+          module _ (stands : (verify h (rounded start end) ≡ Accepted) × RegionStands h (rounded start end)) where
             framed : frameAsked frame (rounded start end .end .0 - rounded start end .start .0) ≡ verifyMap h end m
-            unfolding asked
+            unfolding askedMap
             framed = ask-frame h end m ends plain (from .0) (sym (stands .0)) refl
 
             map-frame : (frameAsked frame (rounded start end .end .0 - rounded start end .start .0) ≡ Refused (Frame (record { 0 = frame }))) × BadFrame frame (rounded start end)

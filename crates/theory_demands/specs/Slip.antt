@@ -24,10 +24,10 @@ use Rattle.theory_sound.specs.Clauses.{SoundPool}
 use Rattle.arm.specs.Arm.{walk, outside}
 use Rattle.list_lines.specs.Lines.{linesOf}
 use Rattle.map_count_spec.specs.Needed.{needed}
-use Rattle.map_verify.specs.Ask.{asked}
-use Rattle.modify_verify.specs.Permit.{asked as askedEdit}
+use Rattle.map_verify.specs.Ask.{askedMap}
+use Rattle.modify_verify.specs.Permit.{askedEdit}
 use Rattle.modify.specs.Call.{surveyOf}
-use Rattle.theory_modify.specs.House.{Lowest as LowestBreach}
+use Rattle.theory_modify.specs.House.{LowestBreach}
 
 -- ---- "Given exactly when"
 
@@ -150,7 +150,7 @@ MapSlip h s start end frame flags constraints (AddressRange a) = BeyondRange (h 
 MapSlip h s start end frame flags constraints (Frame f) = (f .0 ≡ frame) × BadFrame frame (rounded start end)
 MapSlip h s start end frame flags constraints Unsound = ¬ (SoundPool h s)
 MapSlip h s start end frame flags constraints (WantOfRoom n f) =
-    (n ≡ needed (3 - h .level) h s 0 (asked start end frame flags constraints)) × (f ≡ free (s .ledger)) × (f < n)
+    (n ≡ needed (3 - h .level) h s 0 (askedMap start end frame flags constraints)) × (f ≡ free (s .ledger)) × (f < n)
 MapSlip h s start end frame flags constraints (HouseRule w) = ⊥
 MapSlip h s start end frame flags constraints (Short n) = ⊥
 

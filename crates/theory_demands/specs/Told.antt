@@ -12,31 +12,31 @@ use Rattle.pool.specs.declared.Refusal.{Refusal}
 use Rattle.pool.specs.declared.Refusal.the-variants.{Shape, End, InvalidFlags, FlagSet, RegionBackwards, AddressRange, Frame, Unsound, WantOfRoom, HouseRule, Short}
 
 -- r is on the slip, and nothing of a lower number is
-pub record Lowest (Slip : Refusal → Type 0) (r : Refusal) : Type 0 where
+pub record LowestGiven (Slip : Refusal → Type 0) (r : Refusal) : Type 0 where
   pub given : Slip r
   pub lower : (q : Refusal) → number q < number r → ¬ (Slip q)
 
 -- an answer is refused by the lowest, or nothing is on the slip and it is no refusal
 abbrev pub Told : {A : Type 0} → (Refusal → Type 0) → (Refusal → A) → A → Type 0
-Told Slip refused answer = ((r : Refusal) × (answer ≡ refused r) × Lowest Slip r) ⊎ (((q : Refusal) → ¬ (Slip q)) × ((r : Refusal) → answer ≢ refused r))
+Told Slip refused answer = ((r : Refusal) × (answer ≡ refused r) × LowestGiven Slip r) ⊎ (((q : Refusal) → ¬ (Slip q)) × ((r : Refusal) → answer ≢ refused r))
 
 module _ {A : Type 0} {Slip : Refusal → Type 0} {refused : Refusal → A} {answer : A} (told : Told Slip refused answer) where
   -- A REFUSAL IS GIVEN EXACTLY WHEN IT IS THE LOWEST ON THE SLIP
   pub exactly : ((r q : Refusal) → refused r ≡ refused q → r ≡ q) → (n : ℕ)
-      → ((r : Refusal) × (answer ≡ refused r) × (number r ≡ n)) ↔ ((r : Refusal) × Lowest Slip r × (number r ≡ n))
+      → ((r : Refusal) × (answer ≡ refused r) × (number r ≡ n)) ↔ ((r : Refusal) × LowestGiven Slip r × (number r ≡ n))
   exactly same n = (there told, back told)
     where
-      there : Told Slip refused answer → ((r : Refusal) × (answer ≡ refused r) × (number r ≡ n)) → ((r : Refusal) × Lowest Slip r × (number r ≡ n))
+      there : Told Slip refused answer → ((r : Refusal) × (answer ≡ refused r) × (number r ≡ n)) → ((r : Refusal) × LowestGiven Slip r × (number r ≡ n))
       there (inl t) x = (t .0, t .2, rw (same (t .0) (x .0) (sym (t .1) ∙ x .1)) (x .2))
       there (inr t) x = absurd (t .1 (x .0) (x .1))
 
-      equal : (r q : Refusal) → Lowest Slip r → Lowest Slip q → (number r ≤ number q) ⊎ (number q < number r) → (number q ≤ number r) ⊎ (number r < number q)
+      equal : (r q : Refusal) → LowestGiven Slip r → LowestGiven Slip q → (number r ≤ number q) ⊎ (number q < number r) → (number q ≤ number r) ⊎ (number r < number q)
           → number r ≡ number q
       equal r q l m (inl a) (inl b) = omega arith
       equal r q l m (inl a) (inr b) = absurd (m .lower r b (l .given))
       equal r q l m (inr a) y = absurd (l .lower q a (m .given))
 
-      back : Told Slip refused answer → ((r : Refusal) × Lowest Slip r × (number r ≡ n)) → ((r : Refusal) × (answer ≡ refused r) × (number r ≡ n))
+      back : Told Slip refused answer → ((r : Refusal) × LowestGiven Slip r × (number r ≡ n)) → ((r : Refusal) × (answer ≡ refused r) × (number r ≡ n))
       back (inl t) x = (t .0, t .1, equal (t .0) (x .0) (t .2) (x .1) (le-or (number (t .0)) (number (x .0))) (le-or (number (x .0)) (number (t .0))) ∙ x .2)
       back (inr t) x = absurd (t .0 (x .0) (x .1 .given))
 
@@ -75,5 +75,5 @@ number-range (HouseRule w) = (omega arith, omega arith)
 number-range (Short k) = (omega arith, omega arith)
 
 -- a refusal 1 that is on the slip is the lowest
-pub shape-lowest : (Slip : Refusal → Type 0) → Slip Shape → Lowest Slip Shape
+pub shape-lowest : (Slip : Refusal → Type 0) → Slip Shape → LowestGiven Slip Shape
 shape-lowest Slip g = record { given = g; lower = λ q l s. let z = number-range q .0 in omega arith }

@@ -29,7 +29,7 @@ use Rattle.map_count_spec.specs.Needed.{needed}
 use Rattle.map_rules.specs.declared.Map.{Map}
 use Rattle.modify.specs.declared.Modified.{Modified}
 use Rattle.modify.specs.Call.{Modifying, modifying}
-use Rattle.map_verify.specs.Ask.{asked, verifyMap}
+use Rattle.map_verify.specs.Ask.{askedMap, verifyMap}
 use Rattle.map_spec.specs.Call.{putDown, mapSound, mapCall, sound-not, sound-full, sound-mapped, call-misshaped, call-refused, call-asked}
 use Rattle.theory_demands.specs.Decided.{accepted-not}
 
@@ -107,7 +107,7 @@ module _ (h : Handle) (s : St) (start end : ℕ) (list : List ℕ) {r : Refusal}
 
 module _ (h : Handle) (s : St) (start end frame flags constraints : ℕ) {r : Refusal} (q : mapCall h start end frame flags constraints s .answer ≡ counted.Refused r) where
   abbrev m : Map
-  m = asked start end frame flags constraints
+  m = askedMap start end frame flags constraints
 
   map-asked : shaped h s ≡ true → (x : Outcome) → x ≡ verifyMap h end m → mapCall h start end frame flags constraints s ≡ out (counted.Refused r) s
   unfolding putDown

@@ -13,7 +13,7 @@ use Rattle.theory_forest.specs.Under.{LevelsLeft}
 use Rattle.theory_forest.specs.Frame.{treeOf, slotTree, slot-refers}
 use Rattle.theory_forest.specs.Keep.{zero-fits, slot-leaf}
 use Rattle.theory_forest.specs.Free.{Clears}
-use Rattle.theory_forest.specs.Move.{Move, Work, move-skip, move-down, move-clear}
+use Rattle.theory_forest.specs.Move.{Move, TableMove, move-skip, move-down, move-clear}
 
 -- ---- a table whose 512 words are all 0
 
@@ -76,7 +76,7 @@ module _ {C : Codec} {s : State} (S : Sound C s) (rec : Tree → Tree) (depth : 
       let shows = slot-leaf C s (suc depth) k i low refl old in
       record { at = move-skip S (suc depth) k i .at; tree = shows ∙ sym (ap (squash rec) shows) }
 
-  module _ {s′ : State} {c : ℕ} (used : Used s k) (r : Refers C s k i c) (work : Work C s s′ depth c (rec (treeOf C s depth c))) where
+  module _ {s′ : State} {c : ℕ} (used : Used s k) (r : Refers C s k i c) (work : TableMove C s s′ depth c (rec (treeOf C s depth c))) where
     squashed : {b : Bool} → emptyWords (s′ .word c) ≡ b → squash rec (slotTree C s (suc depth) k i) ≡ cond b (leaf 0) (rec (treeOf C s depth c))
     unfolding squash treeAt
     squashed {b} test =

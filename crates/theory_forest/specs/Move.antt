@@ -1,4 +1,4 @@
--- The steps as moves: `Move s s′ left k i t` says that s′ differs from s only at slot i of table k, whose tree is now t; `Work` says the same of a
+-- The steps as moves: `Move s s′ left k i t` says that s′ differs from s only at slot i of table k, whose tree is now t; `TableMove` says the same of a
 -- whole table, `Runs` of its first slots. Assumes nothing.
 use mathlib.Core.Path.{_≡_, refl, ap, _∙_, subst⁻¹}
 use mathlib.Core.Logic.{_⊎_, inl, inr, _≢_}
@@ -11,7 +11,7 @@ use Rattle.theory_forest.specs.Under.{LevelsLeft, refers-over}
 use Rattle.theory_forest.specs.Frame.{treeOf, slotTree, slot-refers, change-slot}
 use Rattle.theory_forest.specs.Keep.{Fits, slot-leaf}
 use Rattle.theory_forest.specs.Store.{Stored, store-change, store-sound}
-use Rattle.theory_forest.specs.Split.{Splits, Fit, split-change, split-sound, new-refers}
+use Rattle.theory_forest.specs.Split.{Splits, SplitFits, split-change, split-sound, new-refers}
 use Rattle.theory_forest.specs.Free.{Frees, Clears, free-change, free-sound, free-empty-frees}
 use Rattle.theory_forest.specs.Place.{At, Over, slot-self, below-self, at-refl, at-trans, at-used, at-over, over-refl, over-trans, over-at, over-refers}
 
@@ -20,7 +20,7 @@ module _ (C : Codec) where
     pub at : At C s s′ k i
     pub tree : slotTree C s′ depth k i ≡ t
 
-  pub record Work (s s′ : State) (depth k : ℕ) (t : Tree) : Type 0 where
+  pub record TableMove (s s′ : State) (depth k : ℕ) (t : Tree) : Type 0 where
     pub over : Over C s s′ k
     pub tree : treeOf C s′ depth k ≡ t
 
@@ -36,7 +36,7 @@ module _ {C : Codec} {s : State} (S : Sound C s) where
   pub move-skip : (depth k i : ℕ) → Move C s s depth k i (slotTree C s depth k i)
   move-skip depth k i = record { at = at-refl S; tree = refl }
 
-  pub work-skip : (depth k : ℕ) → Work C s s depth k (treeOf C s depth k)
+  pub work-skip : (depth k : ℕ) → TableMove C s s depth k (treeOf C s depth k)
   work-skip depth k = record { over = over-refl S; tree = refl }
 
 module _ {C : Codec} {s s′ : State} (S : Sound C s) where
@@ -54,11 +54,11 @@ module _ {C : Codec} {s s′ : State} (S : Sound C s) where
     }
 
   -- work in a child is a move at its slot
-  pub move-down : (depth : ℕ) {k i c : ℕ} {t : Tree} → Used s k → Refers C s k i c → Work C s s′ depth c t → Move C s s′ (suc depth) k i t
+  pub move-down : (depth : ℕ) {k i c : ℕ} {t : Tree} → Used s k → Refers C s k i c → TableMove C s s′ depth c t → Move C s s′ (suc depth) k i t
   move-down depth used r work = record { at = over-at S used r (work .over); tree = slot-refers depth (over-refers S used r (work .over)) ∙ work .tree }
 
 -- a split, and then work in the new table
-module _ {C : Codec} {s s′ : State} {k i f x : ℕ} {g : ℕ → ℕ} (S : Sound C s) (splits : Splits C s s′ k i f x g) (fit : Fit C s k i f x g)
+module _ {C : Codec} {s s′ : State} {k i f x : ℕ} {g : ℕ → ℕ} (S : Sound C s) (splits : Splits C s s′ k i f x g) (fit : SplitFits C s k i f x g)
     (used : Used s k) (inside : i < 512) (old : ¬ (IsTable C s k i)) (fresh : s .ledger f ≡ 0) where
   pub split-at : At C s s′ k i
   split-at = record {
@@ -67,7 +67,7 @@ module _ {C : Codec} {s s′ : State} {k i f x : ℕ} {g : ℕ → ℕ} (S : Sou
     ledger = λ j u off. splits .ledger j (λ e. omega (arith, u, fresh, ap (s .ledger) e));
   }
 
-  pub move-split : (depth : ℕ) {s″ : State} {t : Tree} → Work C s′ s″ depth f t → Move C s s″ (suc depth) k i t
+  pub move-split : (depth : ℕ) {s″ : State} {t : Tree} → TableMove C s′ s″ depth f t → Move C s s″ (suc depth) k i t
   move-split depth work =
       let move = move-down (split-at .sound) depth (at-used S split-at used slot-self) (new-refers S splits fit used inside old fresh) work in
       record { at = at-trans S split-at (move .at); tree = move .tree }
@@ -75,7 +75,7 @@ module _ {C : Codec} {s s′ : State} {k i f x : ℕ} {g : ℕ → ℕ} (S : Sou
 -- work in a child that leaves it all zero, and then the child cleared
 module _ {C : Codec} {s s′ s″ : State} (S : Sound C s) where
   pub move-clear : (depth : ℕ) {k i c v : ℕ} {t : Tree} → Used s k → i < 512 → LevelsLeft C s k (suc depth) → Fits C (s .ledger k) v → Refers C s k i c
-      → Work C s s′ depth c t → ((j : ℕ) → s′ .word c j ≡ 0) → Clears s′ s″ k i c v → Move C s s″ (suc depth) k i (leaf v)
+      → TableMove C s s′ depth c t → ((j : ℕ) → s′ .word c j ≡ 0) → Clears s′ s″ k i c v → Move C s s″ (suc depth) k i (leaf v)
   move-clear depth {k} {v = v} used inside low fits r work zeros clears =
       let S′ = work .over .sound in
       let r′ = over-refers S used r (work .over) in
@@ -118,7 +118,7 @@ module _ {C : Codec} {s : State} (S : Sound C s) where
 module _ {C : Codec} {s s′ : State} where
   -- a run over all 512 slots does h to each
   pub runs-work : {depth k : ℕ} (h : ℕ → Tree → Tree) → Runs C s s′ depth k 512 (λ i. h i (slotTree C s depth k i))
-      → Work C s s′ depth k (eachSlot h (treeOf C s depth k))
+      → TableMove C s s′ depth k (eachSlot h (treeOf C s depth k))
   runs-work {depth} {k} h runs = record {
     over = runs .over;
     tree = subst⁻¹ (λ (t : Tree). treeOf C s′ depth k ≡ eachSlot h t) (treeAt-node (C .child) depth (s .word) k)

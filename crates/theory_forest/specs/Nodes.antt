@@ -24,23 +24,23 @@ unfoldable pub inUse : ℕ → State → ℕ
 inUse n s = sum n (λ k. cond (eqb (s .ledger k) 0) 0 1)
 
 -- 1 for yes, 0 for no
-unfoldable pub tally {ℓ ℓ′} : {A : Type ℓ} {B : Type ℓ′} → A ⊎ B → ℕ
-tally (inl a) = 1
-tally (inr b) = 0
+unfoldable pub tallyEither {ℓ ℓ′} : {A : Type ℓ} {B : Type ℓ′} → A ⊎ B → ℕ
+tallyEither (inl a) = 1
+tallyEither (inr b) = 0
 
-tally-yes {ℓ ℓ′} : {A : Type ℓ} {B : Type ℓ′} (t : A ⊎ B) → ¬ B → tally t ≡ 1
-unfolding tally
+tally-yes {ℓ ℓ′} : {A : Type ℓ} {B : Type ℓ′} (t : A ⊎ B) → ¬ B → tallyEither t ≡ 1
+unfolding tallyEither
 tally-yes (inl a) never = refl
 tally-yes (inr b) never = absurd (never b)
 
-tally-no {ℓ ℓ′} : {A : Type ℓ} {B : Type ℓ′} (t : A ⊎ B) → ¬ A → tally t ≡ 0
-unfolding tally
+tally-no {ℓ ℓ′} : {A : Type ℓ} {B : Type ℓ′} (t : A ⊎ B) → ¬ A → tallyEither t ≡ 0
+unfolding tallyEither
 tally-no (inl a) never = absurd (never a)
 tally-no (inr b) never = refl
 
 -- 1 where j is c
 is : ℕ → ℕ → ℕ
-is c j = tally (eq-or j c)
+is c j = tallyEither (eq-or j c)
 
 is-yes : (c j : ℕ) → j ≡ c → is c j ≡ 1
 unfolding is
@@ -53,7 +53,7 @@ is-no c j ne = tally-no (eq-or j c) ne
 module _ (C : Codec) (s : State) where
   -- 1 where table j lies under c
   unfoldable pub lies : ℕ → ℕ → ℕ
-  lies c j = tally (under-or {C = C} {s = s} c j)
+  lies c j = tallyEither (under-or {C = C} {s = s} c j)
 
   pub lies-yes : (c d j : ℕ) → Under C s c d j → lies c j ≡ 1
   unfolding lies

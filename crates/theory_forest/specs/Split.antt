@@ -20,7 +20,7 @@ module _ (C : Codec) where
     pub ledger : (k : ℕ) → k ≢ f → s′ .ledger k ≡ s .ledger k
 
   -- x is a number for table f in slot i of table p, and the words g may stand there as leaves
-  pub record Fit (s : State) (p i f x : ℕ) (g : ℕ → ℕ) : Type 0 where
+  pub record SplitFits (s : State) (p i f x : ℕ) (g : ℕ → ℕ) : Type 0 where
     pub well : C .Well x (s .ledger p)
     pub used : 0 < x
     pub level : C .level x ≡ suc (levelIn C s p)
@@ -29,7 +29,7 @@ module _ (C : Codec) where
     pub fits : (j : ℕ) → j < 512 → Fits C x (g j)
     pub wide : (j : ℕ) → 512 ≤ j → g j ≡ 0
 
-module _ {C : Codec} {s s′ : State} {p i f x : ℕ} {g : ℕ → ℕ} (S : Sound C s) (splits : Splits C s s′ p i f x g) (fit : Fit C s p i f x g)
+module _ {C : Codec} {s s′ : State} {p i f x : ℕ} {g : ℕ → ℕ} (S : Sound C s) (splits : Splits C s s′ p i f x g) (fit : SplitFits C s p i f x g)
     (used : Used s p) (inside : i < 512) (old : ¬ (IsTable C s p i)) (fresh : s .ledger f ≡ 0) where
   -- a table that was in use is not the new one
   not-new : (k : ℕ) → Used s k → k ≢ f

@@ -9,15 +9,15 @@ use Rattle.theory_forest.specs.Sound.{State, Codec, Used, levelIn, paren
 
 module _ (C : Codec) where
   -- d steps up from table j
-  unfoldable pub up : State → ℕ → ℕ → ℕ
-  up s zero j = j
-  up s (suc d) j = up s d (parent C s j)
+  unfoldable pub ancestor : State → ℕ → ℕ → ℕ
+  ancestor s zero j = j
+  ancestor s (suc d) j = ancestor s d (parent C s j)
 
   -- table j lies d levels under table c: the ledger leads from j to c in d steps
   pub record Under (s : State) (c d j : ℕ) : Type 0 where
     pub used : Used s j
     pub deep : levelIn C s j ≡ levelIn C s c + d
-    pub leads : up s d j ≡ c
+    pub leads : ancestor s d j ≡ c
 
   -- neither c itself nor under it
   abbrev pub NotUnder : State → ℕ → ℕ → Type 0
@@ -28,25 +28,25 @@ module _ (C : Codec) where
   LevelsLeft s k depth = levelIn C s k + depth ≡ 3
 
 module _ (C : Codec) (s : State) where
-  up-suc : (d j : ℕ) → up C s (suc d) j ≡ parent C s (up C s d j)
-  unfolding up
+  up-suc : (d j : ℕ) → ancestor C s (suc d) j ≡ parent C s (ancestor C s d j)
+  unfolding ancestor
   up-suc zero j = refl
   up-suc (suc d) j = up-suc d (parent C s j)
 
-  up-add : (a b j : ℕ) → up C s (a + b) j ≡ up C s b (up C s a j)
-  unfolding up
-  up-add a zero j = ap (λ (d : ℕ). up C s d j) (add-zero a)
+  up-add : (a b j : ℕ) → ancestor C s (a + b) j ≡ ancestor C s b (ancestor C s a j)
+  unfolding ancestor
+  up-add a zero j = ap (λ (d : ℕ). ancestor C s d j) (add-zero a)
   up-add a (suc b) j =
       let e : a + suc b ≡ suc (a + b) = omega arith in
-      ap (λ (d : ℕ). up C s d j) e ∙ up-suc (a + b) j ∙ ap (parent C s) (up-add a b j) ∙ sym (up-suc b (up C s a j))
+      ap (λ (d : ℕ). ancestor C s d j) e ∙ up-suc (a + b) j ∙ ap (parent C s) (up-add a b j) ∙ sym (up-suc b (ancestor C s a j))
 
 module _ {C : Codec} {s : State} where
   pub under-self : {c : ℕ} → Used s c → Under C s c 0 c
-  unfolding up
+  unfolding ancestor
   under-self {c} used = record { used = used; deep = sym (add-zero (levelIn C s c)); leads = refl }
 
   pub under-zero : {c j : ℕ} → Under C s c 0 j → j ≡ c
-  unfolding up
+  unfolding ancestor
   under-zero under = under .leads
 
   -- what lies under a table that hangs lies under the table over it
@@ -58,23 +58,23 @@ module _ {C : Codec} {s : State} where
   }
 
   pub under-step : {c d j : ℕ} → Used s j → Hangs C s j → Under C s c d (parent C s j) → Under C s c (suc d) j
-  unfolding up
+  unfolding ancestor
   under-step used h under = record { used = used; deep = omega (arith, h .below, under .deep); leads = under .leads }
 
   -- SEPARATION: of one level, only one table is over j
   pub under-one : {c c′ d d′ j : ℕ} → levelIn C s c ≡ levelIn C s c′ → Under C s c d j → Under C s c′ d′ j → c ≡ c′
   under-one {c} {c′} {d} {d′} {j} level under under′ =
       let same : d ≡ d′ = omega (arith, under .deep, under′ .deep) in
-      sym (under .leads) ∙ ap (λ (m : ℕ). up C s m j) same ∙ under′ .leads
+      sym (under .leads) ∙ ap (λ (m : ℕ). ancestor C s m j) same ∙ under′ .leads
 
   -- what lies deeper than c is no root, so it hangs, from a table under c
   pub under-back : {c d j : ℕ} → Sound C s → Under C s c (suc d) j → Hangs C s j × Under C s c d (parent C s j)
-  unfolding up
+  unfolding ancestor
   under-back {c} {d} {j} S under = go (S .hangs j (under .used))
     where
-      stays : (m : ℕ) → parent C s j ≡ j → up C s m j ≡ j
+      stays : (m : ℕ) → parent C s j ≡ j → ancestor C s m j ≡ j
       stays zero e = refl
-      stays (suc m) e = ap (up C s m) e ∙ stays m e
+      stays (suc m) e = ap (ancestor C s m) e ∙ stays m e
 
       go : C .Root j (s .ledger j) ⊎ Hangs C s j → Hangs C s j × Under C s c d (parent C s j)
       go (inl root) =
@@ -87,7 +87,7 @@ module _ {C : Codec} {s : State} where
   under-chain {c} {e} {x} {m} {j} used under under′ = record {
     used = used;
     deep = omega (arith, under .deep, under′ .deep);
-    leads = ap (up C s x) (sym (under′ .leads)) ∙ sym (up-add C s m x j) ∙ under .leads;
+    leads = ap (ancestor C s x) (sym (under′ .leads)) ∙ sym (up-add C s m x j) ∙ under .leads;
   }
 
   -- of two tables over j one is over the other
@@ -161,15 +161,15 @@ module _ {C : Codec} {s : State} where
 
   -- does j lie under c? One number of steps is possible, so one comparison decides it.
   pub under-or : (c j : ℕ) → ((d : ℕ) × Under C s c d j) ⊎ NotUnder C s c j
-  under-or c j = go (eq-or (s .ledger j) 0) (eq-or (levelIn C s c + steps) (levelIn C s j)) (eq-or (up C s steps j) c)
+  under-or c j = go (eq-or (s .ledger j) 0) (eq-or (levelIn C s c + steps) (levelIn C s j)) (eq-or (ancestor C s steps j) c)
     where
       steps : ℕ
       steps = levelIn C s j - levelIn C s c
 
       go : (s .ledger j ≡ 0) ⊎ (s .ledger j ≢ 0) → (levelIn C s c + steps ≡ levelIn C s j) ⊎ (levelIn C s c + steps ≢ levelIn C s j)
-          → (up C s steps j ≡ c) ⊎ (up C s steps j ≢ c) → ((d : ℕ) × Under C s c d j) ⊎ NotUnder C s c j
+          → (ancestor C s steps j ≡ c) ⊎ (ancestor C s steps j ≢ c) → ((d : ℕ) × Under C s c d j) ⊎ NotUnder C s c j
       go (inl free) level leads = inr (λ d under. omega (arith, under .used, free))
       go (inr used) (inr apart) leads = inr (λ d under. apart (omega (arith, under .deep)))
       go (inr used) (inl level) (inl leads) = inl (steps, record { used = omega (arith, used); deep = sym level; leads = leads })
       go (inr used) (inl level) (inr apart) =
-          inr (λ d under. let same : steps ≡ d = omega (arith, under .deep) in apart (ap (λ (m : ℕ). up C s m j) same ∙ under .leads))
+          inr (λ d under. let same : steps ≡ d = omega (arith, under .deep) in apart (ap (λ (m : ℕ). ancestor C s m j) same ∙ under .leads))

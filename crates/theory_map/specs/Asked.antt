@@ -7,7 +7,7 @@ use native.Mathlib.Omega.{arith}
 use lib.Bits.{bitAnd, and-le-r}
 use lib.Dec.{eqb, eqb→eq, leb, ltb, lit<}
 use borrow.Author.Tests.{ltb-true}
-use Rattle.laws.specs.Bit.{Sub}
+use Rattle.laws.specs.Bit.{SubBits}
 use Rattle.laws.specs.Size.{sizeAt, size-high, up, down-paged}
 use Rattle.laws.specs.Test.{byBool, le-or}
 use Rattle.address.specs.Address.{alignUp}
@@ -26,8 +26,8 @@ use Rattle.pool.specs.declared.Outcome.the-variants.{Accepted, Refused}
 use Rattle.region_verify.specs.Verify.{endFits, span as wide, inRange, verify, lower-start, lower-end, upper-start, verify-forwards, verified-forwards}
 use Rattle.map_rules.specs.declared.Map.{Map}
 use Rattle.map_rules.specs.Fit.{Fit}
-use Rattle.map_verify.specs.Ask.{asked, frameAsked, first as firstOf, verifyMap, passes, only-plain, asked-fit, up-pages}
-use Rattle.theory_tree.specs.Page.{span, span-size, span-suc, first, in-from}
+use Rattle.map_verify.specs.Ask.{askedMap, frameAsked, first as firstOf, verifyMap, passes, only-plain, asked-fit, up-pages}
+use Rattle.theory_tree.specs.Page.{pagesIn, span-size, span-suc, first, in-from}
 use Rattle.theory_tree.specs.Root.{upperRoot, upper-span}
 use Rattle.theory_tree.specs.Chunks.{Inside}
 use Rattle.theory_map.specs.Terms.{rootOf}
@@ -58,7 +58,7 @@ upper-starts level r ok = go (le-or (r .start .0) (2 ^ 64 - 1 - 512 * sizeAt lev
 -- its pages, in the root's table
 root-pages : (range : VaRange) (depth : ℕ) (r : MemoryRegion) → depth ≤ 3 → inRange range (3 - depth) r ≡ Accepted
     → r .start .0 ≤ r .end .0 → r .end .0 < 2 ^ 64 → r .end .0 % 4096 ≡ 0
-    → (first (suc depth) (rootOf range depth) ≤ r .start .0 / 4096) × (r .end .0 / 4096 ≤ first (suc depth) (rootOf range depth) + span (suc depth))
+    → (first (suc depth) (rootOf range depth) ≤ r .start .0 / 4096) × (r .end .0 / 4096 ≤ first (suc depth) (rootOf range depth) + pagesIn (suc depth))
 unfolding rootOf first
 root-pages Lower depth r low ok some small paged =
     let e = lower-ends (3 - depth) r ok in
@@ -78,7 +78,7 @@ aligned-below a = byBool (ltb (up a 4096) (2 ^ 64)) (λ e. rw e (ltb-true (up a 
 -- a region that is rounded and verified, with its frame, in the root's table
 pub pages-inside : (h : Handle) (start end frame : ℕ) → h .level ≤ 3 → verify h (rounded start end) ≡ Accepted → frame % 4096 ≡ 0
     → let depth = 3 - h .level in let r = rounded start end in
-    Inside (first (suc depth) (rootOf (h .range) depth)) (span (suc depth)) (r .start .0) (r .end .0) frame
+    Inside (first (suc depth) (rootOf (h .range) depth)) (pagesIn (suc depth)) (r .start .0) (r .end .0) frame
 unfolding rounded sizeAt
 pages-inside h start end frame low ok paged =
     let r : MemoryRegion = rounded start end in
@@ -92,28 +92,28 @@ pages-inside h start end frame low ok paged =
 pub flags-allowed : (h : Handle) (f : ℕ) → only (flagSet h) f ≡ true → f / 2 % 2 ≡ 0 → Allowed h f
 unfolding only
 flags-allowed h f from clear =
-    let sub : Sub f (flagSet h) = eqb→eq (bitAnd f (flagSet h)) f (rw from tt) in
+    let sub : SubBits f (flagSet h) = eqb→eq (bitAnd f (flagSet h)) f (rw from tt) in
     record { plain = record { bits = only-plain h f from; clear = clear; wide = omega (arith, and-le-r f (flagSet h), set-below h) }; from = sub }
 
 -- ---- what is left of a call
 
 module _ (h : Handle) (start end frame flags constraints : ℕ) where
   abbrev m : Map
-  m = asked start end frame flags constraints
+  m = askedMap start end frame flags constraints
 
   module _ (ok : verifyMap h end m ≡ Accepted) where
     pub asked-allowed : Allowed h (m .flags)
     asked-allowed = let p = passes h end m ok in flags-allowed h (m .flags) (p .from) (p .plain)
 
     small : flags < 2 ^ 64
-    unfolding asked
+    unfolding askedMap
     small = asked-allowed .plain .wide
 
     fit : Fit m
     fit = asked-fit h start end frame flags constraints small ok
 
     pub asked-area : h .level ≤ 3 → Area (3 - h .level) (rootOf (h .range) (3 - h .level)) m
-    unfolding asked
+    unfolding askedMap
     asked-area low = record { inside = pages-inside h start end frame low (passes h end m ok .region) (fit .frame); room = fit .room }
 
 -- ---- refusals 2 to 7 are none of the later ones

@@ -32,7 +32,7 @@ use Rattle.theory_tree.specs.Rules.{Given}
 use Rattle.theory_tree.specs.Document.{document-is}
 use Rattle.theory_tree.specs.Needed.{document-needs}
 use Rattle.theory_tree.specs.Root.{mapTree, mapMade}
-use Rattle.theory_map.specs.Terms.{Call, callOf, Maps, askedOf, Passed, leftOf, rootIn, pagesOf, treeAfter, madeBy}
+use Rattle.theory_map.specs.Terms.{MapArguments, mapAnswer, Maps, mapAsked, MapPassed, depthOf, rootIn, mapPagesOf, treeAfterMap, madeBy}
 use Rattle.theory_map.specs.Stand.{Allowed}
 use Rattle.theory_map.specs.Moves.{Ready, Worked, root-ready, root-node}
 use Rattle.theory_map.specs.Pieces.{doneTable, takesTable, Area}
@@ -41,46 +41,46 @@ use Rattle.theory_map.specs.Need.{needed-is}
 use Rattle.theory_map.specs.Asked.{asked-allowed, asked-area, Early, asked-early}
 
 -- the state that an accepted call leaves
-abbrev pub stateAfter : Handle → Call → St → St
-stateAfter h c s = mapRange (leftOf h) h 0 (askedOf c) s
+abbrev pub stateAfter : Handle → MapArguments → St → St
+stateAfter h c s = mapRange (depthOf h) h 0 (mapAsked c) s
 
-module _ {h : Handle} {c : Call} {s : St} (passed : Passed h c s) where
+module _ {h : Handle} {c : MapArguments} {s : St} (passed : MapPassed h c s) where
   abbrev m : Map
-  m = askedOf c
+  m = mapAsked c
 
   allowed : Allowed h (m .flags)
   allowed = asked-allowed h (c .start) (c .end) (c .frame) (c .flags) (c .constraints) (passed .asks)
 
-  pub area : Area (leftOf h) (rootIn h) m
+  pub area : Area (depthOf h) (rootIn h) m
   area = asked-area h (c .start) (c .end) (c .frame) (c .flags) (c .constraints) (passed .asks) (passed .shape .level)
 
-  ready : Ready (shaped-placed (passed .shape)) s (leftOf h) 0
+  ready : Ready (shaped-placed (passed .shape)) s (depthOf h) 0
   ready = root-ready (passed .shape) (passed .pool)
 
-  pub given : Given (pagesOf c)
+  pub given : Given (mapPagesOf c)
   given =
       let I = area .inside in
       record { plain = allowed .plain; ends = omega (arith, area .room, I .startPage, I .endPage, I .framePage) }
 
-  takes-made : takesTable m (leftOf h) (rootTree h s) ≡ madeBy h c s
+  takes-made : takesTable m (depthOf h) (rootTree h s) ≡ madeBy h c s
   takes-made =
-      subst (λ (t : Tree). takesTable m (leftOf h) t ≡ mapMade (leftOf h) (rootIn h) (pagesOf c) t) (sym (root-node h s))
-      (document-needs (m .flags) (m .blocks) (leftOf h) (rootIn h) (m .region .start .0) (m .region .end .0) (m .frame .0) _ (omega arith) (area .inside))
+      subst (λ (t : Tree). takesTable m (depthOf h) t ≡ mapMade (depthOf h) (rootIn h) (mapPagesOf c) t) (sym (root-node h s))
+      (document-needs (m .flags) (m .blocks) (depthOf h) (rootIn h) (m .region .start .0) (m .region .end .0) (m .frame .0) _ (omega arith) (area .inside))
 
-  done-tree : doneTable m (leftOf h) (rootTree h s) ≡ treeAfter h c s
+  done-tree : doneTable m (depthOf h) (rootTree h s) ≡ treeAfterMap h c s
   done-tree =
-      subst (λ (t : Tree). doneTable m (leftOf h) t ≡ mapTree (leftOf h) (rootIn h) (pagesOf c) t) (sym (root-node h s))
-      (document-is (m .flags) (m .blocks) (leftOf h) (rootIn h) (m .region .start .0) (m .region .end .0) (m .frame .0) _ (omega arith) (area .inside))
+      subst (λ (t : Tree). doneTable m (depthOf h) t ≡ mapTree (depthOf h) (rootIn h) (mapPagesOf c) t) (sym (root-node h s))
+      (document-is (m .flags) (m .blocks) (depthOf h) (rootIn h) (m .region .start .0) (m .region .end .0) (m .frame .0) _ (omega arith) (area .inside))
 
   -- REFUSAL 9'S COUNT IS THE TREE'S
-  pub needed-made : needed (leftOf h) h s 0 m ≡ madeBy h c s
-  needed-made = needed-is (shaped-placed (passed .shape)) (leftOf h) 0 m s ready ∙ takes-made
+  pub needed-made : needed (depthOf h) h s 0 m ≡ madeBy h c s
+  needed-made = needed-is (shaped-placed (passed .shape)) (depthOf h) 0 m s ready ∙ takes-made
 
   -- ---- with room
 
   module _ (room : madeBy h c s ≤ free (s .ledger)) where
-    worked : Worked (shaped-placed (passed .shape)) s (stateAfter h c s) (leftOf h) 0 (doneTable m (leftOf h) (rootTree h s)) (takesTable m (leftOf h) (rootTree h s))
-    worked = range-works (shaped-placed (passed .shape)) (leftOf h) (omega arith) (rootIn h) 0 m s allowed area ready (omega (arith, takes-made))
+    worked : Worked (shaped-placed (passed .shape)) s (stateAfter h c s) (depthOf h) 0 (doneTable m (depthOf h) (rootTree h s)) (takesTable m (depthOf h) (rootTree h s))
+    worked = range-works (shaped-placed (passed .shape)) (depthOf h) (omega arith) (rootIn h) 0 m s allowed area ready (omega (arith, takes-made))
 
     pub after-shaped : Shaped h (stateAfter h c s)
     after-shaped = shaped-keep h s (stateAfter h c s) (passed .shape) (worked .same-words) (worked .same-tables)
@@ -88,7 +88,7 @@ module _ {h : Handle} {c : Call} {s : St} (passed : Passed h c s) where
     pub after-sound : SoundPool h (stateAfter h c s)
     after-sound = sound-pool (shaped-placed (passed .shape)) (after-shaped .sized) (worked .work .over .sound)
 
-    pub after-tree : rootTree h (stateAfter h c s) ≡ treeAfter h c s
+    pub after-tree : rootTree h (stateAfter h c s) ≡ treeAfterMap h c s
     after-tree = worked .work .tree ∙ done-tree
 
     pub after-tables : tables (stateAfter h c s) ≡ tables s
@@ -100,49 +100,49 @@ module _ {h : Handle} {c : Call} {s : St} (passed : Passed h c s) where
 not-tables : {r : Refusal} {s s′ : St} {n : ℕ} {x : Out Counted} → refused r s ≡ x → x ≡ out (counted.Tables n) s′ → ⊥
 not-tables e q = let p = ap (λ (y : Out Counted). y .answer) (e ∙ q) in let z : _≡_ {A = ℕ} 0 1 = cc in omega arith
 
-module _ {h : Handle} {c : Call} {s : St} (passed : Passed h c s) where
+module _ {h : Handle} {c : MapArguments} {s : St} (passed : MapPassed h c s) where
   sound-is : soundb h s ≡ true
   sound-is = is-true (soundb h s) (sound-decide (passed .shape) (passed .pool))
 
-  asked-is : mapSound h (askedOf c) s ≡ callOf h c s
+  asked-is : mapSound h (mapAsked c) s ≡ mapAnswer h c s
   asked-is = call-asked h (c .start) (c .end) (c .frame) (c .flags) (c .constraints) s (is-true (shaped h s) (says-shaped h s (passed .shape))) refl (passed .asks)
 
   -- refusal 9
-  pub call-full : free (s .ledger) < madeBy h c s → callOf h c s ≡ refused (WantOfRoom (madeBy h c s) (free (s .ledger))) s
-  call-full full = sym (sound-full h (askedOf c) s sound-is (sym (needed-made passed)) refl full ∙ asked-is)
+  pub call-full : free (s .ledger) < madeBy h c s → mapAnswer h c s ≡ refused (WantOfRoom (madeBy h c s) (free (s .ledger))) s
+  call-full full = sym (sound-full h (mapAsked c) s sound-is (sym (needed-made passed)) refl full ∙ asked-is)
 
   -- accepted
-  pub call-maps : madeBy h c s ≤ free (s .ledger) → callOf h c s ≡ out (counted.Tables (used (stateAfter h c s .ledger))) (stateAfter h c s)
-  call-maps room = sym (put-down h (askedOf c) s refl refl ∙ sound-mapped h (askedOf c) s sound-is (sym (needed-made passed)) refl room ∙ asked-is)
+  pub call-maps : madeBy h c s ≤ free (s .ledger) → mapAnswer h c s ≡ out (counted.Tables (used (stateAfter h c s .ledger))) (stateAfter h c s)
+  call-maps room = sym (put-down h (mapAsked c) s refl refl ∙ sound-mapped h (mapAsked c) s sound-is (sym (needed-made passed)) refl room ∙ asked-is)
 
 -- what is answered otherwise than by refusals 1 to 8 was left by them
-passed-by : (h : Handle) (c : Call) (s : St) {x : Out Counted} → callOf h c s ≡ x → ((r : Refusal) → number r < 9 → refused r s ≡ x → ⊥) → Passed h c s
+passed-by : (h : Handle) (c : MapArguments) (s : St) {x : Out Counted} → mapAnswer h c s ≡ x → ((r : Refusal) → number r < 9 → refused r s ≡ x → ⊥) → MapPassed h c s
 passed-by h c s {x} is later =
     byBool (shaped h s) shape (λ e. absurd (later Shape (lit< tt) (call-misshaped h (c .start) (c .end) (c .frame) (c .flags) (c .constraints) s e ∙ is)))
   where
-    pool : shaped h s ≡ true → verifyMap h (c .end) (askedOf c) ≡ Accepted → Passed h c s
+    pool : shaped h s ≡ true → verifyMap h (c .end) (mapAsked c) ≡ Accepted → MapPassed h c s
     pool e ok =
         let shape = shaped-says h s (rw e tt) in
         let asked = call-asked h (c .start) (c .end) (c .frame) (c .flags) (c .constraints) s e refl ok in
         byBool (soundb h s)
         (λ sound. record { shape = shape; asks = ok; pool = decide-sound shape (rw sound tt) })
-        (λ unsound. absurd (later Unsound (lit< tt) (sound-not h (askedOf c) s unsound ∙ asked ∙ is)))
+        (λ unsound. absurd (later Unsound (lit< tt) (sound-not h (mapAsked c) s unsound ∙ asked ∙ is)))
 
-    asks : shaped h s ≡ true → (y : Outcome) → verifyMap h (c .end) (askedOf c) ≡ y → Early y → Passed h c s
+    asks : shaped h s ≡ true → (y : Outcome) → verifyMap h (c .end) (mapAsked c) ≡ y → Early y → MapPassed h c s
     asks e Accepted q early = pool e q
     asks e (Refused r) q early =
         absurd (later r (omega arith) (call-refused h (c .start) (c .end) (c .frame) (c .flags) (c .constraints) s e refl r q ∙ is))
 
-    shape : shaped h s ≡ true → Passed h c s
-    shape e = asks e (verifyMap h (c .end) (askedOf c)) refl (asked-early h (c .end) (askedOf c))
+    shape : shaped h s ≡ true → MapPassed h c s
+    shape e = asks e (verifyMap h (c .end) (mapAsked c)) refl (asked-early h (c .end) (mapAsked c))
 
 -- ---- refused 9
 
 answer-of : {r : Refusal} {s s′ : St} {y : Counted} → refused r s ≡ out y s′ → counted.Refused r ≡ y
 answer-of e = ap (λ (x : Out Counted). x .answer) e
 
-module _ (h : Handle) (c : Call) (s : St) {a b : ℕ} {s′ : St} (is : callOf h c s ≡ out (counted.Refused (WantOfRoom a b)) s′) where
-  pub full-passed : Passed h c s
+module _ (h : Handle) (c : MapArguments) (s : St) {a b : ℕ} {s′ : St} (is : mapAnswer h c s ≡ out (counted.Refused (WantOfRoom a b)) s′) where
+  pub full-passed : MapPassed h c s
   full-passed = passed-by h c s is (λ r early e.
       let same : r ≡ WantOfRoom a b = let p = answer-of e in cc in
       let nine : number r ≡ 9 = ap number same in
@@ -157,8 +157,8 @@ module _ (h : Handle) (c : Call) (s : St) {a b : ℕ} {s′ : St} (is : callOf h
 
 -- ---- accepted
 
-module _ {h : Handle} {c : Call} {s s′ : St} {n : ℕ} (maps : Maps h c s n s′) where
-  pub call-passed : Passed h c s
+module _ {h : Handle} {c : MapArguments} {s s′ : St} {n : ℕ} (maps : Maps h c s n s′) where
+  pub call-passed : MapPassed h c s
   call-passed = passed-by h c s (maps .answers) (λ r early e. not-tables e refl)
 
   pub call-room : madeBy h c s ≤ free (s .ledger)
@@ -184,7 +184,7 @@ module _ {h : Handle} {c : Call} {s s′ : St} {n : ℕ} (maps : Maps h c s n s�
   pub call-sound : SoundPool h s′
   call-sound = subst (SoundPool h) (sym call-state) (after-sound call-passed call-room)
 
-  pub call-tree : rootTree h s′ ≡ treeAfter h c s
+  pub call-tree : rootTree h s′ ≡ treeAfterMap h c s
   call-tree = ap (rootTree h) call-state ∙ after-tree call-passed call-room
 
   pub call-tables : tables s′ ≡ tables s

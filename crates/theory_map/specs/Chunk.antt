@@ -19,7 +19,7 @@ use Rattle.map_split.specs.Split.{below}
 use Rattle.map_count_spec.specs.Needed.{slot-below}
 use Rattle.map_put.specs.Put.{mapRange}
 use Rattle.map_put.specs.Laws.{drop-table}
-use Rattle.map_put.specs.Range.{stepAt, chunk-write, chunk-keep, chunk-drop, chunk-into}
+use Rattle.map_put.specs.Range.{mapStep, chunk-write, chunk-keep, chunk-drop, chunk-into}
 use Rattle.theory_forest.specs.Tree.{Tree, leaf, node}
 use Rattle.theory_forest.specs.Sound.{TableWord, Refers}
 use Rattle.theory_forest.specs.Keep.{slot-leaf}
@@ -31,7 +31,7 @@ use Rattle.theory_map.specs.Leaf.{slot-fine}
 use Rattle.theory_map.specs.Rule.{saysOf, LeafRule, keeps, writes, splits as leaf-splits, TableRule, drops, enters, page-rule, leaf-rule, table-rule}
 use Rattle.theory_map.specs.Stand.{Allowed, Piece, write-stands}
 use Rattle.theory_map.specs.Moves.{slotShows, Ready, Slotted, Worked, kept, stored, dropped}
-use Rattle.theory_map.specs.Down.{Holds, holds-table, holds-leaf, holds, opens}
+use Rattle.theory_map.specs.Down.{SlotHolds, holds-table, holds-leaf, holds, opens}
 use Rattle.theory_map.specs.Pieces.{doneTo, takes, doneTable, takesTable, done-keep, done-write, done-down, takes-down, Area, piece-area}
 
 -- what opening a leaf or a table takes
@@ -61,7 +61,7 @@ module _ {h : Handle} (placed : Placed h) where
 
     -- what is to be shown, if the slot shows t
     abbrev pub Done : Tree → Type 0
-    Done t = Slotted placed s (stepAt h k level m s) depth k i (doneTo m depth t) (takes m depth t)
+    Done t = Slotted placed s (mapStep h k level m s) depth k i (doneTo m depth t) (takes m depth t)
 
     inside : i < 512
     inside = slot-below level (m .region .start .0)
@@ -99,7 +99,7 @@ module _ {h : Handle} (placed : Placed h) where
     x = wordAt s k j
 
     abbrev Goal : Tree → Type 0
-    Goal t = Slotted placed s (stepAt h k l m s) (suc depth) k j (doneTo m (suc depth) t) (takes m (suc depth) t)
+    Goal t = Slotted placed s (mapStep h k l m s) (suc depth) k j (doneTo m (suc depth) t) (takes m (suc depth) t)
 
     slot : j < 512
     slot = slot-below l (m .region .start .0)
@@ -111,7 +111,7 @@ module _ {h : Handle} (placed : Placed h) where
     last = omega (arith, R .low)
 
     -- on in table c of the state t
-    goes-in : {c : ℕ} {t : St} → ruleOf l m x ≡ Down → taken (At c) t ≡ below h k l j s → mapRange depth h c m t ≡ stepAt h k l m s
+    goes-in : {c : ℕ} {t : St} → ruleOf l m x ≡ Down → taken (At c) t ≡ below h k l j s → mapRange depth h c m t ≡ mapStep h k l m s
     goes-in {c} {t} r found = ap (λ (d : ℕ). mapRange d h c m t) (sym last) ∙ chunk-into h k l m s refl refl r found c refl high
 
     -- ---- down, after a split if there is no table
@@ -138,7 +138,7 @@ module _ {h : Handle} (placed : Placed h) where
           → Goal (slotShows h s (suc depth) k j)
       by-table shows (drops rule says) room =
           let fine = subst (FineTree (suc depth)) shows (slot-fine placed (R .pool) (suc depth) k j (R .used) (R .low) slot) in
-          let put : freeTree depth h e (storeAt k j (m .flags) s) ≡ stepAt h k l m s =
+          let put : freeTree depth h e (storeAt k j (m .flags) s) ≡ mapStep h k l m s =
           ap (λ (d : ℕ). freeTree d h e (storeAt k j (m .flags) s)) (sym last)
           ∙ drop-table h l x (storeAt k j (m .flags) s) refl e leads
           ∙ chunk-drop h k l m s refl refl (m .flags) rule in
@@ -151,7 +151,7 @@ module _ {h : Handle} (placed : Placed h) where
     up-works : takes m (suc depth) (slotShows h s (suc depth) k j) ≤ free (s .ledger) → Goal (slotShows h s (suc depth) k j)
     up-works room = go (holds placed R j slot)
       where
-        go : Holds placed s depth k j → Goal (slotShows h s (suc depth) k j)
+        go : SlotHolds placed s depth k j → Goal (slotShows h s (suc depth) k j)
         go (holds-table e r both leads shows) = by-table e r leads shows (table-rule m depth x (omega (arith, R .low)) (λ i. slotShows h s depth e i) both) room
         go (holds-leaf old other shows) =
             subst Goal (sym shows) (by-leaf q k m s (suc depth) allowed piece R old (leaf-rule m depth x (omega (arith, R .low)) other)
@@ -162,7 +162,7 @@ module _ {h : Handle} (placed : Placed h) where
   abbrev pub ChunkWorks : ℕ → Type 0
   ChunkWorks depth = (q k : ℕ) (m : Map) (s : St) → Allowed h (m .flags) → Piece depth q m → Ready placed s depth k → let i = entryIndex (3 - depth) (m .region .start .0) in
       takes m depth (slotShows h s depth k i) ≤ free (s .ledger)
-      → Slotted placed s (stepAt h k (3 - depth) m s) depth k i (doneTo m depth (slotShows h s depth k i)) (takes m depth (slotShows h s depth k i))
+      → Slotted placed s (mapStep h k (3 - depth) m s) depth k i (doneTo m depth (slotShows h s depth k i)) (takes m depth (slotShows h s depth k i))
 
   -- at the lowest level nothing goes down
   pub page-works : ChunkWorks 0

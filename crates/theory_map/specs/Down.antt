@@ -36,11 +36,11 @@ splits-node depth f = (refl, refl)
 
 module _ {h : Handle} (placed : Placed h) where
   -- what a slot holds, and shows: a table e of the pool, or a word that is none
-  pub data Holds (s : St) (depth k i : ℕ) : Type 0 where
+  pub data SlotHolds (s : St) (depth k i : ℕ) : Type 0 where
     holds-table : (e : ℕ) → Refers (codecOf h placed) (view s) k i e → wordAt s k i % 4 ≡ 3
         → subOf (h .base .0) (tables s) (3 - suc depth) (wordAt s k i) ≡ Table e
-        → slotShows h s (suc depth) k i ≡ node (λ j. slotShows h s depth e j) → Holds s depth k i
-    holds-leaf : ¬ (TableWord (levelAt s k) (wordAt s k i)) → wordAt s k i % 4 ≢ 3 → slotShows h s (suc depth) k i ≡ leaf (wordAt s k i) → Holds s depth k i
+        → slotShows h s (suc depth) k i ≡ node (λ j. slotShows h s depth e j) → SlotHolds s depth k i
+    holds-leaf : ¬ (TableWord (levelAt s k) (wordAt s k i)) → wordAt s k i % 4 ≢ 3 → slotShows h s (suc depth) k i ≡ leaf (wordAt s k i) → SlotHolds s depth k i
 
   -- the table below slot i of table k, as it stands then: table `table` of the pool `state`
   pub record Opens (s : St) (depth k i : ℕ) : Type 0 where
@@ -60,15 +60,15 @@ module _ {h : Handle} (placed : Placed h) where
     abbrev w : ℕ
     w = wordAt s k i
 
-    table-there : (e : ℕ) → Refers (codecOf h placed) (view s) k i e → w % 4 ≡ 3 → Holds s depth k i
+    table-there : (e : ℕ) → Refers (codecOf h placed) (view s) k i e → w % 4 ≡ 3 → SlotHolds s depth k i
     table-there e r both = holds-table e r both
         (rw (sym (word-in s k i inside) ∙ r .says) (sub-link (h .base .0) (tables s) e level (omega arith) (R .shape .paged) (R .shape .ended) (used-in s e (r .used))))
         (slot-refers depth r ∙ treeAt-node (childOf (h .base .0)) depth (slotWord s) e)
 
-    pub holds : Holds s depth k i
+    pub holds : SlotHolds s depth k i
     holds = go (eq-or (w % 4) 3)
       where
-        go : (w % 4 ≡ 3) ⊎ (w % 4 ≢ 3) → Holds s depth k i
+        go : (w % 4 ≡ 3) ⊎ (w % 4 ≢ 3) → SlotHolds s depth k i
         go (inl both) =
             let n = pool-sound placed (R .pool) .names k i (R .used) (omega (arith, R .low), ap (λ (y : ℕ). y % 4) (word-in s k i inside) ∙ both) in
             table-there (n .0) (n .1) both
@@ -79,7 +79,7 @@ module _ {h : Handle} (placed : Placed h) where
     pub opens : splits (slotShows h s (suc depth) k i) ≤ free (s .ledger) → Opens s depth k i
     opens some = go holds
       where
-        go : Holds s depth k i → Opens s depth k i
+        go : SlotHolds s depth k i → Opens s depth k i
         go (holds-table e r both leads shows) =
             let S = splits-node depth (λ j. slotShows h s depth e j) in
             let none : splits (slotShows h s (suc depth) k i) ≡ 0 = ap splits shows ∙ S .0 in

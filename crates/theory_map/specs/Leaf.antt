@@ -4,7 +4,7 @@ use mathlib.Core.Path.{_≡_, ap, subst, _∙_}
 use Prim.Native.Nat.{ℕ, _+_, _-_, _/_, _%_, _^_, _≤_, _<_}
 use native.Mathlib.Omega.{arith}
 use lib.Dec.{T, lit<}
-use Rattle.laws.specs.Bit.{Sub}
+use Rattle.laws.specs.Bit.{SubBits}
 use Rattle.laws.specs.Size.{sizeAt}
 use Rattle.entry.specs.Word.{addressOf, el1Flags, plainFlags}
 use Rattle.pool.specs.State.{St, wordAt}
@@ -18,8 +18,8 @@ use Rattle.theory_sound.specs.Codec.{Placed, codecOf, childOf, slotWord, treeFr
 use Rattle.theory_sound.specs.Generic.{leaf-says, pool-sound}
 use Rattle.theory_sound.specs.Hanging.{root-left}
 use Rattle.theory_sound.specs.Step.{Stands}
-use Rattle.theory_tree.specs.Page.{span, entry-rest}
-use Rattle.theory_tree.specs.Word.{frameOf, address-frame}
+use Rattle.theory_tree.specs.Page.{pagesIn, entry-rest}
+use Rattle.theory_tree.specs.Word.{frameIn, address-frame}
 use Rattle.theory_tree.specs.Fine.{Fine, sound-fine}
 use Rattle.theory_tree.specs.Shown.{FineTree, FineTable}
 use Rattle.theory_tree.specs.Forest.{tree-fine}
@@ -56,12 +56,12 @@ module _ {h : Handle} (placed : Placed h) {s : St} (P : SoundPool h s) where
   root-fine = table-fine (3 - h .level) 0 root-used (root-left placed P)
 
 -- the flags of a leaf are from the set
-pub leaf-from : {h : Handle} {s : St} → SoundPool h s → (k i : ℕ) → i < 512 → InUse s k → ¬ (TableWord (levelAt s k) (wordAt s k i)) → Sub (plainFlags (wordAt s k i)) (flagSet h)
+pub leaf-from : {h : Handle} {s : St} → SoundPool h s → (k i : ℕ) → i < 512 → InUse s k → ¬ (TableWord (levelAt s k) (wordAt s k i)) → SubBits (plainFlags (wordAt s k i)) (flagSet h)
 leaf-from {h} {s} P k i inside used old = P .leaves k i inside used old .flags
 
 -- ---- a fine word with flags from the set may stand
 
-pub fine-stands : (h : Handle) (depth level v : ℕ) → level + depth ≡ 3 → Fine depth v → Sub (plainFlags v) (flagSet h) → Stands h level v
+pub fine-stands : (h : Handle) (depth level v : ℕ) → level + depth ≡ 3 → Fine depth v → SubBits (plainFlags v) (flagSet h) → Stands h level v
 fine-stands h depth level v low fine flags = record {
   plain = λ table. let c = fine .clear (omega (arith, table .0)) in omega (arith, table .1);
   leaf = record {
@@ -77,7 +77,7 @@ fine-stands h depth level v low fine flags = record {
     aligned =
         let e : level ≡ 3 - depth = omega arith in
         let f = address-frame v in
-        let frame : addressOf v / 4096 ≡ frameOf v = omega arith in
+        let frame : addressOf v / 4096 ≡ frameIn v = omega arith in
         let rest = entry-rest depth (addressOf v) (omega arith) (omega arith) in
-        let whole : addressOf v / 4096 % span depth ≡ 0 = ap (λ (x : ℕ). x % span depth) frame ∙ fine .aligned in
+        let whole : addressOf v / 4096 % pagesIn depth ≡ 0 = ap (λ (x : ℕ). x % pagesIn depth) frame ∙ fine .aligned in
         ap (λ (l : ℕ). addressOf v % sizeAt l) e ∙ (let z : addressOf v % sizeAt (3 - depth) ≡ 0 = omega arith in z)

@@ -16,9 +16,9 @@ use Rattle.map_rules.specs.Rules.{fillOf}
 use Rattle.theory_forest.specs.Tree.{Tree, leaf, entry, node, treeAt-node}
 use Rattle.theory_forest.specs.Sound.{TableWord, IsTable, Refers}
 use Rattle.theory_forest.specs.Under.{refers-level}
-use Rattle.theory_forest.specs.Split.{Splits, Fit, new-tree}
+use Rattle.theory_forest.specs.Split.{Splits, SplitFits, new-tree}
 use Rattle.theory_forest.specs.Place.{below-self, over-trans}
-use Rattle.theory_forest.specs.Move.{Work, move-skip, move-down, move-split, split-at}
+use Rattle.theory_forest.specs.Move.{TableMove, move-skip, move-down, move-split, split-at}
 use Rattle.theory_sound.specs.Clauses.{InUse, levelAt, SoundPool}
 use Rattle.theory_sound.specs.Codec.{Placed, shaped-placed, codecOf, childOf, slotWord, view, number-pos, treeFrom, rootTree}
 use Rattle.theory_sound.specs.Generic.{pool-sound, sound-pool}
@@ -56,7 +56,7 @@ module _ {h : Handle} (placed : Placed h) where
 
   -- the same of a whole table
   pub record Worked (s s′ : St) (depth k : ℕ) (t : Tree) (cost : ℕ) : Type 0 where
-    pub work : Work (codecOf h placed) (view s) (view s′) depth k t
+    pub work : TableMove (codecOf h placed) (view s) (view s′) depth k t
     pub same-tables : tables s′ ≡ tables s
     pub same-words : length (s′ .words) ≡ length (s .words)
     pub spare : free (s .ledger) ≤ free (s′ .ledger) + cost
@@ -136,7 +136,7 @@ module _ {h : Handle} (placed : Placed h) where
       splits : Splits (codecOf h placed) (view s) (view after) k i f (numberOf k (level + 1) i) (λ j. getD words j 0)
       splits = take-splits placed (R .pool) k (level + 1) i words f (R .used) inside own high (fill-length level w) found
 
-      fit : Fit (codecOf h placed) (view s) k i f (numberOf k (level + 1) i) (λ j. getD words j 0)
+      fit : SplitFits (codecOf h placed) (view s) k i f (numberOf k (level + 1) i) (λ j. getD words j 0)
       fit = take-fit placed (R .pool) k (level + 1) i words f (R .used) inside own high (fill-length level w) found filled
 
       none : ¬ (IsTable (codecOf h placed) (view s) k i)

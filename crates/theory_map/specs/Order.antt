@@ -8,7 +8,7 @@ use Rattle.entry.specs.Word.{valid-of}
 use Rattle.pool.specs.State.{St, tables}
 use Rattle.pool.specs.Number.{used, free, used-free}
 use Rattle.pool.specs.declared.Handle.{Handle}
-use Rattle.map_verify.specs.Ask.{asked}
+use Rattle.map_verify.specs.Ask.{askedMap}
 use Rattle.theory_forest.specs.Tree.{Tree}
 use Rattle.theory_forest.specs.Nodes.{nodes}
 use Rattle.theory_forest.specs.Walk.{walkTree}
@@ -16,57 +16,57 @@ use Rattle.theory_sound.specs.Codec.{shaped-placed, rootTree}
 use Rattle.theory_sound.specs.Hanging.{used-tree}
 use Rattle.arm.specs.Arm.{says}
 use Rattle.theory_walk.specs.AsBefore.{walkOf, shown}
-use Rattle.theory_walk.specs.Any.{slotsOf, met}
+use Rattle.theory_walk.specs.Any.{slotsTaken, reachedAt}
 use Rattle.theory_walk.specs.Walked.{walk-of-tree}
 use Rattle.theory_tree.specs.Walk.{seen}
 use Rattle.theory_tree.specs.Shown.{FineTable}
 use Rattle.theory_tree.specs.Rules.{Given}
 use Rattle.theory_tree.specs.Commute.{Apart as ApartPages}
-use Rattle.theory_tree.specs.Order.{Room, run, madeAll, run-reorders, room-reorders, ValidMap, Each, Pairwise, Pairs, Reorders, each-reorders}
+use Rattle.theory_tree.specs.Order.{RoomFor, run, madeAll, run-reorders, room-reorders, ValidMap, Each, Pairwise, Pairs, Reorders, each-reorders}
 use Rattle.theory_tree.specs.Demands.{any-order-seen, enough-room}
-use Rattle.theory_map.specs.Terms.{Call, Maps, Asks, Lawful, Passed, Valid, Apart, InTurn, none, next, InSpan, leftOf, rootIn, pagesOf}
+use Rattle.theory_map.specs.Terms.{MapArguments, Maps, Asks, ShapedSound, MapPassed, Valid, RegionsApart, InTurn, none, next, InSpan, depthOf, rootIn, mapPagesOf}
 use Rattle.theory_map.specs.Leaf.{root-fine}
 use Rattle.theory_map.specs.Shown.{inBytes, walk-shown}
 use Rattle.theory_map.specs.Call.{stateAfter, given, call-maps, call-passed, call-room, call-shaped, call-sound, call-tree, call-tables}
 use Rattle.theory_map.specs.Place.{page-region, span-spans}
 
-passes : {h : Handle} {c : Call} {s : St} → Lawful h s → Asks h c → Passed h c s
+passes : {h : Handle} {c : MapArguments} {s : St} → ShapedSound h s → Asks h c → MapPassed h c s
 passes law asks = record { shape = law .shape; asks = asks; pool = law .pool }
 
-pub turn-lawful : {h : Handle} {c : Call} {s s′ : St} {n : ℕ} → Maps h c s n s′ → Lawful h s′
+pub turn-lawful : {h : Handle} {c : MapArguments} {s s′ : St} {n : ℕ} → Maps h c s n s′ → ShapedSound h s′
 turn-lawful maps = record { shape = call-shaped maps; pool = call-sound maps }
 
 -- what is free is what the tree leaves of the pool
-spare : {h : Handle} {s : St} → Lawful h s → free (s .ledger) ≡ tables s - nodes (rootTree h s)
+spare : {h : Handle} {s : St} → ShapedSound h s → free (s .ledger) ≡ tables s - nodes (rootTree h s)
 spare {h} {s} law = let a = used-tree (law .shape) (law .pool) in let b = used-free (s .ledger) in omega arith
 
 module _ (h : Handle) where
-  abbrev roomFor : ℕ → List Call → Tree → Type 0
-  roomFor n cs t = Room (leftOf h) (rootIn h) n (map pagesOf cs) t
+  abbrev roomFor : ℕ → List MapArguments → Tree → Type 0
+  roomFor n cs t = RoomFor (depthOf h) (rootIn h) n (map mapPagesOf cs) t
 
   -- ---- a list that is accepted
 
-  turn-asks : {cs : List Call} {s s′ : St} → InTurn h cs s s′ → Each (Asks h) cs
+  turn-asks : {cs : List MapArguments} {s s′ : St} → InTurn h cs s s′ → Each (Asks h) cs
   turn-asks none = tt
   turn-asks (next maps rest) = (call-passed maps .asks, turn-asks rest)
 
-  turn-room : {cs : List Call} {s s′ : St} → Lawful h s → InTurn h cs s s′ → roomFor (tables s) cs (rootTree h s)
+  turn-room : {cs : List MapArguments} {s s′ : St} → ShapedSound h s → InTurn h cs s s′ → roomFor (tables s) cs (rootTree h s)
   turn-room law none = tt
   turn-room law (next {cs = cs} maps rest) =
       (omega (arith, call-room maps, spare law), subst₂ (λ (n : ℕ) (t : Tree). roomFor n cs t) (call-tables maps) (call-tree maps) (turn-room (turn-lawful maps) rest))
 
-  turn-tree : {cs : List Call} {s s′ : St} → InTurn h cs s s′ → rootTree h s′ ≡ run (leftOf h) (rootIn h) (map pagesOf cs) (rootTree h s)
+  turn-tree : {cs : List MapArguments} {s s′ : St} → InTurn h cs s s′ → rootTree h s′ ≡ run (depthOf h) (rootIn h) (map mapPagesOf cs) (rootTree h s)
   unfolding run
   turn-tree none = refl
-  turn-tree (next {cs = cs} maps rest) = turn-tree rest ∙ ap (run (leftOf h) (rootIn h) (map pagesOf cs)) (call-tree maps)
+  turn-tree (next {cs = cs} maps rest) = turn-tree rest ∙ ap (run (depthOf h) (rootIn h) (map mapPagesOf cs)) (call-tree maps)
 
-  turn-sound : {cs : List Call} {s s′ : St} → Lawful h s → InTurn h cs s s′ → Lawful h s′
+  turn-sound : {cs : List MapArguments} {s s′ : St} → ShapedSound h s → InTurn h cs s s′ → ShapedSound h s′
   turn-sound law none = law
   turn-sound law (next maps rest) = turn-sound (turn-lawful maps) rest
 
   -- ---- a list with room is accepted
 
-  room-turn : (cs : List Call) (s : St) → Lawful h s → Each (Asks h) cs → roomFor (tables s) cs (rootTree h s) → (s′ : St) × InTurn h cs s s′
+  room-turn : (cs : List MapArguments) (s : St) → ShapedSound h s → Each (Asks h) cs → roomFor (tables s) cs (rootTree h s) → (s′ : St) × InTurn h cs s s′
   room-turn [] s law asks room = (s, none)
   room-turn (c ∷ cs) s law asks room =
       let t : St = stateAfter h c s in
@@ -78,39 +78,39 @@ module _ (h : Handle) where
 
   -- ---- in pages
 
-  pages-apart : {c d : Call} {s : St} → Passed h c s → Passed h d s → Apart c d → ApartPages (pagesOf c) (pagesOf d)
+  pages-apart : {c d : MapArguments} {s : St} → MapPassed h c s → MapPassed h d s → RegionsApart c d → ApartPages (mapPagesOf c) (mapPagesOf d)
   pages-apart one two apart page a b e f =
       let same : page * 4096 / 4096 ≡ page = omega arith in
       apart (page * 4096)
       (page-region one (page * 4096) (record { from = omega arith; below = omega arith }))
       (page-region two (page * 4096) (record { from = omega arith; below = omega arith }))
 
-  module _ (s : St) (law : Lawful h s) where
-    all-given : (cs : List Call) → Each (Asks h) cs → Each Given (map pagesOf cs)
+  module _ (s : St) (law : ShapedSound h s) where
+    all-given : (cs : List MapArguments) → Each (Asks h) cs → Each Given (map mapPagesOf cs)
     all-given [] asks = tt
     all-given (c ∷ cs) asks = (given (passes law (asks .0)), all-given cs (asks .1))
 
-    all-valid : (cs : List Call) → Each (Asks h) cs → Each Valid cs → Each ValidMap (map pagesOf cs)
-    unfolding asked
+    all-valid : (cs : List MapArguments) → Each (Asks h) cs → Each Valid cs → Each ValidMap (map mapPagesOf cs)
+    unfolding askedMap
     all-valid [] asks valid = tt
     all-valid (c ∷ cs) asks valid =
         (record { given = given (passes {c = c} law (asks .0)); valid = valid-of (c .flags) (valid .0) }, all-valid cs (asks .1) (valid .1))
 
-    all-apart : (c : Call) (cs : List Call) → Asks h c → Each (Asks h) cs → Each (Apart c) cs → Each (ApartPages (pagesOf c)) (map pagesOf cs)
+    all-apart : (c : MapArguments) (cs : List MapArguments) → Asks h c → Each (Asks h) cs → Each (RegionsApart c) cs → Each (ApartPages (mapPagesOf c)) (map mapPagesOf cs)
     all-apart c [] own asks apart = tt
     all-apart c (d ∷ cs) own asks apart = (pages-apart (passes law own) (passes law (asks .0)) (apart .0), all-apart c cs own (asks .1) (apart .1))
 
-    pairwise-pages : (cs : List Call) → Each (Asks h) cs → Pairs Apart cs → Pairwise (map pagesOf cs)
+    pairwise-pages : (cs : List MapArguments) → Each (Asks h) cs → Pairs RegionsApart cs → Pairwise (map mapPagesOf cs)
     pairwise-pages [] asks apart = tt
     pairwise-pages (c ∷ cs) asks apart = (all-apart c cs (asks .0) (asks .1) (apart .0), pairwise-pages cs (asks .1) (apart .1))
 
-pub apart-flip : (c d : Call) → Apart c d → Apart d c
+pub apart-flip : (c d : MapArguments) → RegionsApart c d → RegionsApart d c
 apart-flip c d apart va at of = apart va of at
 
 -- ---- in another order
 
-module _ {h : Handle} {s : St} (law : Lawful h s) {cs ds : List Call} (reorders : Reorders cs ds) (apart : Pairs Apart cs) where
-  fine : FineTable (leftOf h) (rootTree h s)
+module _ {h : Handle} {s : St} (law : ShapedSound h s) {cs ds : List MapArguments} (reorders : Reorders cs ds) (apart : Pairs RegionsApart cs) where
+  fine : FineTable (depthOf h) (rootTree h s)
   fine = root-fine (shaped-placed (law .shape)) (law .pool)
 
   -- with VALID: accepted too,
@@ -120,7 +120,7 @@ module _ {h : Handle} {s : St} (law : Lawful h s) {cs ds : List Call} (reorders 
       let in-use = used-tree (law .shape) (law .pool) in
       let sum = used-free (s .ledger) in
       room-turn h ds s law (each-reorders (Asks h) reorders asks)
-      (room-reorders (leftOf h) (rootIn h) (tables s) (Permᴰ·map pagesOf reorders) (pairwise-pages h s law cs asks apart) (all-valid h s law cs asks valid) (rootTree h s) fine
+      (room-reorders (depthOf h) (rootIn h) (tables s) (Permᴰ·map mapPagesOf reorders) (pairwise-pages h s law cs asks apart) (all-valid h s law cs asks valid) (rootTree h s) fine
       (omega arith) (turn-room h law turn))
 
   module _ {s′ t′ : St} (turn : InTurn h cs s s′) (turn′ : InTurn h ds s t′) where
@@ -129,7 +129,7 @@ module _ {h : Handle} {s : St} (law : Lawful h s) {cs ds : List Call} (reorders 
     order-tree valid =
         let asks = turn-asks h turn in
         turn-tree h turn
-        ∙ run-reorders (leftOf h) (rootIn h) (Permᴰ·map pagesOf reorders) (pairwise-pages h s law cs asks apart) (all-valid h s law cs asks valid) (rootTree h s) fine
+        ∙ run-reorders (depthOf h) (rootIn h) (Permᴰ·map mapPagesOf reorders) (pairwise-pages h s law cs asks apart) (all-valid h s law cs asks valid) (rootTree h s) fine
         ∙ sym (turn-tree h turn′)
 
     pub order-walks : Each Valid cs → (va : ℕ) → walkOf h s′ va ≡ walkOf h t′ va
@@ -137,7 +137,7 @@ module _ {h : Handle} {s : St} (law : Lawful h s) {cs ds : List Call} (reorders 
         let one = turn-sound h law turn in
         let two = turn-sound h law turn′ in
         walk-of-tree (one .shape) (one .pool) va
-        ∙ ap (λ (t : Tree). says va (met (walkTree (slotsOf va) (suc (leftOf h)) t))) (order-tree valid)
+        ∙ ap (λ (t : Tree). says va (reachedAt (walkTree (slotsTaken va) (suc (depthOf h)) t))) (order-tree valid)
         ∙ sym (walk-of-tree (two .shape) (two .pool) va)
 
     pub order-tables : Each Valid cs → used (s′ .ledger) ≡ used (t′ .ledger)
@@ -153,16 +153,16 @@ module _ {h : Handle} {s : St} (law : Lawful h s) {cs ds : List Call} (reorders 
         let one = turn-sound h law turn in
         let two = turn-sound h law turn′ in
         walk-shown (one .shape) (one .pool) va
-        ∙ ap (λ (t : Tree). inBytes (seen (suc (leftOf h)) t (va / 4096))) (turn-tree h turn)
-        ∙ ap inBytes (any-order-seen (leftOf h) (rootIn h) (rootTree h s) fine (map pagesOf cs) (map pagesOf ds) (Permᴰ·map pagesOf reorders)
+        ∙ ap (λ (t : Tree). inBytes (seen (suc (depthOf h)) t (va / 4096))) (turn-tree h turn)
+        ∙ ap inBytes (any-order-seen (depthOf h) (rootIn h) (rootTree h s) fine (map mapPagesOf cs) (map mapPagesOf ds) (Permᴰ·map mapPagesOf reorders)
         (pairwise-pages h s law cs asks apart) (all-given h s law cs asks) (va / 4096) (span-spans h va (law .shape .level) at))
-        ∙ ap (λ (t : Tree). inBytes (seen (suc (leftOf h)) t (va / 4096))) (sym (turn-tree h turn′))
+        ∙ ap (λ (t : Tree). inBytes (seen (suc (depthOf h)) t (va / 4096))) (sym (turn-tree h turn′))
         ∙ sym (walk-shown (two .shape) (two .pool) va)
 
 -- where the tables that a list makes are free at entry, no call of it is refused 9
-pub turn-enough : (h : Handle) (cs : List Call) (s : St) → Lawful h s → Each (Asks h) cs
-    → madeAll (leftOf h) (rootIn h) (map pagesOf cs) (rootTree h s) ≤ free (s .ledger) → (s′ : St) × InTurn h cs s s′
+pub turn-enough : (h : Handle) (cs : List MapArguments) (s : St) → ShapedSound h s → Each (Asks h) cs
+    → madeAll (depthOf h) (rootIn h) (map mapPagesOf cs) (rootTree h s) ≤ free (s .ledger) → (s′ : St) × InTurn h cs s s′
 turn-enough h cs s law asks room =
     let in-use = used-tree (law .shape) (law .pool) in
     let sum = used-free (s .ledger) in
-    room-turn h cs s law asks (enough-room (leftOf h) (rootIn h) (rootTree h s) (tables s) (map pagesOf cs) (omega arith))
+    room-turn h cs s law asks (enough-room (depthOf h) (rootIn h) (rootTree h s) (tables s) (map mapPagesOf cs) (omega arith))

@@ -13,10 +13,10 @@ use Rattle.region.specs.declared.MemoryRegion.{MemoryRegion}
 use Rattle.map_rules.specs.declared.Map.{Map}
 use Rattle.map_rules.specs.Rules.{chunkMap}
 use Rattle.theory_forest.specs.Tree.{Tree, leaf}
-use Rattle.theory_tree.specs.Page.{span, first, child, slotOf, child-order}
+use Rattle.theory_tree.specs.Page.{pagesIn, first, child, slotOfPage, child-order}
 use Rattle.theory_tree.specs.Visit.{keep, write, down as goDown, opened, splits, obey, counted}
-use Rattle.theory_tree.specs.Chunks.{Inside, chunked, chunkedTable, index-slot, Cut, cut}
-use Rattle.theory_tree.specs.Needed.{slotIn, tallied, needed, neededTable}
+use Rattle.theory_tree.specs.Chunks.{Inside, chunked, chunkedTable, index-slot, FirstCut, cut}
+use Rattle.theory_tree.specs.Needed.{slotTree, tallied, needed, neededTable}
 use Rattle.theory_tree.specs.Document.{documentRule}
 use Rattle.theory_map.specs.Rule.{saysOf}
 use Rattle.theory_map.specs.Stand.{Piece}
@@ -60,7 +60,7 @@ takes-down m depth t e = rw e
 
 -- a region with its frame in the table below the q-th entry
 pub record Area (depth q : ℕ) (m : Map) : Type 0 where
-  pub inside : Inside (first (suc depth) q) (span (suc depth)) (m .region .start .0) (m .region .end .0) (m .frame .0)
+  pub inside : Inside (first (suc depth) q) (pagesIn (suc depth)) (m .region .start .0) (m .region .end .0) (m .frame .0)
   pub room : m .frame .0 + (m .region .end .0 - m .region .start .0) ≤ 2 ^ 48
 
 -- a chunk is the region of the table below its entry
@@ -69,7 +69,7 @@ piece-area piece = record { inside = piece .inside; room = piece .room }
 
 -- the slot of a chunk
 abbrev pub slotAt : ℕ → MemoryRegion → ℕ
-slotAt depth c = slotOf (c .start .0 / 4096) depth
+slotAt depth c = slotOfPage (c .start .0 / 4096) depth
 
 -- the chunk c, with the frame p, in a slot from a on
 pub record Next (depth q : ℕ) (m : Map) (a p : ℕ) (c : MemoryRegion) : Type 0 where
@@ -84,22 +84,22 @@ Pieces depth q m a p (c ∷ cs) = Next depth q m a p c × Pieces depth q m (suc 
 module _ (depth q : ℕ) (m : Map) (low : depth ≤ 3) where
   -- the entries below slot a end at s, if anything is left
   abbrev Past : ℕ → ℕ → ℕ → Type 0
-  Past a s e = (i : ℕ) → i < a → s < e → first depth (child q i) + span depth ≤ s / 4096
+  Past a s e = (i : ℕ) → i < a → s < e → first depth (child q i) + pagesIn depth ≤ s / 4096
 
-  pieces-from : (n a s e p : ℕ) → met (3 - depth) s e ≡ n → Inside (first (suc depth) q) (span (suc depth)) s e p → p + (e - s) ≤ 2 ^ 48 → Past a s e
+  pieces-from : (n a s e p : ℕ) → met (3 - depth) s e ≡ n → Inside (first (suc depth) q) (pagesIn (suc depth)) s e p → p + (e - s) ≤ 2 ^ 48 → Past a s e
       → Pieces depth q m a p (chunks (3 - depth) s e)
   pieces-from zero a s e p n I room past = go (le-or e s)
     where
       go : (e ≤ s) ⊎ (s < e) → Pieces depth q m a p (chunks (3 - depth) s e)
       go (inl h) = subst (Pieces depth q m a p) (sym (chunks-none (3 - depth) s e h)) tt
       go (inr h) = absurd (let k = met-step (3 - depth) s e h in omega arith)
-  pieces-from (suc n) a s e p k I room past = go (le-or e s) (λ z. pieces-from n (suc (slotOf (s / 4096) depth)) z e (p + (z - s)))
+  pieces-from (suc n) a s e p k I room past = go (le-or e s) (λ z. pieces-from n (suc (slotOfPage (s / 4096) depth)) z e (p + (z - s)))
     where
       i : ℕ
-      i = slotOf (s / 4096) depth
+      i = slotOfPage (s / 4096) depth
 
       go : (e ≤ s) ⊎ (s < e)
-          → ((z : ℕ) → met (3 - depth) z e ≡ n → Inside (first (suc depth) q) (span (suc depth)) z e (p + (z - s)) → p + (z - s) + (e - z) ≤ 2 ^ 48 → Past (suc i) z e
+          → ((z : ℕ) → met (3 - depth) z e ≡ n → Inside (first (suc depth) q) (pagesIn (suc depth)) z e (p + (z - s)) → p + (z - s) + (e - z) ≤ 2 ^ 48 → Past (suc i) z e
           → Pieces depth q m (suc i) (p + (z - s)) (chunks (3 - depth) z e))
           → Pieces depth q m a p (chunks (3 - depth) s e)
       go (inl h) ih = subst (Pieces depth q m a p) (sym (chunks-none (3 - depth) s e h)) tt
@@ -115,13 +115,13 @@ module _ (depth q : ℕ) (m : Map) (low : depth ≤ 3) where
             ih z fewer (c .rest) (omega (arith, c .within, c .more)) (λ j l more. next z c j more (eq-or j i) l),
           )
         where
-          from : {z : ℕ} → Cut depth q s e p z i → (a ≤ i) ⊎ (i < a) → a ≤ i
+          from : {z : ℕ} → FirstCut depth q s e p z i → (a ≤ i) ⊎ (i < a) → a ≤ i
           from c (inl l) = l
           from c (inr l) = absurd (let x = past i l h in omega (arith, c .chunk .high, c .more, c .chunk .startPage, c .chunk .endPage))
 
-          next : (z : ℕ) → Cut depth q s e p z i → (j : ℕ) → z < e → (j ≡ i) ⊎ (¬ (j ≡ i)) → j < suc i → first depth (child q j) + span depth ≤ z / 4096
+          next : (z : ℕ) → FirstCut depth q s e p z i → (j : ℕ) → z < e → (j ≡ i) ⊎ (¬ (j ≡ i)) → j < suc i → first depth (child q j) + pagesIn depth ≤ z / 4096
           next z c j more (inl same) l =
-              let end : first depth (child q i) + span depth ≤ z / 4096 = omega (arith, c .ends, c .rest .startPage, c .rest .endPage) in
+              let end : first depth (child q i) + pagesIn depth ≤ z / 4096 = omega (arith, c .ends, c .rest .startPage, c .rest .endPage) in
               rw same end
           next z c j more (inr other) l = let o = child-order depth q j i (omega arith) in omega (arith, c .chunk .low, c .more)
 
@@ -131,12 +131,12 @@ module _ (depth q : ℕ) (m : Map) (low : depth ≤ 3) where
 
   -- what the chunks take depends on the slots from a on
   pub tallied-from : (each : MemoryRegion → ℕ → Tree → ℕ) (cs : List MemoryRegion) (a p : ℕ) (t u : Tree) → Pieces depth q m a p cs
-      → ((j : ℕ) → a ≤ j → slotIn t j ≡ slotIn u j) → tallied depth each cs p t ≡ tallied depth each cs p u
+      → ((j : ℕ) → a ≤ j → slotTree t j ≡ slotTree u j) → tallied depth each cs p t ≡ tallied depth each cs p u
   unfolding tallied
   tallied-from each [] a p t u all same = refl
   tallied-from each (c ∷ cs) a p t u all same =
       let i : ℕ = entryIndex (3 - depth) (c .start .0) in
       let at = index-slot depth (c .start .0) low in
-      let here : slotIn t i ≡ slotIn u i = same i (omega (arith, all .0 .from)) in
+      let here : slotTree t i ≡ slotTree u i = same i (omega (arith, all .0 .from)) in
       ap₂ _+_ (ap (each c p) here)
       (tallied-from each cs (suc (slotAt depth c)) (p + (c .end .0 - c .start .0)) t u (all .1) (λ j l. same j (omega (arith, all .0 .from))))

@@ -12,13 +12,13 @@ use Rattle.pool.specs.State.{St}
 use Rattle.pool.specs.declared.Handle.{Handle}
 use Rattle.pool.specs.declared.VaRange.{VaRange}
 use Rattle.pool.specs.declared.VaRange.the-variants.{Lower, Upper}
-use Rattle.map_verify.specs.Ask.{asked}
+use Rattle.map_verify.specs.Ask.{askedMap}
 use Rattle.look_up.specs.Call.{spanned, span-lower, span-upper}
-use Rattle.theory_tree.specs.Page.{span, first, In, in-of}
+use Rattle.theory_tree.specs.Page.{pagesIn, first, In, in-of}
 use Rattle.theory_tree.specs.Chunks.{Inside}
 use Rattle.theory_tree.specs.Root.{lower-span, upper-span}
 use Rattle.theory_tree.specs.Demands.{OfRegion}
-use Rattle.theory_map.specs.Terms.{Call, Passed, InRegion, frameFor, InSpan, leftOf, rootOf, rootIn, pagesOf}
+use Rattle.theory_map.specs.Terms.{MapArguments, MapPassed, InMapRegion, frameFor, InSpan, depthOf, rootOf, rootIn, mapPagesOf}
 use Rattle.theory_map.specs.Call.{area}
 
 -- ---- the pages of a region
@@ -30,25 +30,25 @@ module _ (r : MemoryRegion) {b n p : ℕ} (I : Inside b n (r .start .0) (r .end 
   pub page-in : OfRegion (r .start .0 / 4096) (r .end .0 / 4096) (va / 4096) → Holds r va
   page-in of = record { from = omega (arith, of .from, I .startPage); below = omega (arith, of .below, I .endPage) }
 
-pub page-spans : (depth q : ℕ) {start end p page : ℕ} → Inside (first (suc depth) q) (span (suc depth)) start end p → OfRegion (start / 4096) (end / 4096) page → In (suc depth) q page
+pub page-spans : (depth q : ℕ) {start end p page : ℕ} → Inside (first (suc depth) q) (pagesIn (suc depth)) start end p → OfRegion (start / 4096) (end / 4096) page → In (suc depth) q page
 page-spans depth q {page = page} I of = in-of (suc depth) q page (omega (arith, I .low, of .from)) (omega (arith, I .high, of .below))
 
 -- ---- the call's region
 
-module _ {h : Handle} {c : Call} {s : St} (passed : Passed h c s) (va : ℕ) where
-  pub region-page : InRegion c va → OfRegion (pagesOf c .from) (pagesOf c .upto) (va / 4096)
-  unfolding asked
+module _ {h : Handle} {c : MapArguments} {s : St} (passed : MapPassed h c s) (va : ℕ) where
+  pub region-page : InMapRegion c va → OfRegion (mapPagesOf c .from) (mapPagesOf c .upto) (va / 4096)
+  unfolding askedMap
   region-page at = in-page (rounded (c .start) (c .end)) (area passed .inside) va at
 
-  pub page-region : OfRegion (pagesOf c .from) (pagesOf c .upto) (va / 4096) → InRegion c va
-  unfolding asked
+  pub page-region : OfRegion (mapPagesOf c .from) (mapPagesOf c .upto) (va / 4096) → InMapRegion c va
+  unfolding askedMap
   page-region of = page-in (rounded (c .start) (c .end)) (area passed .inside) va of
 
-  pub region-spans : InRegion c va → In (suc (leftOf h)) (rootIn h) (va / 4096)
-  region-spans at = page-spans (leftOf h) (rootIn h) (area passed .inside) (region-page at)
+  pub region-spans : InMapRegion c va → In (suc (depthOf h)) (rootIn h) (va / 4096)
+  region-spans at = page-spans (depthOf h) (rootIn h) (area passed .inside) (region-page at)
 
-  pub frame-is : InRegion c va → (pagesOf c .frame + (va / 4096 - pagesOf c .from)) * 4096 ≡ frameFor c va
-  unfolding asked down
+  pub frame-is : InMapRegion c va → (mapPagesOf c .frame + (va / 4096 - mapPagesOf c .from)) * 4096 ≡ frameFor c va
+  unfolding askedMap down
   frame-is at =
       let I = area passed .inside in
       let a = I .startPage in
@@ -66,7 +66,7 @@ root-spans Upper depth va low e word =
     let l = ltb-true (18446744073709551615 - 512 * sizeAt (3 - depth)) va (span-upper Upper (3 - depth) va (sizeAt (3 - depth)) refl refl ∙ e) in
     upper-span depth va low (omega arith) word
 
-pub span-spans : (h : Handle) (va : ℕ) → h .level ≤ 3 → InSpan h va → In (suc (leftOf h)) (rootIn h) (va / 4096)
+pub span-spans : (h : Handle) (va : ℕ) → h .level ≤ 3 → InSpan h va → In (suc (depthOf h)) (rootIn h) (va / 4096)
 span-spans h va low at =
     let e : 3 - (3 - h .level) ≡ h .level = omega arith in
-    root-spans (h .range) (leftOf h) va (omega arith) (ap (λ (l : ℕ). spanned (h .range) l va) e ∙ at .spans) (at .word)
+    root-spans (h .range) (depthOf h) va (omega arith) (ap (λ (l : ℕ). spanned (h .range) l va) e ∙ at .spans) (at .word)

@@ -11,7 +11,7 @@ use Rattle.pool.specs.declared.Handle.{Handle}
 use Rattle.map_rules.specs.declared.Map.{Map}
 use Rattle.map_rules.specs.Rules.{chunkMap}
 use Rattle.map_put.specs.Put.{eachOf, eachChunk, mapRange}
-use Rattle.map_put.specs.Range.{stepAt, map-open}
+use Rattle.map_put.specs.Range.{mapStep, map-open}
 use Rattle.theory_sound.specs.Codec.{Placed, treeFrom}
 use Rattle.theory_tree.specs.Page.{child}
 use Rattle.theory_tree.specs.Chunks.{chunked, chunkedTable}
@@ -37,15 +37,15 @@ module _ {h : Handle} (placed : Placed h) where
   unfolding chunkedTable neededTable
   table-works depth low works q k m s allowed area R room =
       subst (λ (s′ : St). Worked placed s s′ depth k (doneTable m depth (treeFrom h s depth k)) (takesTable m depth (treeFrom h s depth k))) is
-      (loop placed (λ (x : St). x) (λ c p t. stepAt h k (3 - depth) (chunkMap m c p) t)
+      (loop placed (λ (x : St). x) (λ c p t. mapStep h k (3 - depth) (chunkMap m c p) t)
       (λ c p u. chunked (documentRule (m .flags) (m .blocks)) depth c p u) (λ c p u. needed (documentRule (m .flags) (m .blocks)) depth c p u) depth q k m low
       (λ c p x piece ready enough. works (child q (slotAt depth c)) k (chunkMap m c p) x allowed piece ready enough)
       (chunks (3 - depth) (m .region .start .0) (m .region .end .0)) 0 (m .frame .0) s (pieces depth q m low (m .frame .0) (m .region) area) R room)
     where
-      is : through (λ c frame t. stepAt h k (3 - depth) (chunkMap m c frame) t) (chunks (3 - depth) (m .region .start .0) (m .region .end .0)) (m .frame .0) s ≡ mapRange depth h k m s
+      is : through (λ c frame t. mapStep h k (3 - depth) (chunkMap m c frame) t) (chunks (3 - depth) (m .region .start .0) (m .region .end .0)) (m .frame .0) s ≡ mapRange depth h k m s
       is =
           let e : 3 - (3 - depth) ≡ depth = omega arith in
-          each-is (3 - depth) (stepAt h k (3 - depth)) m s ∙ map-open h k (3 - depth) m s (omega arith) ∙ ap (λ (d : ℕ). mapRange d h k m s) e
+          each-is (3 - depth) (mapStep h k (3 - depth)) m s ∙ map-open h k (3 - depth) m s (omega arith) ∙ ap (λ (d : ℕ). mapRange d h k m s) e
 
   -- A MAP OF A TABLE
   pub range-works : (depth : ℕ) → depth ≤ 3 → Works placed depth

@@ -18,10 +18,10 @@ use Rattle.theory_sound.specs.Codec.{shaped-placed, rootTree}
 use Rattle.arm.specs.Arm.{frameOf, flagsIn, at, says}
 use Rattle.arm.specs.Walk.{index-is, flags-is, frame-is, says-hole, says-block, says-page}
 use Rattle.theory_walk.specs.AsBefore.{walkOf, Shown, mapped, hole, shown}
-use Rattle.theory_walk.specs.Any.{slotsOf, met}
+use Rattle.theory_walk.specs.Any.{slotsTaken, reachedAt}
 use Rattle.theory_walk.specs.Walked.{walk-of-tree}
-use Rattle.theory_tree.specs.Page.{span, entry-number, entry-rest, slotOf, slot-lt}
-use Rattle.theory_tree.specs.Word.{frameOf as frameIn, address-frame}
+use Rattle.theory_tree.specs.Page.{pagesIn, entry-number, entry-rest, slotOfPage, slot-lt}
+use Rattle.theory_tree.specs.Word.{frameIn, address-frame}
 use Rattle.theory_tree.specs.Fine.{Fine}
 use Rattle.theory_tree.specs.Walk.{Seen, mapped as seenMapped, hole as seenHole, seenIn, walk as walkIn, seen, seen-fine}
 use Rattle.theory_tree.specs.Shown.{FineTree, FineTable}
@@ -45,28 +45,28 @@ flags-shown w =
     parts : (a b : ℕ) → (a + b * 2 ^ 48) / 4 * 4 + (a + b * 2 ^ 48) % 2 ≡ a / 4 * 4 + a % 2 + b * 2 ^ 48
     parts a b = omega arith
 
-page-rest : (depth va : ℕ) → depth ≤ 3 → va % sizeAt (3 - depth) / 4096 ≡ va / 4096 % span depth
-unfolding sizeAt span
+page-rest : (depth va : ℕ) → depth ≤ 3 → va % sizeAt (3 - depth) / 4096 ≡ va / 4096 % pagesIn depth
+unfolding sizeAt pagesIn
 page-rest zero va low = omega arith
 page-rest (suc zero) va low = omega arith
 page-rest (suc (suc zero)) va low = omega arith
 page-rest (suc (suc (suc zero))) va low = omega arith
 page-rest (suc (suc (suc (suc depth)))) va low = absurd (omega arith)
 
-frame-shown : (depth w va : ℕ) → depth ≤ 3 → Fine depth w → frameOf (3 - depth) w va ≡ (frameIn w + va / 4096 % span depth) * 4096
+frame-shown : (depth w va : ℕ) → depth ≤ 3 → Fine depth w → frameOf (3 - depth) w va ≡ (frameIn w + va / 4096 % pagesIn depth) * 4096
 unfolding down
 frame-shown depth w va low fine =
     let f = address-frame w in
     let frame : addressOf w / 4096 ≡ frameIn w = omega arith in
     let rest = entry-rest depth (addressOf w) low (omega arith) in
-    let none : addressOf w / 4096 % span depth ≡ 0 = ap (λ (x : ℕ). x % span depth) frame ∙ fine .aligned in
+    let none : addressOf w / 4096 % pagesIn depth ≡ 0 = ap (λ (x : ℕ). x % pagesIn depth) frame ∙ fine .aligned in
     let whole : addressOf w / sizeAt (3 - depth) * sizeAt (3 - depth) ≡ addressOf w = omega (arith, down-rest (addressOf w) (sizeAt (3 - depth))) in
     let offset = page-rest depth va low in
     let size : ℕ = sizeAt (3 - depth) in
-    let e : addressOf w / size * size + va % size / 4096 * 4096 ≡ (frameIn w + va / 4096 % span depth) * 4096 = omega arith in
+    let e : addressOf w / size * size + va % size / 4096 * 4096 ≡ (frameIn w + va / 4096 % pagesIn depth) * 4096 = omega arith in
     frame-is (3 - depth) w va ∙ e
 
-seen-valid : (depth w page : ℕ) → Fine depth w → valid w ≡ true → seenIn depth w page ≡ seenMapped (plainFlags w) (frameIn w + page % span depth)
+seen-valid : (depth w page : ℕ) → Fine depth w → valid w ≡ true → seenIn depth w page ≡ seenMapped (plainFlags w) (frameIn w + page % pagesIn depth)
 seen-valid depth w page fine v = seen-fine depth w page fine ∙ rw v
 
 seen-none : (depth w page : ℕ) → Fine depth w → valid w ≡ false → seenIn depth w page ≡ seenHole (plainFlags w)
@@ -80,10 +80,10 @@ says-shown depth w va low fine = byBool (valid w)
     ap shown (says-hole (3 - depth) w va (kind-clear (3 - depth) w (λ e. omega arith) (λ e. omega arith)))
     ∙ ap hole (flags-shown w) ∙ sym (ap inBytes (seen-none depth w (va / 4096) fine v)))
   where
-    both : (k : ℕ) → k ≤ 3 → Fine k w → mapped (flagsIn w) (frameOf (3 - k) w va) ≡ mapped (plainFlags w) ((frameIn w + va / 4096 % span k) * 4096)
+    both : (k : ℕ) → k ≤ 3 → Fine k w → mapped (flagsIn w) (frameOf (3 - k) w va) ≡ mapped (plainFlags w) ((frameIn w + va / 4096 % pagesIn k) * 4096)
     both k l f = ap₂ mapped (flags-shown w) (frame-shown k w va l f)
 
-    some : (k : ℕ) → k ≤ 3 → Fine k w → w % 2 ≡ 1 → shown (says va (at (3 - k) w)) ≡ mapped (plainFlags w) ((frameIn w + va / 4096 % span k) * 4096)
+    some : (k : ℕ) → k ≤ 3 → Fine k w → w % 2 ≡ 1 → shown (says va (at (3 - k) w)) ≡ mapped (plainFlags w) ((frameIn w + va / 4096 % pagesIn k) * 4096)
     some zero l f o = let b = f .page refl o in ap shown (says-page 3 w va (omega arith)) ∙ both 0 l f
     some (suc zero) l f o =
         let b = f .clear (omega arith) in ap shown (says-block 2 w va (kind-block 2 w (inr refl) (omega arith))) ∙ both 1 l f
@@ -94,8 +94,8 @@ says-shown depth w va low fine = byBool (valid w)
 -- ---- the walk
 
 -- it takes the slots of the page
-pub slots-are : (va depth : ℕ) → depth ≤ 3 → slotsOf va depth ≡ slotOf (va / 4096) depth
-unfolding slotsOf slotOf
+pub slots-are : (va depth : ℕ) → depth ≤ 3 → slotsTaken va depth ≡ slotOfPage (va / 4096) depth
+unfolding slotsTaken slotOfPage
 slots-are va depth low = index-is (3 - depth) va ∙ ap (λ (x : ℕ). x % 512) (entry-number depth va low)
 
 pub walk-same : (f g : ℕ → ℕ) (n : ℕ) (t : Tree) → ((l : ℕ) → l < n → f l ≡ g l) → walkTree f n t ≡ walkTree g n t
@@ -122,11 +122,11 @@ unfolding walkTree
 table-ends f depth (leaf w) slots fine = absurd fine
 table-ends f depth (node u) slots fine = ends-fine f depth (u (f depth)) slots (fine (f depth) (slots depth))
 
-ends-shown : (va : ℕ) (e : Ends) (depth : ℕ) → depth ≤ 3 → FineEnds depth e → shown (says va (met e)) ≡ inBytes (seenIn (e .depth) (e .word) (va / 4096))
-unfolding met
+ends-shown : (va : ℕ) (e : Ends) (depth : ℕ) → depth ≤ 3 → FineEnds depth e → shown (says va (reachedAt e)) ≡ inBytes (seenIn (e .depth) (e .word) (va / 4096))
+unfolding reachedAt
 ends-shown va e depth low fine = says-shown (e .depth) (e .word) va (omega (arith, fine .low)) (fine .fine)
 
-seen-ends : (depth : ℕ) (t : Tree) (page : ℕ) → let e = walkTree (slotOf page) depth t in seenIn (e .depth) (e .word) page ≡ seen depth t page
+seen-ends : (depth : ℕ) (t : Tree) (page : ℕ) → let e = walkTree (slotOfPage page) depth t in seenIn (e .depth) (e .word) page ≡ seen depth t page
 unfolding walkIn
 seen-ends depth t page = refl
 
@@ -135,9 +135,9 @@ module _ {h : Handle} {s : St} (shape : Shaped h s) (P : SoundPool h s) (va : �
   pub walk-shown : shown (walkOf h s va) ≡ inBytes (seen (suc (3 - h .level)) (rootTree h s) (va / 4096))
   walk-shown =
       let depth : ℕ = 3 - h .level in
-      let e : Ends = walkTree (slotOf (va / 4096)) (suc depth) (rootTree h s) in
-      let same : walkTree (slotsOf va) (suc depth) (rootTree h s) ≡ e =
-      walk-same (slotsOf va) (slotOf (va / 4096)) (suc depth) (rootTree h s) (λ l h. slots-are va l (omega arith)) in
-      let ends = table-ends (slotOf (va / 4096)) depth (rootTree h s) (slot-lt (va / 4096)) (root-fine (shaped-placed shape) P) in
-      ap shown (walk-of-tree shape P va) ∙ ap (λ (x : Ends). shown (says va (met x))) same ∙ ends-shown va e depth (omega arith) ends
+      let e : Ends = walkTree (slotOfPage (va / 4096)) (suc depth) (rootTree h s) in
+      let same : walkTree (slotsTaken va) (suc depth) (rootTree h s) ≡ e =
+      walk-same (slotsTaken va) (slotOfPage (va / 4096)) (suc depth) (rootTree h s) (λ l h. slots-are va l (omega arith)) in
+      let ends = table-ends (slotOfPage (va / 4096)) depth (rootTree h s) (slot-lt (va / 4096)) (root-fine (shaped-placed shape) P) in
+      ap shown (walk-of-tree shape P va) ∙ ap (λ (x : Ends). shown (says va (reachedAt x))) same ∙ ends-shown va e depth (omega arith) ends
       ∙ ap inBytes (seen-ends (suc depth) (rootTree h s) (va / 4096))

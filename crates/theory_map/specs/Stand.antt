@@ -4,7 +4,7 @@ use mathlib.Core.Bool.{Bool, true, false, not, cond, _&&_}
 use Prim.Native.Nat.{ℕ, zero, suc, _+_, _-_, _/_, _%_, _^_, _≤_, _<_}
 use native.Mathlib.Omega.{arith}
 use lib.Dec.{eqb, ltb}
-use Rattle.laws.specs.Bit.{Sub}
+use Rattle.laws.specs.Bit.{SubBits}
 use Rattle.laws.specs.Size.{sizeAt}
 use Rattle.laws.specs.Test.{byBool}
 use Rattle.entry.specs.Word.{flagsOf, valid, plainFlags, Plain, flags-valid, leafWord}
@@ -14,7 +14,7 @@ use Rattle.pool.specs.declared.Handle.{Handle}
 use Rattle.map_rules.specs.declared.Map.{Map}
 use Rattle.theory_forest.specs.Tree.{Tree, leaf, node}
 use Rattle.theory_sound.specs.Step.{Stands}
-use Rattle.theory_tree.specs.Page.{span, first}
+use Rattle.theory_tree.specs.Page.{pagesIn, first}
 use Rattle.theory_tree.specs.Word.{fillWord, plain-flags, flags-shown, leaf-hole, leaf-plain}
 use Rattle.theory_tree.specs.Fine.{Fine, fill-flags, fill-is, fill-below, fine-fill}
 use Rattle.theory_tree.specs.Visit.{keep, write, down as goDown}
@@ -29,11 +29,11 @@ use Rattle.theory_map.specs.Rule.{saysOf}
 -- flags that refusals 3 and 4 leave
 pub record Allowed (h : Handle) (f : ℕ) : Type 0 where
   pub plain : Plain f
-  pub from : Sub f (flagSet h)
+  pub from : SubBits f (flagSet h)
 
 -- a chunk with its frame: some whole pages of the q-th entry with `depth` levels below, frames that end at 2^48
 pub record Piece (depth q : ℕ) (m : Map) : Type 0 where
-  pub inside : Inside (first depth q) (span depth) (m .region .start .0) (m .region .end .0) (m .frame .0)
+  pub inside : Inside (first depth q) (pagesIn depth) (m .region .start .0) (m .region .end .0) (m .frame .0)
   pub some : m .region .start .0 < m .region .end .0
   pub room : m .frame .0 + (m .region .end .0 - m .region .start .0) ≤ 2 ^ 48
 
@@ -78,7 +78,7 @@ write-stands h depth q level x m t allowed piece low fine e =
     let says = document-says (m .flags) (m .blocks) depth q (m .region .start .0) (m .region .end .0) (m .frame .0) t (omega arith) (piece .some) I in
     let good : Good depth (write x) = subst (Good depth) (sym says ∙ e) (map-shows _ given .good depth q t fine) in
     let flags = says-plain m (allowed .plain) depth x t (omega arith) (I .framePage) (omega (arith, piece .some, piece .room)) e in
-    fine-stands h depth level x low good (subst (λ (f : ℕ). Sub f (flagSet h)) (sym flags) (allowed .from))
+    fine-stands h depth level x low good (subst (λ (f : ℕ). SubBits f (flagSet h)) (sym flags) (allowed .from))
 
 -- ---- what a split fills
 
@@ -91,6 +91,6 @@ module _ (h : Handle) (depth w : ℕ) (fine : Fine (suc depth) w) (j : ℕ) (slo
       (λ v. ap plainFlags (leaf-hole (flagsOf w) F depth _ (flags-valid w ∙ v)) ∙ flags-shown (flagsOf w) F)
       ∙ sym (plain-flags w (fine .clear (omega arith)))
 
-  pub fill-stands : (level : ℕ) → level + depth ≡ 3 → Sub (plainFlags w) (flagSet h) → Stands h level (fillWord depth w j)
+  pub fill-stands : (level : ℕ) → level + depth ≡ 3 → SubBits (plainFlags w) (flagSet h) → Stands h level (fillWord depth w j)
   fill-stands level low from =
-      fine-stands h depth level (fillWord depth w j) low (fine-fill depth w fine j slot) (subst (λ (f : ℕ). Sub f (flagSet h)) (sym fill-plain) from)
+      fine-stands h depth level (fillWord depth w j) low (fine-fill depth w fine j slot) (subst (λ (f : ℕ). SubBits f (flagSet h)) (sym fill-plain) from)

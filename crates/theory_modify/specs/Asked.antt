@@ -15,7 +15,7 @@ use Rattle.pool.specs.declared.Outcome.{Outcome}
 use Rattle.pool.specs.declared.Outcome.the-variants.{Accepted, Refused}
 use Rattle.region_verify.specs.Verify.{endFits, verify, verified-forwards}
 use Rattle.modify_entry.specs.declared.Edit.{Edit}
-use Rattle.modify_verify.specs.Permit.{asked, settable, settable-says, verifyBits, thenRegion, verifyEdit, asked-span}
+use Rattle.modify_verify.specs.Permit.{askedEdit, settable, settable-says, verifyBits, thenRegion, verifyEdit, asked-span}
 use Rattle.theory_map.specs.Terms.{rootOf}
 use Rattle.theory_map.specs.Stand.{Allowed}
 use Rattle.theory_map.specs.Pieces.{Area}
@@ -53,9 +53,9 @@ bits-pass h set clear ok =
 
 -- ---- what is left of a call
 
-module _ (h : Handle) (start end set clear : ℕ) (live : Bool) (ok : verifyEdit h end (asked start end set clear live) ≡ Accepted) where
+module _ (h : Handle) (start end set clear : ℕ) (live : Bool) (ok : verifyEdit h end (askedEdit start end set clear live) ≡ Accepted) where
   abbrev e : Edit
-  e = asked start end set clear live
+  e = askedEdit start end set clear live
 
   asked-passes : (verifyBits h (e .set) (e .clear) ≡ Accepted) × (verify h (e .region) ≡ Accepted)
   unfolding verifyEdit
@@ -65,7 +65,7 @@ module _ (h : Handle) (start end set clear : ℕ) (live : Bool) (ok : verifyEdit
   asked-bits = let b = bits-pass h (e .set) (e .clear) (asked-passes .0) in record { set = b .0; clear = b .1 }
 
   pub asked-area : h .level ≤ 3 → Area (3 - h .level) (rootOf (h .range) (3 - h .level)) (areaOf e 0)
-  unfolding asked
+  unfolding askedEdit
   asked-area low = record {
     inside = pages-inside h start end 0 low (asked-passes .1) (omega arith);
     room = omega (arith, asked-span h start end set clear live ok);

@@ -23,7 +23,7 @@ use Rattle.modify_entry.specs.Own.{Numbered, numbered}
 use Rattle.modify_range.specs.Range.{Work, work, modifyRange}
 use Rattle.modify.specs.declared.Modified.{Modified}
 use Rattle.modify.specs.declared.Modified.the-variants as modified
-use Rattle.modify_verify.specs.Permit.{asked, verifyEdit, verifySurvey, survey-full, survey-off, survey-broken, survey-short, survey-accepted}
+use Rattle.modify_verify.specs.Permit.{askedEdit, verifyEdit, verifySurvey, survey-full, survey-off, survey-broken, survey-short, survey-accepted}
 use Rattle.modify.specs.Call.{Modifying, modifying, refused, answerOf, editTables, modifySound, sound-not, sound-refused, sound-edited, call-misshaped, call-refused, call-asked}
 use Rattle.modify.specs.Call.{nothing}
 use Rattle.theory_forest.specs.Tree.{Tree}
@@ -33,12 +33,12 @@ use Rattle.theory_sound.specs.Decide.{decide-sound, sound-decide}
 use Rattle.theory_tree.specs.Modify.{GivenModify, modifyTree, modifyMade}
 use Rattle.theory_tree.specs.Walk.{seen}
 use Rattle.theory_tree.specs.DocumentModify.{document-modifies, document-modify-needs}
-use Rattle.theory_map.specs.Terms.{leftOf, rootIn}
+use Rattle.theory_map.specs.Terms.{depthOf, rootIn}
 use Rattle.theory_map.specs.Leaf.{slot-fine}
 use Rattle.theory_map.specs.Moves.{slotShows, Ready, Worked, worked-shaped, worked-pool, root-ready, root-node}
 use Rattle.theory_map.specs.Pieces.{Area}
 use Rattle.theory_map.specs.Asked.{Early}
-use Rattle.theory_modify.specs.Terms.{Call, callOf, accepted, Modifies, askedOf, Passed, surveyed, pagesOf, treeAfter, madeBy, numbersOf}
+use Rattle.theory_modify.specs.Terms.{ModifyArguments, modifyAnswer, modifyAccepted, Modifies, editAsked, ModifyPassed, surveyed, modifyPagesOf, treeAfterModify, madeByModify, numbersOf}
 use Rattle.theory_modify.specs.Numbers.{tableNumbers, occurs, firstPage}
 use Rattle.theory_modify.specs.Word.{Bits}
 use Rattle.theory_modify.specs.Range.{editTable, editTakes, areaOf, range-edits}
@@ -51,71 +51,71 @@ use Rattle.theory_modify.specs.Listed.{changes, region-tells}
 use Rattle.theory_modify.specs.Asked.{asked-bits, asked-area, asked-forwards, asked-early}
 
 -- the pool and the list that an accepted call leaves
-abbrev pub workAfter : Handle → Call → St → List ℕ → Work
-workAfter h c s list = modifyRange (leftOf h) h 0 (askedOf c) (work s list 0)
+abbrev pub workAfter : Handle → ModifyArguments → St → List ℕ → Work
+workAfter h c s list = modifyRange (depthOf h) h 0 (editAsked c) (work s list 0)
 
-module _ {h : Handle} {c : Call} {s : St} (passed : Passed h c s) where
+module _ {h : Handle} {c : ModifyArguments} {s : St} (passed : ModifyPassed h c s) where
   abbrev e : Edit
-  e = askedOf c
+  e = editAsked c
 
   pub bits : Bits h e
   bits = asked-bits h (c .start) (c .end) (c .set) (c .clear) (c .live) (passed .asks)
 
-  pub area : Area (leftOf h) (rootIn h) (areaOf e 0)
+  pub area : Area (depthOf h) (rootIn h) (areaOf e 0)
   area = asked-area h (c .start) (c .end) (c .set) (c .clear) (c .live) (passed .asks) (passed .shape .level)
 
-  pub ready : Ready (shaped-placed (passed .shape)) s (leftOf h) 0
+  pub ready : Ready (shaped-placed (passed .shape)) s (depthOf h) 0
   ready = root-ready (passed .shape) (passed .pool)
 
-  pub given : GivenModify (pagesOf c)
+  pub given : GivenModify (modifyPagesOf c)
   given = record { set = bits .set .plain; clear = bits .clear .plain }
 
-  takes-made : editTakes e (leftOf h) 0 (rootTree h s) ≡ madeBy h c s
+  takes-made : editTakes e (depthOf h) 0 (rootTree h s) ≡ madeByModify h c s
   takes-made =
-      subst (λ (t : Tree). editTakes e (leftOf h) 0 t ≡ modifyMade (leftOf h) (rootIn h) (pagesOf c) t) (sym (root-node h s))
-      (document-modify-needs (e .set) (e .clear) (leftOf h) (rootIn h) (e .region .start .0) (e .region .end .0) _ (omega arith) (area .inside))
+      subst (λ (t : Tree). editTakes e (depthOf h) 0 t ≡ modifyMade (depthOf h) (rootIn h) (modifyPagesOf c) t) (sym (root-node h s))
+      (document-modify-needs (e .set) (e .clear) (depthOf h) (rootIn h) (e .region .start .0) (e .region .end .0) _ (omega arith) (area .inside))
 
-  done-tree : editTable e (leftOf h) 0 (rootTree h s) ≡ treeAfter h c s
+  done-tree : editTable e (depthOf h) 0 (rootTree h s) ≡ treeAfterModify h c s
   done-tree =
-      subst (λ (t : Tree). editTable e (leftOf h) 0 t ≡ modifyTree (leftOf h) (rootIn h) (pagesOf c) t) (sym (root-node h s))
-      (document-modifies (e .set) (e .clear) (leftOf h) (rootIn h) (e .region .start .0) (e .region .end .0) _ (omega arith) (area .inside))
+      subst (λ (t : Tree). editTable e (depthOf h) 0 t ≡ modifyTree (depthOf h) (rootIn h) (modifyPagesOf c) t) (sym (root-node h s))
+      (document-modifies (e .set) (e .clear) (depthOf h) (rootIn h) (e .region .start .0) (e .region .end .0) _ (omega arith) (area .inside))
 
   -- REFUSAL 9'S COUNT IS THE TREE'S
-  pub splits-made : surveyed h c s .splits ≡ madeBy h c s
+  pub splits-made : surveyed h c s .splits ≡ madeByModify h c s
   splits-made =
-      let q = survey-splits (shaped-placed (passed .shape)) (leftOf h) 0 0 e s nothing ready in
+      let q = survey-splits (shaped-placed (passed .shape)) (depthOf h) 0 0 e s nothing ready in
       omega (arith, takes-made)
 
   -- REFUSAL 11'S COUNT IS THE TREE'S, where the house rule is kept
   pub numbers-made : surveyed h c s .broken ≡ false → surveyed h c s .numbers ≡ length (numbersOf h c s)
   numbers-made kept =
-      let a = survey-numbers (shaped-placed (passed .shape)) (leftOf h) (omega arith) (rootIn h) 0 0 e s nothing area ready kept in
+      let a = survey-numbers (shaped-placed (passed .shape)) (depthOf h) (omega arith) (rootIn h) 0 0 e s nothing area ready kept in
       omega (arith, a .numbers)
 
   -- each once
   pub numbers-one : (x : ℕ) → occurs x (numbersOf h c s) ≤ 1
   numbers-one x =
-      numbers-once (e .set) (e .clear) x (leftOf h) (rootIn h) (areaOf e 0) (rootTree h s) (omega arith) area
+      numbers-once (e .set) (e .clear) x (depthOf h) (rootIn h) (areaOf e 0) (rootTree h s) (omega arith) area
       (asked-forwards h (c .start) (c .end) (c .set) (c .clear) (c .live) (passed .asks))
 
   -- exactly the entries that change
   pub numbers-tell : (y : ℕ) → e .region .start .0 / 4096 ≤ y → y < e .region .end .0 / 4096
-      → occurs (firstPage (suc (leftOf h)) (treeAfter h c s) y % 2 ^ 44) (numbersOf h c s) ≡ changes (e .set) (e .clear) (seen (suc (leftOf h)) (rootTree h s) y)
+      → occurs (firstPage (suc (depthOf h)) (treeAfterModify h c s) y % 2 ^ 44) (numbersOf h c s) ≡ changes (e .set) (e .clear) (seen (suc (depthOf h)) (rootTree h s) y)
   numbers-tell y above under =
       let placed = shaped-placed (passed .shape) in
-      ap (λ (t : Tree). occurs (firstPage (suc (leftOf h)) t y % 2 ^ 44) (numbersOf h c s)) (sym done-tree)
-      ∙ subst (λ (t : Tree). occurs (firstPage (suc (leftOf h)) (editTable e (leftOf h) 0 t) y % 2 ^ 44) (tableNumbers (e .set) (e .clear) (leftOf h) (e .region) t)
-      ≡ changes (e .set) (e .clear) (seen (suc (leftOf h)) t y)) (sym (root-node h s))
-      (region-tells (e .set) (e .clear) (bits .set .plain) (bits .clear .plain) y (leftOf h) (rootIn h) (areaOf e 0) (λ i. slotShows h s (leftOf h) 0 i) (omega arith) area
-      (λ j inside. slot-fine placed (passed .pool) (leftOf h) 0 j (ready .used) (ready .low) inside)
+      ap (λ (t : Tree). occurs (firstPage (suc (depthOf h)) t y % 2 ^ 44) (numbersOf h c s)) (sym done-tree)
+      ∙ subst (λ (t : Tree). occurs (firstPage (suc (depthOf h)) (editTable e (depthOf h) 0 t) y % 2 ^ 44) (tableNumbers (e .set) (e .clear) (depthOf h) (e .region) t)
+      ≡ changes (e .set) (e .clear) (seen (suc (depthOf h)) t y)) (sym (root-node h s))
+      (region-tells (e .set) (e .clear) (bits .set .plain) (bits .clear .plain) y (depthOf h) (rootIn h) (areaOf e 0) (λ i. slotShows h s (depthOf h) 0 i) (omega arith) area
+      (λ j inside. slot-fine placed (passed .pool) (depthOf h) 0 j (ready .used) (ready .low) inside)
       (asked-forwards h (c .start) (c .end) (c .set) (c .clear) (c .live) (passed .asks)) above under)
 
   -- ---- with room
 
-  module _ (room : madeBy h c s ≤ free (s .ledger)) (list : List ℕ) where
-    worked : Worked (shaped-placed (passed .shape)) s (workAfter h c s list .state) (leftOf h) 0
-        (editTable e (leftOf h) 0 (rootTree h s)) (editTakes e (leftOf h) 0 (rootTree h s))
-    worked = range-edits (shaped-placed (passed .shape)) (leftOf h) (omega arith) (rootIn h) 0 0 e (work s list 0) bits area ready (omega (arith, takes-made))
+  module _ (room : madeByModify h c s ≤ free (s .ledger)) (list : List ℕ) where
+    worked : Worked (shaped-placed (passed .shape)) s (workAfter h c s list .state) (depthOf h) 0
+        (editTable e (depthOf h) 0 (rootTree h s)) (editTakes e (depthOf h) 0 (rootTree h s))
+    worked = range-edits (shaped-placed (passed .shape)) (depthOf h) (omega arith) (rootIn h) 0 0 e (work s list 0) bits area ready (omega (arith, takes-made))
 
     pub after-shaped : Shaped h (workAfter h c s list .state)
     after-shaped = worked-shaped (shaped-placed (passed .shape)) ready worked
@@ -124,63 +124,63 @@ module _ {h : Handle} {c : Call} {s : St} (passed : Passed h c s) where
     after-sound = worked-pool (shaped-placed (passed .shape)) ready worked
 
     pub after-list : numbered (workAfter h c s list .count) (workAfter h c s list .list) ≡ putAll (c .live) (numbersOf h c s) (numbered 0 list)
-    unfolding asked
-    after-list = range-lists (shaped-placed (passed .shape)) (leftOf h) (omega arith) (rootIn h) 0 0 e (work s list 0) bits area ready (omega (arith, takes-made))
+    unfolding askedEdit
+    after-list = range-lists (shaped-placed (passed .shape)) (depthOf h) (omega arith) (rootIn h) 0 0 e (work s list 0) bits area ready (omega (arith, takes-made))
 
-    pub after-tree : rootTree h (workAfter h c s list .state) ≡ treeAfter h c s
+    pub after-tree : rootTree h (workAfter h c s list .state) ≡ treeAfterModify h c s
     after-tree = worked .work .tree ∙ done-tree
 
 -- ---- what the call answers
 
 -- none of refusals 9 to 11 is given, by the survey
-pub record Clear (h : Handle) (c : Call) (s : St) (list : List ℕ) : Type 0 where
-  pub room : madeBy h c s ≤ free (s .ledger)
+pub record Clear (h : Handle) (c : ModifyArguments) (s : St) (list : List ℕ) : Type 0 where
+  pub room : madeByModify h c s ≤ free (s .ledger)
   pub kept : c .live ≡ true → surveyed h c s .broken ≡ false
   pub enough : c .live ≡ true → length (numbersOf h c s) ≤ length list
 
 -- refusals 9, 10 and 11, or none of them
-pub data Judged (h : Handle) (c : Call) (s : St) (list : List ℕ) : Type 0 where
-  is-full : free (s .ledger) < madeBy h c s → Judged h c s list
-  is-broken : madeBy h c s ≤ free (s .ledger) → c .live ≡ true → surveyed h c s .broken ≡ true → Judged h c s list
-  is-short : madeBy h c s ≤ free (s .ledger) → c .live ≡ true → surveyed h c s .broken ≡ false → length list < length (numbersOf h c s) → Judged h c s list
+pub data Judged (h : Handle) (c : ModifyArguments) (s : St) (list : List ℕ) : Type 0 where
+  is-full : free (s .ledger) < madeByModify h c s → Judged h c s list
+  is-broken : madeByModify h c s ≤ free (s .ledger) → c .live ≡ true → surveyed h c s .broken ≡ true → Judged h c s list
+  is-short : madeByModify h c s ≤ free (s .ledger) → c .live ≡ true → surveyed h c s .broken ≡ false → length list < length (numbersOf h c s) → Judged h c s list
   is-clear : Clear h c s list → Judged h c s list
 
 -- what refusals 9 to 11 say
-abbrev verdict : Handle → Call → St → List ℕ → Outcome
+abbrev verdict : Handle → ModifyArguments → St → List ℕ → Outcome
 verdict h c s list = verifySurvey (free (s .ledger)) (length list) (c .live) (surveyed h c s)
 
 -- no refusal is an acceptance
-not-accepted : {r : Refusal} (live : Bool) (n k : ℕ) → modified.Refused r ≡ accepted live n k → ⊥
-unfolding accepted
+not-accepted : {r : Refusal} (live : Bool) (n k : ℕ) → modified.Refused r ≡ modifyAccepted live n k → ⊥
+unfolding modifyAccepted
 not-accepted true n k q = let z : _≡_ {A = ℕ} 0 1 = cc in omega arith
 not-accepted false n k q = let z : _≡_ {A = ℕ} 0 1 = cc in omega arith
 
 answer-of : {r : Refusal} {s s′ : St} {list list′ : List ℕ} {y : Modified} → refused r s list ≡ modifying y s′ list′ → modified.Refused r ≡ y
 answer-of e = ap (λ (x : Modifying). x .answer) e
 
-done-is : (h : Handle) (c : Call) (s : St) (list : List ℕ) → let w = workAfter h c s list in
-    editTables h (askedOf c) s list ≡ modifying (accepted (c .live) (used (w .state .ledger)) (w .count)) (w .state) (w .list)
-unfolding editTables answerOf accepted asked
+done-is : (h : Handle) (c : ModifyArguments) (s : St) (list : List ℕ) → let w = workAfter h c s list in
+    editTables h (editAsked c) s list ≡ modifying (modifyAccepted (c .live) (used (w .state .ledger)) (w .count)) (w .state) (w .list)
+unfolding editTables answerOf modifyAccepted askedEdit
 done-is h c s list = refl
 
-module _ {h : Handle} {c : Call} {s : St} (passed : Passed h c s) (list : List ℕ) where
+module _ {h : Handle} {c : ModifyArguments} {s : St} (passed : ModifyPassed h c s) (list : List ℕ) where
   sound-is : soundb h s ≡ true
   sound-is = is-true (soundb h s) (sound-decide (passed .shape) (passed .pool))
 
-  asked-is : modifySound h (askedOf c) s list ≡ callOf h c s list
+  asked-is : modifySound h (editAsked c) s list ≡ modifyAnswer h c s list
   asked-is = call-asked h (c .start) (c .end) (c .set) (c .clear) (c .live) s list (is-true (shaped h s) (says-shaped h s (passed .shape))) refl (passed .asks)
 
-  pub call-stopped : (r : Refusal) → verdict h c s list ≡ Refused r → callOf h c s list ≡ refused r s list
-  unfolding asked
-  call-stopped r q = sym (sound-refused h (askedOf c) s list sound-is refl refl refl r q ∙ asked-is)
+  pub call-stopped : (r : Refusal) → verdict h c s list ≡ Refused r → modifyAnswer h c s list ≡ refused r s list
+  unfolding askedEdit
+  call-stopped r q = sym (sound-refused h (editAsked c) s list sound-is refl refl refl r q ∙ asked-is)
 
   pub call-done : verdict h c s list ≡ Accepted → let w = workAfter h c s list in
-      callOf h c s list ≡ modifying (accepted (c .live) (used (w .state .ledger)) (w .count)) (w .state) (w .list)
-  unfolding asked
-  call-done q = sym (sound-edited h (askedOf c) s list sound-is refl refl refl q ∙ asked-is) ∙ done-is h c s list
+      modifyAnswer h c s list ≡ modifying (modifyAccepted (c .live) (used (w .state .ledger)) (w .count)) (w .state) (w .list)
+  unfolding askedEdit
+  call-done q = sym (sound-edited h (editAsked c) s list sound-is refl refl refl q ∙ asked-is) ∙ done-is h c s list
 
   -- refusal 9
-  pub call-full : free (s .ledger) < madeBy h c s → callOf h c s list ≡ refused (WantOfRoom (madeBy h c s) (free (s .ledger))) s list
+  pub call-full : free (s .ledger) < madeByModify h c s → modifyAnswer h c s list ≡ refused (WantOfRoom (madeByModify h c s) (free (s .ledger))) s list
   call-full full =
       let m = splits-made passed in
       call-stopped (WantOfRoom (surveyed h c s .splits) (free (s .ledger))) (sym (survey-full (free (s .ledger)) (length list) (c .live) (surveyed h c s) (omega arith)))
@@ -188,7 +188,7 @@ module _ {h : Handle} {c : Call} {s : St} (passed : Passed h c s) (list : List �
 
   -- accepted
   pub call-accepted : Clear h c s list → let w = workAfter h c s list in
-      callOf h c s list ≡ modifying (accepted (c .live) (used (w .state .ledger)) (w .count)) (w .state) (w .list)
+      modifyAnswer h c s list ≡ modifying (modifyAccepted (c .live) (used (w .state .ledger)) (w .count)) (w .state) (w .list)
   call-accepted fits = call-done (go (c .live) refl)
     where
       room : surveyed h c s .splits ≤ free (s .ledger)
@@ -201,15 +201,15 @@ module _ {h : Handle} {c : Call} {s : St} (passed : Passed h c s) (list : List �
       go false q = sym (survey-off (free (s .ledger)) (length list) (c .live) (surveyed h c s) room q)
 
   -- refusal 10
-  pub call-broken : madeBy h c s ≤ free (s .ledger) → c .live ≡ true → surveyed h c s .broken ≡ true
-      → callOf h c s list ≡ refused (HouseRule (surveyed h c s .word)) s list
+  pub call-broken : madeByModify h c s ≤ free (s .ledger) → c .live ≡ true → surveyed h c s .broken ≡ true
+      → modifyAnswer h c s list ≡ refused (HouseRule (surveyed h c s .word)) s list
   call-broken room on broken =
       let m = splits-made passed in
       call-stopped (HouseRule (surveyed h c s .word)) (sym (survey-broken (free (s .ledger)) (length list) (c .live) (surveyed h c s) (omega arith) on broken))
 
   -- refusal 11
-  pub call-short : madeBy h c s ≤ free (s .ledger) → c .live ≡ true → surveyed h c s .broken ≡ false → length list < length (numbersOf h c s)
-      → callOf h c s list ≡ refused (Short (length (numbersOf h c s))) s list
+  pub call-short : madeByModify h c s ≤ free (s .ledger) → c .live ≡ true → surveyed h c s .broken ≡ false → length list < length (numbersOf h c s)
+      → modifyAnswer h c s list ≡ refused (Short (length (numbersOf h c s))) s list
   call-short room on kept short =
       let m = splits-made passed in
       let n = numbers-made passed kept in
@@ -218,95 +218,95 @@ module _ {h : Handle} {c : Call} {s : St} (passed : Passed h c s) (list : List �
 
   -- one of these it is
   judged : Judged h c s list
-  judged = go (le-or (madeBy h c s) (free (s .ledger)))
+  judged = go (le-or (madeByModify h c s) (free (s .ledger)))
     where
-      long : surveyed h c s .broken ≡ false → (length (numbersOf h c s) ≤ length list) ⊎ (length list < length (numbersOf h c s)) → madeBy h c s ≤ free (s .ledger)
+      long : surveyed h c s .broken ≡ false → (length (numbersOf h c s) ≤ length list) ⊎ (length list < length (numbersOf h c s)) → madeByModify h c s ≤ free (s .ledger)
           → c .live ≡ true → Judged h c s list
       long kept (inl enough) room on = is-clear (record { room = room; kept = λ q. kept; enough = λ q. enough })
       long kept (inr short) room on = is-short room on kept short
 
-      live : madeBy h c s ≤ free (s .ledger) → (b : Bool) → c .live ≡ b → Judged h c s list
+      live : madeByModify h c s ≤ free (s .ledger) → (b : Bool) → c .live ≡ b → Judged h c s list
       live room true on = byBool (surveyed h c s .broken) (λ broken. is-broken room on broken)
           (λ kept. long kept (le-or (length (numbersOf h c s)) (length list)) room on)
       live room false off = is-clear (record { room = room; kept = λ on. absurd (true≢false (sym on ∙ off)); enough = λ on. absurd (true≢false (sym on ∙ off)) })
 
-      go : (madeBy h c s ≤ free (s .ledger)) ⊎ (free (s .ledger) < madeBy h c s) → Judged h c s list
+      go : (madeByModify h c s ≤ free (s .ledger)) ⊎ (free (s .ledger) < madeByModify h c s) → Judged h c s list
       go (inl room) = live room (c .live) refl
       go (inr full) = is-full full
 
 -- what is answered otherwise than by refusals 1 to 8 was left by them
-passed-by : (h : Handle) (c : Call) (s : St) (list : List ℕ) {x : Modifying} → callOf h c s list ≡ x → ((r : Refusal) → number r < 9 → refused r s list ≡ x → ⊥) → Passed h c s
+passed-by : (h : Handle) (c : ModifyArguments) (s : St) (list : List ℕ) {x : Modifying} → modifyAnswer h c s list ≡ x → ((r : Refusal) → number r < 9 → refused r s list ≡ x → ⊥) → ModifyPassed h c s
 passed-by h c s list {x} is later =
     byBool (shaped h s) shape (λ e. absurd (later Shape (lit< tt) (call-misshaped h (c .start) (c .end) (c .set) (c .clear) (c .live) s list e ∙ is)))
   where
-    pool : shaped h s ≡ true → verifyEdit h (c .end) (askedOf c) ≡ Accepted → Passed h c s
+    pool : shaped h s ≡ true → verifyEdit h (c .end) (editAsked c) ≡ Accepted → ModifyPassed h c s
     pool e ok =
         let shape = shaped-says h s (rw e tt) in
         let asks = call-asked h (c .start) (c .end) (c .set) (c .clear) (c .live) s list e refl ok in
         byBool (soundb h s)
         (λ sound. record { shape = shape; asks = ok; pool = decide-sound shape (rw sound tt) })
-        (λ unsound. absurd (later Unsound (lit< tt) (sound-not h (askedOf c) s list unsound ∙ asks ∙ is)))
+        (λ unsound. absurd (later Unsound (lit< tt) (sound-not h (editAsked c) s list unsound ∙ asks ∙ is)))
 
-    asks : shaped h s ≡ true → (y : Outcome) → verifyEdit h (c .end) (askedOf c) ≡ y → Early y → Passed h c s
+    asks : shaped h s ≡ true → (y : Outcome) → verifyEdit h (c .end) (editAsked c) ≡ y → Early y → ModifyPassed h c s
     asks e Accepted q early = pool e q
     asks e (Refused r) q early =
         absurd (later r (omega arith) (call-refused h (c .start) (c .end) (c .set) (c .clear) (c .live) s list e refl r q ∙ is))
 
-    shape : shaped h s ≡ true → Passed h c s
-    shape e = asks e (verifyEdit h (c .end) (askedOf c)) refl (asked-early h (c .end) (askedOf c))
+    shape : shaped h s ≡ true → ModifyPassed h c s
+    shape e = asks e (verifyEdit h (c .end) (editAsked c)) refl (asked-early h (c .end) (editAsked c))
 
 -- ---- refused 9, 10, 11
 
-module _ (h : Handle) (c : Call) (s : St) (list : List ℕ) {y : Refusal} {s′ : St} {list′ : List ℕ} (is : callOf h c s list ≡ modifying (modified.Refused y) s′ list′) where
-  refused-passed : 9 ≤ number y → Passed h c s
+module _ (h : Handle) (c : ModifyArguments) (s : St) (list : List ℕ) {y : Refusal} {s′ : St} {list′ : List ℕ} (is : modifyAnswer h c s list ≡ modifying (modified.Refused y) s′ list′) where
+  refused-passed : 9 ≤ number y → ModifyPassed h c s
   refused-passed late = passed-by h c s list is (λ r early q.
       let same : r ≡ y = let p = answer-of q in cc in
       let nine : number r ≡ number y = ap number same in
       omega arith)
 
   -- the refusal is the one that is due
-  refused-is : {r : Refusal} → callOf h c s list ≡ refused r s list → y ≡ r
+  refused-is : {r : Refusal} → modifyAnswer h c s list ≡ refused r s list → y ≡ r
   refused-is {r} q = let p = answer-of (sym q ∙ is) in let same : r ≡ y = cc in sym same
 
-  refused-not : Passed h c s → Clear h c s list → ⊥
+  refused-not : ModifyPassed h c s → Clear h c s list → ⊥
   refused-not passed fits =
       not-accepted (c .live) (used (workAfter h c s list .state .ledger)) (workAfter h c s list .count)
       (ap (λ (x : Modifying). x .answer) (sym is ∙ call-accepted passed list fits))
 
-module _ (h : Handle) (c : Call) (s : St) (list : List ℕ) {s′ : St} {list′ : List ℕ} where
-  pub full-back : {a b : ℕ} → callOf h c s list ≡ modifying (modified.Refused (WantOfRoom a b)) s′ list′ → Passed h c s × (free (s .ledger) < madeBy h c s)
+module _ (h : Handle) (c : ModifyArguments) (s : St) (list : List ℕ) {s′ : St} {list′ : List ℕ} where
+  pub full-back : {a b : ℕ} → modifyAnswer h c s list ≡ modifying (modified.Refused (WantOfRoom a b)) s′ list′ → ModifyPassed h c s × (free (s .ledger) < madeByModify h c s)
   full-back {a} {b} is = (passed, go (judged passed list))
     where
-      passed : Passed h c s
+      passed : ModifyPassed h c s
       passed = refused-passed h c s list is (lit≤ tt)
 
-      go : Judged h c s list → free (s .ledger) < madeBy h c s
+      go : Judged h c s list → free (s .ledger) < madeByModify h c s
       go (is-full full) = full
       go (is-broken room on broken) = absurd (let e = ap number (refused-is h c s list is (call-broken passed list room on broken)) in omega arith)
       go (is-short room on kept short) = absurd (let e = ap number (refused-is h c s list is (call-short passed list room on kept short)) in omega arith)
       go (is-clear fits) = absurd (refused-not h c s list is passed fits)
 
-  pub broken-back : {w : ℕ} → callOf h c s list ≡ modifying (modified.Refused (HouseRule w)) s′ list′
-      → Passed h c s × (madeBy h c s ≤ free (s .ledger)) × (c .live ≡ true) × (surveyed h c s .broken ≡ true)
+  pub broken-back : {w : ℕ} → modifyAnswer h c s list ≡ modifying (modified.Refused (HouseRule w)) s′ list′
+      → ModifyPassed h c s × (madeByModify h c s ≤ free (s .ledger)) × (c .live ≡ true) × (surveyed h c s .broken ≡ true)
   broken-back {w} is = go (judged passed list)
     where
-      passed : Passed h c s
+      passed : ModifyPassed h c s
       passed = refused-passed h c s list is (lit≤ tt)
 
-      go : Judged h c s list → Passed h c s × (madeBy h c s ≤ free (s .ledger)) × (c .live ≡ true) × (surveyed h c s .broken ≡ true)
+      go : Judged h c s list → ModifyPassed h c s × (madeByModify h c s ≤ free (s .ledger)) × (c .live ≡ true) × (surveyed h c s .broken ≡ true)
       go (is-full full) = absurd (let e = ap number (refused-is h c s list is (call-full passed list full)) in omega arith)
       go (is-broken room on broken) = (passed, room, on, broken)
       go (is-short room on kept short) = absurd (let e = ap number (refused-is h c s list is (call-short passed list room on kept short)) in omega arith)
       go (is-clear fits) = absurd (refused-not h c s list is passed fits)
 
-  pub short-back : {n : ℕ} → callOf h c s list ≡ modifying (modified.Refused (Short n)) s′ list′
-      → Passed h c s × (madeBy h c s ≤ free (s .ledger)) × (c .live ≡ true) × (surveyed h c s .broken ≡ false) × (length list < length (numbersOf h c s))
+  pub short-back : {n : ℕ} → modifyAnswer h c s list ≡ modifying (modified.Refused (Short n)) s′ list′
+      → ModifyPassed h c s × (madeByModify h c s ≤ free (s .ledger)) × (c .live ≡ true) × (surveyed h c s .broken ≡ false) × (length list < length (numbersOf h c s))
   short-back {n} is = go (judged passed list)
     where
-      passed : Passed h c s
+      passed : ModifyPassed h c s
       passed = refused-passed h c s list is (lit≤ tt)
 
-      go : Judged h c s list → Passed h c s × (madeBy h c s ≤ free (s .ledger)) × (c .live ≡ true) × (surveyed h c s .broken ≡ false) × (length list < length (numbersOf h c s))
+      go : Judged h c s list → ModifyPassed h c s × (madeByModify h c s ≤ free (s .ledger)) × (c .live ≡ true) × (surveyed h c s .broken ≡ false) × (length list < length (numbersOf h c s))
       go (is-full full) = absurd (let e = ap number (refused-is h c s list is (call-full passed list full)) in omega arith)
       go (is-broken room on broken) = absurd (let e = ap number (refused-is h c s list is (call-broken passed list room on broken)) in omega arith)
       go (is-short room on kept short) = (passed, room, on, kept, short)
@@ -314,14 +314,14 @@ module _ (h : Handle) (c : Call) (s : St) (list : List ℕ) {s′ : St} {list′
 
 -- ---- accepted
 
-module _ {h : Handle} {c : Call} {s s′ : St} {list list′ : List ℕ} {n k : ℕ} (modifies : Modifies h c s list n k s′ list′) where
-  pub call-passed : Passed h c s
+module _ {h : Handle} {c : ModifyArguments} {s s′ : St} {list list′ : List ℕ} {n k : ℕ} (modifies : Modifies h c s list n k s′ list′) where
+  pub call-passed : ModifyPassed h c s
   call-passed = passed-by h c s list (modifies .answers) (λ r early e. not-accepted (c .live) n k (answer-of e))
 
   pub call-clear : Clear h c s list
   call-clear = go (judged call-passed list)
     where
-      never : {r : Refusal} → callOf h c s list ≡ refused r s list → ⊥
+      never : {r : Refusal} → modifyAnswer h c s list ≡ refused r s list → ⊥
       never q = not-accepted (c .live) n k (answer-of (sym q ∙ modifies .answers))
 
       go : Judged h c s list → Clear h c s list
@@ -333,7 +333,7 @@ module _ {h : Handle} {c : Call} {s s′ : St} {list list′ : List ℕ} {n k : 
   abbrev w : Work
   w = workAfter h c s list
 
-  done : modifying (accepted (c .live) n k) s′ list′ ≡ modifying (accepted (c .live) (used (w .state .ledger)) (w .count)) (w .state) (w .list)
+  done : modifying (modifyAccepted (c .live) n k) s′ list′ ≡ modifying (modifyAccepted (c .live) (used (w .state .ledger)) (w .count)) (w .state) (w .list)
   done = sym (modifies .answers) ∙ call-accepted call-passed list call-clear
 
   pub call-state : s′ ≡ w .state
@@ -348,12 +348,12 @@ module _ {h : Handle} {c : Call} {s s′ : St} {list list′ : List ℕ} {n k : 
   pub call-sound : SoundPool h s′
   call-sound = subst (SoundPool h) (sym call-state) (after-sound call-passed (call-clear .room) list)
 
-  pub call-tree : rootTree h s′ ≡ treeAfter h c s
+  pub call-tree : rootTree h s′ ≡ treeAfterModify h c s
   call-tree = ap (rootTree h) call-state ∙ after-tree call-passed (call-clear .room) list
 
   -- the answer
-  accepted-same : (live : Bool) (a b x y : ℕ) → accepted live a b ≡ accepted live x y → (a ≡ x) × (live ≡ true → b ≡ y)
-  unfolding accepted
+  accepted-same : (live : Bool) (a b x y : ℕ) → modifyAccepted live a b ≡ modifyAccepted live x y → (a ≡ x) × (live ≡ true → b ≡ y)
+  unfolding modifyAccepted
   accepted-same true a b x y q = (let z : a ≡ x = cc in z, λ on. let z : b ≡ y = cc in z)
   accepted-same false a b x y q = (let z : a ≡ x = cc in z, λ on. absurd (true≢false (sym on)))
 

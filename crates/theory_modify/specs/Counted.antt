@@ -38,13 +38,13 @@ use Rattle.theory_tree.specs.Visit.{fillTree, opens-leaf, opens-node}
 use Rattle.theory_tree.specs.Fine.{Fine}
 use Rattle.theory_tree.specs.Shown.{FineTree}
 use Rattle.theory_tree.specs.Split.{fill-address}
-use Rattle.theory_tree.specs.Needed.{slotIn}
+use Rattle.theory_tree.specs.Needed.{slotTree}
 use Rattle.theory_map.specs.Leaf.{slot-fine}
 use Rattle.theory_map.specs.Stand.{Piece}
 use Rattle.theory_map.specs.Moves.{slotShows, Ready, entered-ready}
 use Rattle.theory_map.specs.Pieces.{Area, slotAt, Pieces, pieces}
 use Rattle.theory_map.specs.Need.{slot-fill}
-use Rattle.theory_map.specs.Down.{Holds, holds-table, holds-leaf, holds}
+use Rattle.theory_map.specs.Down.{SlotHolds, holds-table, holds-leaf, holds}
 use Rattle.theory_map.specs.Loop.{slot-of}
 use Rattle.theory_modify.specs.Word.{hole-stays, valid-edited}
 use Rattle.theory_modify.specs.Range.{areaOf}
@@ -90,7 +90,7 @@ module _ (set clear : ℕ) where
 
 -- ---- what a survey adds, where the house rule is kept
 
-pub record Adds (v x : Survey) (n : ℕ) : Type 0 where
+pub record AddsNumbers (v x : Survey) (n : ℕ) : Type 0 where
   pub kept : v .broken ≡ false
   pub numbers : x .numbers ≡ v .numbers + n
 
@@ -101,27 +101,27 @@ breach-broken w v = byBool (v .broken) (λ e. rw e) (λ e. rw e)
 module _ (depth q : ℕ) (m : Map) (f : MemoryRegion → Survey → Survey) (numbers : MemoryRegion → Tree → List ℕ) (t : Tree) where
   abbrev EachAdds : Type 0
   EachAdds = (c : MemoryRegion) (p : ℕ) (v : Survey) → Piece depth (child q (slotAt depth c)) (chunkMap m c p) → f c v .broken ≡ false
-      → Adds v (f c v) (length (numbers c (slotIn t (entryIndex (3 - depth) (c .start .0)))))
+      → AddsNumbers v (f c v) (length (numbers c (slotTree t (entryIndex (3 - depth) (c .start .0)))))
 
   fold-adds : EachAdds → (cs : List MemoryRegion) (a p : ℕ) (v : Survey) → Pieces depth q m a p cs → eachOf f cs v .broken ≡ false
-      → Adds v (eachOf f cs v) (length (gathered depth numbers cs t))
+      → AddsNumbers v (eachOf f cs v) (length (gathered depth numbers cs t))
   unfolding eachOf gathered
   fold-adds each [] a p v all ok = record { kept = ok; numbers = omega arith }
   fold-adds each (c ∷ cs) a p v all ok =
       let rest = fold-adds each cs (suc (slotAt depth c)) (p + (c .end .0 - c .start .0)) (f c v) (all .1) ok in
       let here = each c p v (all .0 .piece) (rest .kept) in
-      let u : Tree = slotIn t (entryIndex (3 - depth) (c .start .0)) in
+      let u : Tree = slotTree t (entryIndex (3 - depth) (c .start .0)) in
       record { kept = here .kept; numbers = omega (arith, rest .numbers, here .numbers, length-append (numbers c u) (gathered depth numbers cs t)) }
 
   chunks-add : EachAdds → (r : MemoryRegion) (p : ℕ) (v : Survey) → Pieces depth q m 0 p (chunks (3 - depth) (r .start .0) (r .end .0)) → eachChunk (3 - depth) f r v .broken ≡ false
-      → Adds v (eachChunk (3 - depth) f r v) (length (gathered depth numbers (chunks (3 - depth) (r .start .0) (r .end .0)) t))
+      → AddsNumbers v (eachChunk (3 - depth) f r v) (length (gathered depth numbers (chunks (3 - depth) (r .start .0) (r .end .0)) t))
   unfolding eachChunk
   chunks-add each r p v all ok = fold-adds each (chunks (3 - depth) (r .start .0) (r .end .0)) 0 p v all ok
 
 -- ---- a whole entry
 
 module _ (h : Handle) (level : ℕ) (e : Edit) (w : ℕ) (v : Survey) where
-  whole-kept : editWord level e w ≡ w → surveyWhole h level e w v .broken ≡ false → Adds v (surveyWhole h level e w v) 0
+  whole-kept : editWord level e w ≡ w → surveyWhole h level e w v .broken ≡ false → AddsNumbers v (surveyWhole h level e w v) 0
   unfolding surveyWhole
   whole-kept same ok =
       let is : surveyWhole h level e w v ≡ v = rw (eq-eqb (editWord level e w) w same) in
@@ -130,7 +130,7 @@ module _ (h : Handle) (level : ℕ) (e : Edit) (w : ℕ) (v : Survey) where
   abbrev more : Survey
   more = record { splits = v .splits; numbers = v .numbers + 1; broken = v .broken; word = v .word }
 
-  whole-one : editWord level e w ≢ w → surveyWhole h level e w v .broken ≡ false → Adds v (surveyWhole h level e w v) 1
+  whole-one : editWord level e w ≢ w → surveyWhole h level e w v .broken ≡ false → AddsNumbers v (surveyWhole h level e w v) 1
   unfolding surveyWhole
   whole-one other ok = byBool (mayChange h w (editWord level e w))
       (λ may.
@@ -150,14 +150,14 @@ module _ (level : ℕ) (c : MemoryRegion) (w : ℕ) (v : Survey) where
   unfolding surveyPart ifBlock
   part-block k = rw k (breach-broken w split)
 
-  kinds : (k : Kind) → ifBlock k (breach w split) split .broken ≡ false → Adds v (ifBlock k (breach w split) split) 0
+  kinds : (k : Kind) → ifBlock k (breach w split) split .broken ≡ false → AddsNumbers v (ifBlock k (breach w split) split) 0
   unfolding ifBlock
   kinds table ok = record { kept = ok; numbers = omega arith }
   kinds Block ok = absurd (true≢false (sym (breach-broken w split) ∙ ok))
   kinds Page ok = record { kept = ok; numbers = omega arith }
   kinds Hole ok = record { kept = ok; numbers = omega arith }
 
-  part-adds : surveyPart level c w v .broken ≡ false → Adds v (surveyPart level c w v) 0
+  part-adds : surveyPart level c w v .broken ≡ false → AddsNumbers v (surveyPart level c w v) 0
   unfolding surveyPart
   part-adds ok = kinds (kindOf level w) ok
 
@@ -172,28 +172,28 @@ valid-block (suc (suc depth)) w low fine v = absurd (omega (arith, valid-yes w v
 module _ (h : Handle) (e : Edit) (c : MemoryRegion) (w : ℕ) (v : Survey) where
   -- its number, if its word changes
   changed-adds : (depth : ℕ) → depth ≤ 3 → Fine depth w → surveyWhole h (3 - depth) (chunkEdit e c) w v .broken ≡ false
-      → Adds v (surveyWhole h (3 - depth) (chunkEdit e c) w v) (length (changedNumber (e .set) (e .clear) c w))
+      → AddsNumbers v (surveyWhole h (3 - depth) (chunkEdit e c) w v) (length (changedNumber (e .set) (e .clear) c w))
   changed-adds depth low fine ok = byBool (valid w) (λ y. go y (valid-edited (chunkEdit e c) w depth low fine y) (eq-or (editWord (3 - depth) (chunkEdit e c) w) w))
       (λ n. none (number-hole (e .set) (e .clear) c w n) (hole-stays (chunkEdit e c) w (3 - depth) n))
     where
       none : changedNumber (e .set) (e .clear) c w ≡ [] → editWord (3 - depth) (chunkEdit e c) w ≡ w
-          → Adds v (surveyWhole h (3 - depth) (chunkEdit e c) w v) (length (changedNumber (e .set) (e .clear) c w))
-      none z same = subst (λ (xs : List ℕ). Adds v (surveyWhole h (3 - depth) (chunkEdit e c) w v) (length xs)) (sym z) (whole-kept h (3 - depth) (chunkEdit e c) w v same ok)
+          → AddsNumbers v (surveyWhole h (3 - depth) (chunkEdit e c) w v) (length (changedNumber (e .set) (e .clear) c w))
+      none z same = subst (λ (xs : List ℕ). AddsNumbers v (surveyWhole h (3 - depth) (chunkEdit e c) w v) (length xs)) (sym z) (whole-kept h (3 - depth) (chunkEdit e c) w v same ok)
 
       go : valid w ≡ true → editWord (3 - depth) (chunkEdit e c) w ≡ edited (e .set) (e .clear) w
           → (editWord (3 - depth) (chunkEdit e c) w ≡ w) ⊎ (editWord (3 - depth) (chunkEdit e c) w ≢ w)
-          → Adds v (surveyWhole h (3 - depth) (chunkEdit e c) w v) (length (changedNumber (e .set) (e .clear) c w))
+          → AddsNumbers v (surveyWhole h (3 - depth) (chunkEdit e c) w v) (length (changedNumber (e .set) (e .clear) c w))
       go y is (inl same) = none (number-same (e .set) (e .clear) c w y (sym is ∙ same)) same
       go y is (inr other) =
-          subst (λ (xs : List ℕ). Adds v (surveyWhole h (3 - depth) (chunkEdit e c) w v) (length xs)) (sym (number-changed (e .set) (e .clear) c w y (λ q. other (is ∙ q))))
+          subst (λ (xs : List ℕ). AddsNumbers v (surveyWhole h (3 - depth) (chunkEdit e c) w v) (length xs)) (sym (number-changed (e .set) (e .clear) c w y (λ q. other (is ∙ q))))
           (whole-one h (3 - depth) (chunkEdit e c) w v other ok)
 
   page-adds : Fine 0 w → whole 3 c ≡ true → surveyEntry h 3 (chunkEdit e c) w v .broken ≡ false
-      → Adds v (surveyEntry h 3 (chunkEdit e c) w v) (length (ownNumbers (e .set) (e .clear) 0 c (leaf w)))
+      → AddsNumbers v (surveyEntry h 3 (chunkEdit e c) w v) (length (ownNumbers (e .set) (e .clear) 0 c (leaf w)))
   page-adds fine all ok =
       let is = entry-whole h 3 (chunkEdit e c) w v all in
-      subst (λ (xs : List ℕ). Adds v (surveyEntry h 3 (chunkEdit e c) w v) (length xs)) (sym (page-number (e .set) (e .clear) c w))
-      (subst (λ (x : Survey). Adds v x (length (changedNumber (e .set) (e .clear) c w))) is
+      subst (λ (xs : List ℕ). AddsNumbers v (surveyEntry h 3 (chunkEdit e c) w v) (length xs)) (sym (page-number (e .set) (e .clear) c w))
+      (subst (λ (x : Survey). AddsNumbers v x (length (changedNumber (e .set) (e .clear) c w))) is
       (changed-adds 0 (omega arith) fine (ap (λ (x : Survey). x .broken) is ∙ ok)))
 
   module _ (depth : ℕ) (low : suc depth ≤ 3) (fine : Fine (suc depth) w) where
@@ -203,31 +203,31 @@ module _ (h : Handle) (e : Edit) (c : MemoryRegion) (w : ℕ) (v : Survey) where
     abbrev entryNumbers : Tree → List ℕ
     entryNumbers u = lowerNumbers (e .set) (e .clear) rec depth c u ++ ownNumbers (e .set) (e .clear) (suc depth) c u
 
-    leaf-adds : surveyEntry h (3 - suc depth) (chunkEdit e c) w v .broken ≡ false → Adds v (surveyEntry h (3 - suc depth) (chunkEdit e c) w v) (length (entryNumbers (leaf w)))
+    leaf-adds : surveyEntry h (3 - suc depth) (chunkEdit e c) w v .broken ≡ false → AddsNumbers v (surveyEntry h (3 - suc depth) (chunkEdit e c) w v) (length (entryNumbers (leaf w)))
     leaf-adds ok = byBool (whole (3 - suc depth) c) all part
       where
         level : ℕ
         level = 3 - suc depth
 
-        all : whole (3 - suc depth) c ≡ true → Adds v (surveyEntry h (3 - suc depth) (chunkEdit e c) w v) (length (entryNumbers (leaf w)))
+        all : whole (3 - suc depth) c ≡ true → AddsNumbers v (surveyEntry h (3 - suc depth) (chunkEdit e c) w v) (length (entryNumbers (leaf w)))
         all a =
             let is = entry-whole h level (chunkEdit e c) w v a in
-            subst (λ (xs : List ℕ). Adds v (surveyEntry h level (chunkEdit e c) w v) (length xs))
+            subst (λ (xs : List ℕ). AddsNumbers v (surveyEntry h level (chunkEdit e c) w v) (length xs))
             (sym (ap₂ (λ (x y : List ℕ). x ++ y) (lower-whole (e .set) (e .clear) rec depth c w a) (own-whole (e .set) (e .clear) depth c w a)))
-            (subst (λ (x : Survey). Adds v x (length (changedNumber (e .set) (e .clear) c w))) is
+            (subst (λ (x : Survey). AddsNumbers v x (length (changedNumber (e .set) (e .clear) c w))) is
             (changed-adds (suc depth) low fine (ap (λ (x : Survey). x .broken) is ∙ ok)))
 
-        part : whole (3 - suc depth) c ≡ false → Adds v (surveyEntry h (3 - suc depth) (chunkEdit e c) w v) (length (entryNumbers (leaf w)))
+        part : whole (3 - suc depth) c ≡ false → AddsNumbers v (surveyEntry h (3 - suc depth) (chunkEdit e c) w v) (length (entryNumbers (leaf w)))
         part a =
             let is = entry-part h level (chunkEdit e c) w v a in
             let kept : surveyPart level c w v .broken ≡ false = ap (λ (x : Survey). x .broken) is ∙ ok in
             let hole : valid w ≡ false = byBool {A = valid w ≡ false} (valid w) (λ y. absurd (true≢false (sym (part-block level c w v (valid-block depth w low fine y)) ∙ kept)))
             (λ n. n) in
-            subst (λ (xs : List ℕ). Adds v (surveyEntry h level (chunkEdit e c) w v) (length xs))
+            subst (λ (xs : List ℕ). AddsNumbers v (surveyEntry h level (chunkEdit e c) w v) (length xs))
             (sym (ap₂ (λ (x y : List ℕ). x ++ y)
             (lower-part (e .set) (e .clear) rec depth c w a ∙ ap (rec c) (opens-leaf depth w) ∙ hole-none (e .set) (e .clear) depth c w low hole)
             (own-part (e .set) (e .clear) depth c w a)))
-            (subst (λ (x : Survey). Adds v x 0) is (part-adds level c w v kept))
+            (subst (λ (x : Survey). AddsNumbers v x 0) is (part-adds level c w v kept))
 
 -- ---- a table of a sound pool
 
@@ -243,13 +243,13 @@ page-whole q m piece =
 module _ {h : Handle} (placed : Placed h) where
   abbrev Counts : ℕ → Type 0
   Counts depth = (q k p : ℕ) (e : Edit) (s : St) (v : Survey) → Area depth q (areaOf e p) → Ready placed s depth k → surveyRange depth h s k e v .broken ≡ false
-      → Adds v (surveyRange depth h s k e v) (length (tableNumbers (e .set) (e .clear) depth (e .region) (treeFrom h s depth k)))
+      → AddsNumbers v (surveyRange depth h s k e v) (length (tableNumbers (e .set) (e .clear) depth (e .region) (treeFrom h s depth k)))
 
   chunk-adds : (depth q k : ℕ) (e : Edit) (s : St) → Ready placed s (suc depth) k → Counts depth → (c : MemoryRegion) (p : ℕ) (v : Survey)
       → Piece (suc depth) q (areaOf (chunkEdit e c) p)
       → let i = entryIndex (3 - suc depth) (c .start .0) in let x = surveyChunk (λ j n y. surveyRange depth h s j n y) h s k (3 - suc depth) e c v in
       x .broken ≡ false
-      → Adds v x (length (lowerNumbers (e .set) (e .clear) (λ d u. tableNumbers (e .set) (e .clear) depth d u) depth c (slotShows h s (suc depth) k i)
+      → AddsNumbers v x (length (lowerNumbers (e .set) (e .clear) (λ d u. tableNumbers (e .set) (e .clear) depth d u) depth c (slotShows h s (suc depth) k i)
       ++ ownNumbers (e .set) (e .clear) (suc depth) c (slotShows h s (suc depth) k i)))
   chunk-adds depth q k e s R counts c p v piece ok = go (holds placed R i inside)
     where
@@ -268,7 +268,7 @@ module _ {h : Handle} (placed : Placed h) where
       numbers : Tree → List ℕ
       numbers u = lowerNumbers (e .set) (e .clear) rec depth c u ++ ownNumbers (e .set) (e .clear) (suc depth) c u
 
-      go : Holds placed s depth k i → Adds v x (length (numbers (slotShows h s (suc depth) k i)))
+      go : SlotHolds placed s depth k i → AddsNumbers v x (length (numbers (slotShows h s (suc depth) k i)))
       go (holds-table j r both leads shows) =
           let is = chunk-table (λ a n y. surveyRange depth h s a n y) h s k (3 - suc depth) e c v j leads in
           let adds = counts q j p (chunkEdit e c) s v (record { inside = piece .inside; room = piece .room }) (entered-ready placed R i inside r)
@@ -277,13 +277,13 @@ module _ {h : Handle} (placed : Placed h) where
           let same : numbers (slotShows h s (suc depth) k i) ≡ rec c (treeFrom h s depth j) =
           ap numbers shows ∙ ap₂ (λ (a b : List ℕ). a ++ b) (lower-into (e .set) (e .clear) rec depth c _ ∙ ap (rec c) (opens-node depth _))
           (own-none (e .set) (e .clear) (suc depth) c _) ∙ append-nil (rec c _) ∙ ap (rec c) (sym tree) in
-          subst (λ (xs : List ℕ). Adds v x (length xs)) (sym same)
-          (subst (λ (y : Survey). Adds v y (length (rec c (treeFrom h s depth j)))) (sym is) adds)
+          subst (λ (xs : List ℕ). AddsNumbers v x (length xs)) (sym same)
+          (subst (λ (y : Survey). AddsNumbers v y (length (rec c (treeFrom h s depth j)))) (sym is) adds)
       go (holds-leaf old other shows) =
           let is = chunk-leaf (λ a n y. surveyRange depth h s a n y) h s k (3 - suc depth) e c v (sym (sub-leaf (h .base .0) (tables s) (3 - suc depth) _ (λ q. other (q .1)))) in
           let fine = subst (FineTree (suc depth)) shows (slot-fine placed (R .pool) (suc depth) k i (R .used) (R .low) inside) in
-          subst (λ (u : Tree). Adds v x (length (numbers u))) (sym shows)
-          (subst (λ (y : Survey). Adds v y (length (numbers (leaf (wordAt s k i))))) (sym is)
+          subst (λ (u : Tree). AddsNumbers v x (length (numbers u))) (sym shows)
+          (subst (λ (y : Survey). AddsNumbers v y (length (numbers (leaf (wordAt s k i))))) (sym is)
           (leaf-adds h e c (wordAt s k i) v depth (omega (arith, R .low)) fine (sym (ap (λ (y : Survey). y .broken) is) ∙ ok)))
 
   -- THE NUMBERS
@@ -294,15 +294,15 @@ module _ {h : Handle} (placed : Placed h) where
       (λ c y x piece kept. page c y x piece kept) (e .region) p v (pieces 0 q (areaOf e p) low p (e .region) area) ok
     where
       page : (c : MemoryRegion) (y : ℕ) (x : Survey) → Piece 0 (child q (slotAt 0 c)) (chunkMap (areaOf e p) c y) → surveyChunk (λ j n z. z) h s k 3 e c x .broken ≡ false
-          → Adds x (surveyChunk (λ j n z. z) h s k 3 e c x) (length (ownNumbers (e .set) (e .clear) 0 c (slotIn (treeFrom h s 0 k) (entryIndex 3 (c .start .0)))))
+          → AddsNumbers x (surveyChunk (λ j n z. z) h s k 3 e c x) (length (ownNumbers (e .set) (e .clear) 0 c (slotTree (treeFrom h s 0 k) (entryIndex 3 (c .start .0)))))
       page c y x piece kept =
           let i : ℕ = entryIndex 3 (c .start .0) in
           let inside = slot-below 3 (c .start .0) in
           let is = chunk-leaf (λ j n z. z) h s k 3 e c x (sym (sub-leaf (h .base .0) (tables s) 3 _ (λ q. omega (arith, q .0)))) in
           let shows = slot-leaf (codecOf h placed) (view s) 0 k i (R .low) (word-in s k i inside) (λ table. omega (arith, R .low, table .0)) in
           let fine = subst (FineTree 0) shows (slot-fine placed (R .pool) 0 k i (R .used) (R .low) inside) in
-          subst (λ (u : Tree). Adds x (surveyChunk (λ j n z. z) h s k 3 e c x) (length (ownNumbers (e .set) (e .clear) 0 c u))) (sym (slot-of h s 0 k i ∙ shows))
-          (subst (λ (z : Survey). Adds x z (length (ownNumbers (e .set) (e .clear) 0 c (leaf (wordAt s k i))))) (sym is)
+          subst (λ (u : Tree). AddsNumbers x (surveyChunk (λ j n z. z) h s k 3 e c x) (length (ownNumbers (e .set) (e .clear) 0 c u))) (sym (slot-of h s 0 k i ∙ shows))
+          (subst (λ (z : Survey). AddsNumbers x z (length (ownNumbers (e .set) (e .clear) 0 c (leaf (wordAt s k i))))) (sym is)
           (page-adds h e c (wordAt s k i) x fine (page-whole (child q (slotAt 0 c)) (chunkMap (areaOf e p) c y) piece) (sym (ap (λ (z : Survey). z .broken) is) ∙ kept)))
   survey-numbers (suc depth) low q k p e s v area R ok =
       let t : Tree = treeFrom h s (suc depth) k in
@@ -310,7 +310,7 @@ module _ {h : Handle} (placed : Placed h) where
       let lower : MemoryRegion → Tree → List ℕ = lowerNumbers (e .set) (e .clear) (λ d u. tableNumbers (e .set) (e .clear) depth d u) depth in
       let own : MemoryRegion → Tree → List ℕ = ownNumbers (e .set) (e .clear) (suc depth) in
       let adds = chunks-add (suc depth) q (areaOf e p) (surveyChunk (λ j n x. surveyRange depth h s j n x) h s k (3 - suc depth) e) (λ c u. lower c u ++ own c u) t
-      (λ c y x piece kept. subst (λ (u : Tree). Adds x (surveyChunk (λ j n z. surveyRange depth h s j n z) h s k (3 - suc depth) e c x) (length (lower c u ++ own c u)))
+      (λ c y x piece kept. subst (λ (u : Tree). AddsNumbers x (surveyChunk (λ j n z. surveyRange depth h s j n z) h s k (3 - suc depth) e c x) (length (lower c u ++ own c u)))
       (sym (slot-of h s (suc depth) k (entryIndex (3 - suc depth) (c .start .0))))
       (chunk-adds depth (child q (slotAt (suc depth) c)) k e s R (survey-numbers depth (omega arith)) c y x
       (record { inside = piece .inside; some = piece .some; room = piece .room }) kept))

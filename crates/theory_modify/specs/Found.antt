@@ -32,7 +32,7 @@ use Rattle.theory_forest.specs.Tree.{Tree, leaf, node, treeAt-node}
 use Rattle.theory_forest.specs.Walk.{Ends, walkTree}
 use Rattle.theory_forest.specs.Keep.{slot-leaf}
 use Rattle.theory_sound.specs.Codec.{Placed, codecOf, childOf, slotWord, view, word-in, treeFrom}
-use Rattle.theory_tree.specs.Page.{span, first, child, child-order, slotOf, slot-lt, end-rest, multiple-child, in-of, in-rest, entry-rest}
+use Rattle.theory_tree.specs.Page.{pagesIn, first, child, child-order, slotOfPage, slot-lt, end-rest, multiple-child, in-of, in-rest, entry-rest}
 use Rattle.theory_tree.specs.Fine.{Fine}
 use Rattle.theory_tree.specs.Shown.{FineTree}
 use Rattle.theory_tree.specs.Chunks.{index-slot}
@@ -40,7 +40,7 @@ use Rattle.theory_map.specs.Leaf.{slot-fine}
 use Rattle.theory_map.specs.Stand.{Piece}
 use Rattle.theory_map.specs.Moves.{slotShows, Ready, entered-ready}
 use Rattle.theory_map.specs.Pieces.{Area, slotAt, Pieces, pieces}
-use Rattle.theory_map.specs.Down.{Holds, holds-table, holds-leaf, holds}
+use Rattle.theory_map.specs.Down.{SlotHolds, holds-table, holds-leaf, holds}
 use Rattle.theory_modify.specs.Word.{hole-stays}
 use Rattle.theory_modify.specs.Range.{areaOf}
 use Rattle.theory_modify.specs.Splits.{chunk-leaf, chunk-table}
@@ -50,9 +50,9 @@ use Rattle.theory_modify.specs.Listed.{slot-in}
 -- ---- a page that breaks the house rule
 
 -- the entry of 512^n pages that holds page y lies in the pages from lo up to hi
-pub record Within (lo hi n y : ℕ) : Type 0 where
-  pub from : lo ≤ y - y % span n
-  pub upto : y - y % span n + span n ≤ hi
+pub record WithinPages (lo hi n y : ℕ) : Type 0 where
+  pub from : lo ≤ y - y % pagesIn n
+  pub upto : y - y % pagesIn n + pagesIn n ≤ hi
 
 -- the word that an edit makes of w
 abbrev pub newWord : ℕ → ℕ → ℕ → ℕ → ℕ
@@ -62,7 +62,7 @@ newWord set clear level w = ofKind (kindOf level w) (edited set clear w) w
 pub record Broken (h : Handle) (set clear lo hi : ℕ) (x : Ends) (y w : ℕ) : Type 0 where
   pub word : x .word ≡ w
   pub valid : valid w ≡ true
-  pub rule : (¬ (Within lo hi (x .depth) y)) ⊎ (mayChange h w (newWord set clear (3 - x .depth) w) ≡ false)
+  pub rule : (¬ (WithinPages lo hi (x .depth) y)) ⊎ (mayChange h w (newWord set clear (3 - x .depth) w) ≡ false)
 
 -- the lowest page from lo up to hi that breaks
 pub record First (breaks : ℕ → ℕ → Type 0) (lo hi w : ℕ) : Type 0 where
@@ -148,28 +148,28 @@ walk-low f (suc depth) (leaf w) = omega arith
 walk-low f zero (node u) = omega arith
 walk-low f (suc depth) (node u) = let r = walk-low f depth (u (f depth)) in omega arith
 
-multiple-low : (n depth a : ℕ) → n ≤ depth → a % span depth ≡ 0 → a % span n ≡ 0
+multiple-low : (n depth a : ℕ) → n ≤ depth → a % pagesIn depth ≡ 0 → a % pagesIn n ≡ 0
 multiple-low n zero a l e = let same : n ≡ 0 = omega arith in rw same e
 multiple-low n (suc depth) a l e = go (le-or n depth) (λ k d. multiple-low n depth a k d)
   where
-    lower : a % span depth ≡ 0
-    lower = let z : a + 0 * span depth ≡ a = omega arith in subst (λ (x : ℕ). x % span depth ≡ 0) z (multiple-child depth a 0 e)
+    lower : a % pagesIn depth ≡ 0
+    lower = let z : a + 0 * pagesIn depth ≡ a = omega arith in subst (λ (x : ℕ). x % pagesIn depth ≡ 0) z (multiple-child depth a 0 e)
 
-    go : (n ≤ depth) ⊎ (depth < n) → (n ≤ depth → a % span depth ≡ 0 → a % span n ≡ 0) → a % span n ≡ 0
+    go : (n ≤ depth) ⊎ (depth < n) → (n ≤ depth → a % pagesIn depth ≡ 0 → a % pagesIn n ≡ 0) → a % pagesIn n ≡ 0
     go (inl k) rec = rec k lower
     go (inr k) rec = let same : n ≡ suc depth = omega arith in rw same e
 
 -- the entry of a page before a multiple of its size ends there at the latest, that of a page from there on begins there at the earliest
-entry-before : (n y a : ℕ) → n ≤ 3 → a % span n ≡ 0 → y < a → y - y % span n + span n ≤ a
-unfolding span
+entry-before : (n y a : ℕ) → n ≤ 3 → a % pagesIn n ≡ 0 → y < a → y - y % pagesIn n + pagesIn n ≤ a
+unfolding pagesIn
 entry-before zero y a low at l = omega arith
 entry-before (suc zero) y a low at l = omega arith
 entry-before (suc (suc zero)) y a low at l = omega arith
 entry-before (suc (suc (suc zero))) y a low at l = omega arith
 entry-before (suc (suc (suc (suc n)))) y a low at l = absurd (omega arith)
 
-entry-from : (n y a : ℕ) → n ≤ 3 → a % span n ≡ 0 → a ≤ y → a ≤ y - y % span n
-unfolding span
+entry-from : (n y a : ℕ) → n ≤ 3 → a % pagesIn n ≡ 0 → a ≤ y → a ≤ y - y % pagesIn n
+unfolding pagesIn
 entry-from zero y a low at l = omega arith
 entry-from (suc zero) y a low at l = omega arith
 entry-from (suc (suc zero)) y a low at l = omega arith
@@ -177,30 +177,30 @@ entry-from (suc (suc (suc zero))) y a low at l = omega arith
 entry-from (suc (suc (suc (suc n)))) y a low at l = absurd (omega arith)
 
 -- pages cut at `mid`, where the pages end or an entry with `depth` levels below does
-module _ (depth n y lo mid hi : ℕ) (low : depth ≤ 3) (small : n ≤ depth) (ends : (mid ≡ hi) ⊎ (mid % span depth ≡ 0)) where
-  within-lower : y < mid → Within lo hi n y → Within lo mid n y
+module _ (depth n y lo mid hi : ℕ) (low : depth ≤ 3) (small : n ≤ depth) (ends : (mid ≡ hi) ⊎ (mid % pagesIn depth ≡ 0)) where
+  within-lower : y < mid → WithinPages lo hi n y → WithinPages lo mid n y
   within-lower l W = record { from = W .from; upto = go ends }
     where
-      go : (mid ≡ hi) ⊎ (mid % span depth ≡ 0) → y - y % span n + span n ≤ mid
+      go : (mid ≡ hi) ⊎ (mid % pagesIn depth ≡ 0) → y - y % pagesIn n + pagesIn n ≤ mid
       go (inl same) = omega (arith, W .upto)
       go (inr end) = entry-before n y mid (omega arith) (multiple-low n depth mid small end) l
 
-  within-later : mid ≤ y → y < hi → Within lo hi n y → Within mid hi n y
+  within-later : mid ≤ y → y < hi → WithinPages lo hi n y → WithinPages mid hi n y
   within-later l b W = record { from = go ends; upto = W .upto }
     where
-      go : (mid ≡ hi) ⊎ (mid % span depth ≡ 0) → mid ≤ y - y % span n
+      go : (mid ≡ hi) ⊎ (mid % pagesIn depth ≡ 0) → mid ≤ y - y % pagesIn n
       go (inl same) = absurd (omega arith)
       go (inr end) = entry-from n y mid (omega arith) (multiple-low n depth mid small end) l
 
-within-wider : {lo lo′ hi hi′ n y : ℕ} → lo′ ≤ lo → hi ≤ hi′ → Within lo hi n y → Within lo′ hi′ n y
+within-wider : {lo lo′ hi hi′ n y : ℕ} → lo′ ≤ lo → hi ≤ hi′ → WithinPages lo hi n y → WithinPages lo′ hi′ n y
 within-wider a b W = record { from = omega (arith, W .from); upto = omega (arith, W .upto) }
 
-broken-as : {h : Handle} {set clear lo hi lo′ hi′ : ℕ} (x : Ends) {y w : ℕ} → (Within lo′ hi′ (x .depth) y → Within lo hi (x .depth) y) → Broken h set clear lo hi x y w
+broken-as : {h : Handle} {set clear lo hi lo′ hi′ : ℕ} (x : Ends) {y w : ℕ} → (WithinPages lo′ hi′ (x .depth) y → WithinPages lo hi (x .depth) y) → Broken h set clear lo hi x y w
     → Broken h set clear lo′ hi′ x y w
 broken-as {h} {set} {clear} {lo} {hi} {lo′} {hi′} x {y} {w} back B = record { word = B .word; valid = B .valid; rule = either (B .rule) }
   where
-    either : (¬ (Within lo hi (x .depth) y)) ⊎ (mayChange h w (newWord set clear (3 - x .depth) w) ≡ false)
-        → (¬ (Within lo′ hi′ (x .depth) y)) ⊎ (mayChange h w (newWord set clear (3 - x .depth) w) ≡ false)
+    either : (¬ (WithinPages lo hi (x .depth) y)) ⊎ (mayChange h w (newWord set clear (3 - x .depth) w) ≡ false)
+        → (¬ (WithinPages lo′ hi′ (x .depth) y)) ⊎ (mayChange h w (newWord set clear (3 - x .depth) w) ≡ false)
     either (inl split) = inl (λ W. split (back W))
     either (inr bits) = inr bits
 
@@ -208,29 +208,29 @@ broken-as {h} {set} {clear} {lo} {hi} {lo′} {hi′} x {y} {w} back B = record 
 
 module _ (h : Handle) (set clear depth q : ℕ) (m : Map) (low : depth ≤ 3) (f : MemoryRegion → Survey → Survey) (slots : ℕ → Tree) where
   abbrev endsOf : ℕ → Ends
-  endsOf y = walkTree (slotOf y) depth (slots (slotOf y depth))
+  endsOf y = walkTree (slotOfPage y) depth (slots (slotOfPage y depth))
 
   abbrev endsIn : MemoryRegion → ℕ → Ends
-  endsIn c y = walkTree (slotOf y) depth (slots (entryIndex (3 - depth) (c .start .0)))
+  endsIn c y = walkTree (slotOfPage y) depth (slots (entryIndex (3 - depth) (c .start .0)))
 
   abbrev EachFinds : Type 0
   EachFinds = (c : MemoryRegion) (p : ℕ) (x : Survey) → Piece depth (child q (slotAt depth c)) (chunkMap m c p)
       → Finds (λ y w. Broken h set clear (c .start .0 / 4096) (c .end .0 / 4096) (endsIn c y) y w) (c .start .0 / 4096) (c .end .0 / 4096) x (f c x)
 
   -- a chunk ends where the region does or its entry
-  ends-at : {level e z : ℕ} {cs : List MemoryRegion} → Tiles level e z cs → (i p : ℕ) → Pieces depth q m (suc i) p cs → z ≤ e → z / 4096 ≤ first depth (child q i) + span depth
-      → (z / 4096 ≡ e / 4096) ⊎ (z / 4096 % span depth ≡ 0)
+  ends-at : {level e z : ℕ} {cs : List MemoryRegion} → Tiles level e z cs → (i p : ℕ) → Pieces depth q m (suc i) p cs → z ≤ e → z / 4096 ≤ first depth (child q i) + pagesIn depth
+      → (z / 4096 ≡ e / 4096) ⊎ (z / 4096 % pagesIn depth ≡ 0)
   ends-at (none l) i p all under high = inl (omega arith)
   ends-at (more {s = z} {m = b} above fits inside rest) i p all under high =
       let o = child-order depth q i (slotAt depth (region z b)) (omega (arith, all .0 .from)) in
-      let end : z / 4096 ≡ first depth (child q i) + span depth = omega (arith, all .0 .piece .inside .low) in
-      inr (ap (λ (n : ℕ). n % span depth) end ∙ end-rest depth (child q i))
+      let end : z / 4096 ≡ first depth (child q i) + pagesIn depth = omega (arith, all .0 .piece .inside .low) in
+      inr (ap (λ (n : ℕ). n % pagesIn depth) end ∙ end-rest depth (child q i))
 
   -- a chunk's page stands in the chunk's slot
   ends-same : (c : MemoryRegion) (p y : ℕ) → Piece depth (child q (slotAt depth c)) (chunkMap m c p) → c .start .0 / 4096 ≤ y → y < c .end .0 / 4096 → endsIn c y ≡ endsOf y
   ends-same c p y piece l b =
       let at = in-of depth (child q (slotAt depth c)) y (omega (arith, piece .inside .low)) (omega (arith, piece .inside .high)) in
-      ap (λ (i : ℕ). walkTree (slotOf y) depth (slots i)) (index-slot depth (c .start .0) low ∙ sym (slot-in depth q (slotAt depth c) y (slot-lt (c .start .0 / 4096) depth) at))
+      ap (λ (i : ℕ). walkTree (slotOfPage y) depth (slots i)) (index-slot depth (c .start .0) low ∙ sym (slot-in depth q (slotAt depth c) y (slot-lt (c .start .0 / 4096) depth) at))
 
   fold-finds : EachFinds → {level s e : ℕ} {cs : List MemoryRegion} → Tiles level e s cs → (a p : ℕ) (x : Survey) → Pieces depth q m a p cs → s ≤ e
       → Finds (λ y w. Broken h set clear (s / 4096) (e / 4096) (endsOf y) y w) (s / 4096) (e / 4096) x (eachOf f cs x)
@@ -239,8 +239,8 @@ module _ (h : Handle) (set clear depth q : ℕ) (m : Map) (low : depth ≤ 3) (f
   fold-finds each {e = e} (more {s = s} {m = z} {l = cs} above under fits rest) a p x all some =
       let c : MemoryRegion = region s z in
       let piece : Piece depth (child q (slotAt depth c)) (chunkMap m c p) = all .0 .piece in
-      let ends : (z / 4096 ≡ e / 4096) ⊎ (z / 4096 % span depth ≡ 0) = ends-at rest (slotAt depth c) (p + (z - s)) (all .1) under (piece .inside .high) in
-      let small : (y : ℕ) → endsOf y .depth ≤ depth = λ y. walk-low (slotOf y) depth (slots (slotOf y depth)) in
+      let ends : (z / 4096 ≡ e / 4096) ⊎ (z / 4096 % pagesIn depth ≡ 0) = ends-at rest (slotAt depth c) (p + (z - s)) (all .1) under (piece .inside .high) in
+      let small : (y : ℕ) → endsOf y .depth ≤ depth = λ y. walk-low (slotOfPage y) depth (slots (slotOfPage y depth)) in
       let here = each c p x piece in
       let later = fold-finds each rest (suc (slotAt depth c)) (p + (z - s)) (f c x) (all .1) under in
       finds-join (omega arith) (omega arith)
@@ -271,7 +271,7 @@ module _ (depth : ℕ) (c : MemoryRegion) (low : depth ≤ 3) (start : c .start 
   size = sizeAt (3 - depth)
 
   -- the region is made of whole entries
-  whole-ends : whole (3 - depth) c ≡ true → (c .start .0 / 4096 % span depth ≡ 0) × (c .end .0 / 4096 % span depth ≡ 0)
+  whole-ends : whole (3 - depth) c ≡ true → (c .start .0 / 4096 % pagesIn depth ≡ 0) × (c .end .0 / 4096 % pagesIn depth ≡ 0)
   unfolding whole
   whole-ends all =
       let two = both (eqb (c .start .0 % size) 0) (eqb (c .end .0 % size) 0) all in
@@ -279,7 +279,7 @@ module _ (depth : ℕ) (c : MemoryRegion) (low : depth ≤ 3) (start : c .start 
       let b = eqb→eq (c .end .0 % size) 0 (rw (two .1) tt) in
       (omega (arith, entry-rest depth (c .start .0) low start), omega (arith, entry-rest depth (c .end .0) low end))
 
-  ends-whole : c .start .0 / 4096 % span depth ≡ 0 → c .end .0 / 4096 % span depth ≡ 0 → whole (3 - depth) c ≡ true
+  ends-whole : c .start .0 / 4096 % pagesIn depth ≡ 0 → c .end .0 / 4096 % pagesIn depth ≡ 0 → whole (3 - depth) c ≡ true
   unfolding whole
   ends-whole a b =
       rw (
@@ -310,7 +310,7 @@ module _ (h : Handle) (e : Edit) (c : MemoryRegion) (w : ℕ) (v : Survey) where
 
     -- covered as a whole: it is not split
     module _ (all : whole level c ≡ true) where
-      within : (y : ℕ) → lo ≤ y → y < hi → Within lo hi depth y
+      within : (y : ℕ) → lo ≤ y → y < hi → WithinPages lo hi depth y
       within y k b =
           let ends = whole-ends depth c low (piece .inside .startPage) (piece .inside .endPage) all in
           record { from = entry-from depth y lo low (ends .0) k; upto = entry-before depth y hi low (ends .1) b }
@@ -318,7 +318,7 @@ module _ (h : Handle) (e : Edit) (c : MemoryRegion) (w : ℕ) (v : Survey) where
       allowed : mayChange h w new ≡ true → (y u : ℕ) → lo ≤ y → y < hi → Breaks depth y u → ⊥
       allowed may y u k b B = go (B .rule)
         where
-          go : (¬ (Within lo hi depth y)) ⊎ (mayChange h u (newWord (e .set) (e .clear) level u) ≡ false) → ⊥
+          go : (¬ (WithinPages lo hi depth y)) ⊎ (mayChange h u (newWord (e .set) (e .clear) level u) ≡ false) → ⊥
           go (inl split) = split (within y k b)
           go (inr bits) = clash may (ap (mayChange h w) (sym same-new) ∙ ap (λ (x : ℕ). mayChange h x (newWord (e .set) (e .clear) level x)) (B .word) ∙ bits)
 
@@ -347,13 +347,13 @@ module _ (h : Handle) (e : Edit) (c : MemoryRegion) (w : ℕ) (v : Survey) where
     abbrev under : ℕ
     under = 3 - suc depth
 
-    splits-it : ¬ (Within lo hi (suc depth) lo)
+    splits-it : ¬ (WithinPages lo hi (suc depth) lo)
     splits-it W =
         let mine = in-rest (suc depth) q lo
         (in-of (suc depth) q lo (piece .inside .low) (omega (arith, piece .inside .high, piece .some, piece .inside .startPage, piece .inside .endPage))) in
-        let begins : lo % span (suc depth) ≡ 0 = omega (arith, W .from) in
-        let ends : hi ≡ first (suc depth) q + span (suc depth) = omega (arith, W .upto, piece .inside .high) in
-        clash (ends-whole (suc depth) c low (piece .inside .startPage) (piece .inside .endPage) begins (ap (λ (n : ℕ). n % span (suc depth)) ends ∙ end-rest (suc depth) q)) part
+        let begins : lo % pagesIn (suc depth) ≡ 0 = omega (arith, W .from) in
+        let ends : hi ≡ first (suc depth) q + pagesIn (suc depth) = omega (arith, W .upto, piece .inside .high) in
+        clash (ends-whole (suc depth) c low (piece .inside .startPage) (piece .inside .endPage) begins (ap (λ (n : ℕ). n % pagesIn (suc depth)) ends ∙ end-rest (suc depth) q)) part
 
     abbrev more-splits : Survey
     more-splits = record { splits = v .splits + splitsIn (3 - under) c; numbers = v .numbers; broken = v .broken; word = v .word }
@@ -390,7 +390,7 @@ walk-node f depth u = refl
 module _ {h : Handle} (placed : Placed h) where
   -- the pages of an edit's region that break, in a tree with `depth` levels below
   abbrev pub BreaksIn : Edit → ℕ → Tree → ℕ → ℕ → Type 0
-  BreaksIn e depth t y w = Broken h (e .set) (e .clear) (e .region .start .0 / 4096) (e .region .end .0 / 4096) (walkTree (slotOf y) depth t) y w
+  BreaksIn e depth t y w = Broken h (e .set) (e .clear) (e .region .start .0 / 4096) (e .region .end .0 / 4096) (walkTree (slotOfPage y) depth t) y w
 
   abbrev Scans : ℕ → Type 0
   Scans depth = (q k p : ℕ) (e : Edit) (s : St) (v : Survey) → Area depth q (areaOf e p) → Ready placed s depth k → e .region .start .0 ≤ e .region .end .0
@@ -404,8 +404,8 @@ module _ {h : Handle} (placed : Placed h) where
       → ChunkFinds depth e c (leaf w) v (surveyEntry h (3 - depth) (chunkEdit e c) w v)
   leaf-chunk depth q p e c w v low fine piece =
       finds-as
-      (λ y u k b at. subst (λ (i : Ends). Broken h (e .set) (e .clear) (c .start .0 / 4096) (c .end .0 / 4096) i y u) (sym (walk-leaf (slotOf y) depth w)) at)
-      (λ y u k b at. subst (λ (i : Ends). Broken h (e .set) (e .clear) (c .start .0 / 4096) (c .end .0 / 4096) i y u) (walk-leaf (slotOf y) depth w) at)
+      (λ y u k b at. subst (λ (i : Ends). Broken h (e .set) (e .clear) (c .start .0 / 4096) (c .end .0 / 4096) i y u) (sym (walk-leaf (slotOfPage y) depth w)) at)
+      (λ y u k b at. subst (λ (i : Ends). Broken h (e .set) (e .clear) (c .start .0 / 4096) (c .end .0 / 4096) i y u) (walk-leaf (slotOfPage y) depth w) at)
       (leaf-finds h e c w v depth q p low fine piece)
 
   chunk-finds : (depth q k : ℕ) (e : Edit) (s : St) → Ready placed s (suc depth) k → Scans depth → (c : MemoryRegion) (p : ℕ) (v : Survey)
@@ -423,7 +423,7 @@ module _ {h : Handle} (placed : Placed h) where
       x : Survey
       x = surveyChunk (λ j n y. surveyRange depth h s j n y) h s k (3 - suc depth) e c v
 
-      go : Holds placed s depth k i → ChunkFinds (suc depth) e c (slotShows h s (suc depth) k i) v x
+      go : SlotHolds placed s depth k i → ChunkFinds (suc depth) e c (slotShows h s (suc depth) k i) v x
       go (holds-table j r both leads shows) =
           let is = chunk-table (λ a n y. surveyRange depth h s a n y) h s k (3 - suc depth) e c v j leads in
           let found = scans q j p (chunkEdit e c) s v (record { inside = piece .inside; room = piece .room }) (entered-ready placed R i inside r) (omega (arith, piece .some)) in
@@ -451,9 +451,9 @@ module _ {h : Handle} (placed : Placed h) where
       (eachOf f (chunks (3 - depth) (e .region .start .0) (e .region .end .0)) v)) (sym tree)
       (finds-as
       (λ y u l b at. subst (λ (i : Ends). Broken h (e .set) (e .clear) (e .region .start .0 / 4096) (e .region .end .0 / 4096) i y u)
-      (sym (walk-node (slotOf y) depth (λ i. slotShows h s depth k i))) at)
+      (sym (walk-node (slotOfPage y) depth (λ i. slotShows h s depth k i))) at)
       (λ y u l b at. subst (λ (i : Ends). Broken h (e .set) (e .clear) (e .region .start .0 / 4096) (e .region .end .0 / 4096) i y u)
-      (walk-node (slotOf y) depth (λ i. slotShows h s depth k i)) at)
+      (walk-node (slotOfPage y) depth (λ i. slotShows h s depth k i)) at)
       all)
 
   -- THE LOWEST PAGE

@@ -20,8 +20,8 @@ use Rattle.map_rules.specs.declared.Map.{Map}
 use Rattle.map_rules.specs.Rules.{chunkMap}
 use Rattle.theory_forest.specs.Tree.{Tree, leaf, node, node-ext}
 use Rattle.theory_forest.specs.Walk.{walkTree}
-use Rattle.theory_tree.specs.Page.{span, span-zero, child, slotOf, slot-lt, In, in-of, in-rest, entry-rest}
-use Rattle.theory_tree.specs.Word.{frameOf}
+use Rattle.theory_tree.specs.Page.{pagesIn, span-zero, child, slotOfPage, slot-lt, In, in-of, in-rest, entry-rest}
+use Rattle.theory_tree.specs.Word.{frameIn}
 use Rattle.theory_tree.specs.Edit.{edited-frame, edited-bit, edited-plain}
 use Rattle.theory_tree.specs.Fine.{Fine}
 use Rattle.theory_tree.specs.Walk.{Seen, mapped, hole, seenIn, seen, seen-leaf, seen-node, seen-fine, fill-seen}
@@ -29,7 +29,7 @@ use Rattle.theory_tree.specs.Shown.{FineTree, fine-fill-slots}
 use Rattle.theory_tree.specs.Visit.{opened, obey, opens-leaf, opens-node}
 use Rattle.theory_tree.specs.Slots.{fillSlot, fill-node, fill-slot}
 use Rattle.theory_tree.specs.Chunks.{atSlot, sweep, chunked, chunkedTable, index-slot}
-use Rattle.theory_tree.specs.Needed.{slotIn}
+use Rattle.theory_tree.specs.Needed.{slotTree}
 use Rattle.theory_tree.specs.Modify.{editRule}
 use Rattle.theory_tree.specs.DocumentModify.{documentModify}
 use Rattle.theory_map.specs.Stand.{Piece}
@@ -39,12 +39,12 @@ use Rattle.theory_modify.specs.Gathered.{number-changed, number-same, nu
 use Rattle.theory_modify.specs.Gathered.{at-slot, in-node, at-node, at-others, gathered-from, sweep-before}
 use Rattle.theory_modify.specs.Once.{occurs-append, pagesBelow, Few, nil-occurs, piece-some, gathered-few, page-few, entry-few, table-few, occurs-both}
 
-first-leaf : (depth w y : ℕ) → firstPage depth (leaf w) y ≡ y - y % span depth
+first-leaf : (depth w y : ℕ) → firstPage depth (leaf w) y ≡ y - y % pagesIn depth
 unfolding firstPage walkTree
 first-leaf zero w y = refl
 first-leaf (suc depth) w y = refl
 
-first-node : (depth : ℕ) (f : ℕ → Tree) (y : ℕ) → firstPage (suc depth) (node f) y ≡ firstPage depth (f (slotOf y depth)) y
+first-node : (depth : ℕ) (f : ℕ → Tree) (y : ℕ) → firstPage (suc depth) (node f) y ≡ firstPage depth (f (slotOfPage y depth)) y
 unfolding firstPage walkTree
 first-node depth f y = refl
 
@@ -53,8 +53,8 @@ unfolding firstPage
 first-le depth t y = omega arith
 
 -- the page of a chunk's entry stands in the chunk's slot
-pub slot-in : (depth q i y : ℕ) → i < 512 → In depth (child q i) y → slotOf y depth ≡ i
-unfolding slotOf child
+pub slot-in : (depth q i y : ℕ) → i < 512 → In depth (child q i) y → slotOfPage y depth ≡ i
+unfolding slotOfPage child
 slot-in depth q i y inside at = omega arith
 
 -- a word from its parts
@@ -73,23 +73,23 @@ low-same w = omega arith
 high-rest : (w : ℕ) → w / 2 ^ 48 ≡ w / 4096 / 2 ^ 36
 high-rest w = omega arith
 
-parts : (w : ℕ) → plainFlags w + w / 2 % 2 * 2 + frameOf w * 4096 ≡ w
-unfolding plainFlags frameOf
+parts : (w : ℕ) → plainFlags w + w / 2 % 2 * 2 + frameIn w * 4096 ≡ w
+unfolding plainFlags frameIn
 parts w = omega (arith, low-two w, low-four (w % 4096), low-rest w, low-same w, high-rest w)
 
 -- a table stays a table
 sweep-node : (depth : ℕ) (f : MemoryRegion → ℕ → Tree → Tree) (cs : List MemoryRegion) (p : ℕ) (v : ℕ → Tree)
-    → sweep depth f cs p (node v) ≡ node (λ j. slotIn (sweep depth f cs p (node v)) j)
+    → sweep depth f cs p (node v) ≡ node (λ j. slotTree (sweep depth f cs p (node v)) j)
 unfolding sweep
 sweep-node depth f [] p v = node-ext (λ j. sym (in-node v j))
 sweep-node depth f (c ∷ cs) p v =
     let i : ℕ = entryIndex (3 - depth) (c .start .0) in
-    let w : ℕ → Tree = λ j. slotIn (atSlot i (f c p) (node v)) j in
+    let w : ℕ → Tree = λ j. slotTree (atSlot i (f c p) (node v)) j in
     let p′ : ℕ = p + (c .end .0 - c .start .0) in
-    subst (λ (t : Tree). sweep depth f cs p′ t ≡ node (λ j. slotIn (sweep depth f cs p′ t) j)) (sym (at-node i (f c p) v)) (sweep-node depth f cs p′ w)
+    subst (λ (t : Tree). sweep depth f cs p′ t ≡ node (λ j. slotTree (sweep depth f cs p′ t) j)) (sym (at-node i (f c p) v)) (sweep-node depth f cs p′ w)
 
 module _ (set clear : ℕ) where
-  first-edit : (depth w : ℕ) (t : Tree) (y : ℕ) → firstPage depth (obey (editRule set clear w) (leaf w) t) y ≡ y - y % span depth
+  first-edit : (depth w : ℕ) (t : Tree) (y : ℕ) → firstPage depth (obey (editRule set clear w) (leaf w) t) y ≡ y - y % pagesIn depth
   unfolding editRule obey
   first-edit depth w t y = byBool (valid w) (λ e. rw e (first-leaf depth (edited set clear w) y)) (λ e. rw e (first-leaf depth w y))
 
@@ -129,7 +129,7 @@ module _ (set clear : ℕ) where
         let z = parts (edited set clear w) in
         omega arith
 
-    seen-valid : (depth w y : ℕ) → Fine depth w → valid w ≡ true → seenIn depth w y ≡ mapped (plainFlags w) (frameOf w + y % span depth)
+    seen-valid : (depth w y : ℕ) → Fine depth w → valid w ≡ true → seenIn depth w y ≡ mapped (plainFlags w) (frameIn w + y % pagesIn depth)
     seen-valid depth w y fine v = seen-fine depth w y fine ∙ rw v
 
     seen-none : (depth w y : ℕ) → Fine depth w → valid w ≡ false → seenIn depth w y ≡ hole (plainFlags w)
@@ -176,8 +176,8 @@ module _ (set clear : ℕ) where
       module _ (depth q : ℕ) (m : Map) (low : depth ≤ 3) (tells : EachTells depth)
           (few : (x : ℕ) (c : MemoryRegion) (p : ℕ) (u : Tree) → Piece depth (child q (slotAt depth c)) (chunkMap m c p) → Few x c (occurs x (entryNumbers depth c u))) where
         record TableTells (a s : ℕ) (u t : Tree) (xs : List ℕ) : Type 0 where
-          slot : a ≤ slotOf y depth
-          tell : Tells depth s (slotIn u (slotOf y depth)) (slotIn t (slotOf y depth)) xs
+          slot : a ≤ slotOfPage y depth
+          tell : Tells depth s (slotTree u (slotOfPage y depth)) (slotTree t (slotOfPage y depth)) xs
 
         outside-first : (x s z e y0 n : ℕ) → x ≡ y0 % 2 ^ 44 → y0 < z → z ≤ e → e ≤ y0 + 2 ^ 44 → n + pagesBelow x z ≤ pagesBelow x e → n ≡ 0
         outside-first x s z e y0 n is l k r f = omega arith
@@ -206,7 +206,7 @@ module _ (set clear : ℕ) where
             index = index-slot depth s low
 
             v′ : ℕ → Tree
-            v′ j = slotIn (atSlot i (after depth c p) (node v)) j
+            v′ j = slotTree (atSlot i (after depth c p) (node v)) j
 
             fine′ : (j : ℕ) → suc (slotAt depth c) ≤ j → j < 512 → FineTree depth (v′ j)
             fine′ j k b = subst (FineTree depth) (sym (at-others i j (after depth c p) (node v) (λ q. omega (arith, index)) ∙ in-node v j)) (fine j (omega (arith, all .0 .from)) b)
@@ -217,16 +217,16 @@ module _ (set clear : ℕ) where
             go : (z / 4096 ≤ y) ⊎ (y < z / 4096)
                 → (z / 4096 ≤ y → TableTells (suc (slotAt depth c)) z (sweep depth (after depth) cs p′ (node v′)) (node v′) (gathered depth (entryNumbers depth) cs (node v′)))
                 → TableTells a s (sweep depth (after depth) cs p′ (atSlot i (after depth c p) (node v))) (node v)
-                (entryNumbers depth c (slotIn (node v) i) ++ gathered depth (entryNumbers depth) cs (node v))
+                (entryNumbers depth c (slotTree (node v) i) ++ gathered depth (entryNumbers depth) cs (node v))
             go (inr l) later =
                 let place = index in
-                let at : slotOf y depth ≡ slotAt depth c = slot-in depth q (slotAt depth c) y (slot-lt (s / 4096) depth) (piece-in (all .0 .piece) above l) in
-                let same : slotOf y depth ≡ i = at ∙ sym index in
+                let at : slotOfPage y depth ≡ slotAt depth c = slot-in depth q (slotAt depth c) y (slot-lt (s / 4096) depth) (piece-in (all .0 .piece) above l) in
+                let same : slotOfPage y depth ≡ i = at ∙ sym index in
                 let T = tells (child q (slotAt depth c)) m c p (v i) (all .0 .piece) (fine i (omega (arith, all .0 .from)) (omega (arith, slot-lt (s / 4096) depth))) above l in
-                let new : slotIn (sweep depth (after depth) cs p′ (atSlot i (after depth c p) (node v))) (slotOf y depth) ≡ after depth c p (v i) =
-                ap (slotIn (sweep depth (after depth) cs p′ (atSlot i (after depth c p) (node v)))) same
+                let new : slotTree (sweep depth (after depth) cs p′ (atSlot i (after depth c p) (node v))) (slotOfPage y depth) ≡ after depth c p (v i) =
+                ap (slotTree (sweep depth (after depth) cs p′ (atSlot i (after depth c p) (node v)))) same
                 ∙ sweep-before depth q m low (after depth) cs (suc (slotAt depth c)) p′ i (atSlot i (after depth c p) (node v)) (all .1) (omega arith) ∙ at-slot i (after depth c p) v in
-                let old : slotIn (node v) (slotOf y depth) ≡ v i = ap (slotIn (node v)) same ∙ in-node v i in
+                let old : slotTree (node v) (slotOfPage y depth) ≡ v i = ap (slotTree (node v)) same ∙ in-node v i in
                 let x : ℕ = firstPage depth (after depth c p (v i)) y % 2 ^ 44 in
                 let below = first-le depth (after depth c p (v i)) y in
                 let f = T .from in
@@ -234,10 +234,10 @@ module _ (set clear : ℕ) where
                 (omega arith) (omega arith) (omega arith) (rest-few x) in
                 record {
                   slot = omega (arith, all .0 .from);
-                  tell = subst₂ (λ (u t : Tree). Tells depth s u t (entryNumbers depth c (slotIn (node v) i) ++ gathered depth (entryNumbers depth) cs (node v))) (sym new) (sym old)
+                  tell = subst₂ (λ (u t : Tree). Tells depth s u t (entryNumbers depth c (slotTree (node v) i) ++ gathered depth (entryNumbers depth) cs (node v))) (sym new) (sym old)
                       (record {
                         from = f;
-                        count = occurs-append x (entryNumbers depth c (slotIn (node v) i)) (gathered depth (entryNumbers depth) cs (node v))
+                        count = occurs-append x (entryNumbers depth c (slotTree (node v) i)) (gathered depth (entryNumbers depth) cs (node v))
                             ∙ ap₂ _+_ (ap (λ (t : Tree). occurs x (entryNumbers depth c t)) (in-node v i) ∙ T .count) zero-rest
                             ∙ (let n : changes (seen depth (v i) y) + 0 ≡ changes (seen depth (v i) y) = omega arith in n);
                       });
@@ -246,29 +246,29 @@ module _ (set clear : ℕ) where
                 let place = index in
                 let IH = later l in
                 let tree = at-node i (after depth c p) v in
-                let σ : ℕ = slotOf y depth in
+                let σ : ℕ = slotOfPage y depth in
                 let deep = IH .slot in
-                let same : slotIn (node v′) σ ≡ slotIn (node v) σ = ap (λ (t : Tree). slotIn t σ) (sym tree) ∙ at-others i σ (after depth c p) (node v) (λ q. omega arith) in
+                let same : slotTree (node v′) σ ≡ slotTree (node v) σ = ap (λ (t : Tree). slotTree t σ) (sym tree) ∙ at-others i σ (after depth c p) (node v) (λ q. omega arith) in
                 let numbers : gathered depth (entryNumbers depth) cs (node v′) ≡ gathered depth (entryNumbers depth) cs (node v) =
                 ap (gathered depth (entryNumbers depth) cs) (sym tree)
                 ∙ gathered-from depth q m low (entryNumbers depth) cs (suc (slotAt depth c)) p′ (atSlot i (after depth c p) (node v)) (node v) (all .1)
                 (λ j k. at-others i j (after depth c p) (node v) (λ q. omega arith)) in
-                let u : Tree = slotIn (sweep depth (after depth) cs p′ (node v′)) σ in
+                let u : Tree = slotTree (sweep depth (after depth) cs p′ (node v′)) σ in
                 let x : ℕ = firstPage depth u y % 2 ^ 44 in
                 let f = IH .tell .from in
                 let below = first-le depth u y in
-                let zero-here = outside-last x (s / 4096) (z / 4096) (firstPage depth u y) (occurs x (entryNumbers depth c (slotIn (node v) i))) refl f (omega arith) (omega arith)
-                (few x c p (slotIn (node v) i) (all .0 .piece)) in
+                let zero-here = outside-last x (s / 4096) (z / 4096) (firstPage depth u y) (occurs x (entryNumbers depth c (slotTree (node v) i))) refl f (omega arith) (omega arith)
+                (few x c p (slotTree (node v) i) (all .0 .piece)) in
                 record {
                   slot = omega (arith, all .0 .from);
                   tell =
-                      subst (λ (t : Tree). Tells depth s (slotIn (sweep depth (after depth) cs p′ t) σ) (slotIn (node v) σ)
-                      (entryNumbers depth c (slotIn (node v) i) ++ gathered depth (entryNumbers depth) cs (node v))) (sym tree)
+                      subst (λ (t : Tree). Tells depth s (slotTree (sweep depth (after depth) cs p′ t) σ) (slotTree (node v) σ)
+                      (entryNumbers depth c (slotTree (node v) i) ++ gathered depth (entryNumbers depth) cs (node v))) (sym tree)
                       (record {
                         from = omega arith;
-                        count = occurs-append x (entryNumbers depth c (slotIn (node v) i)) (gathered depth (entryNumbers depth) cs (node v))
+                        count = occurs-append x (entryNumbers depth c (slotTree (node v) i)) (gathered depth (entryNumbers depth) cs (node v))
                             ∙ ap₂ _+_ zero-here (ap (occurs x) (sym numbers) ∙ IH .tell .count ∙ ap (λ (t : Tree). changes (seen depth t y)) same)
-                            ∙ (let n : 0 + changes (seen depth (slotIn (node v) σ) y) ≡ changes (seen depth (slotIn (node v) σ) y) = omega arith in n);
+                            ∙ (let n : 0 + changes (seen depth (slotTree (node v) σ) y) ≡ changes (seen depth (slotTree (node v) σ) y) = omega arith in n);
                       });
                 }
 
@@ -299,13 +299,13 @@ module _ (set clear : ℕ) where
           (pieces depth q m low (m .frame .0) (m .region) (record { inside = area .inside; room = area .room })) v
           (λ j k b. fine j b) above under (omega (arith, area .room)) some in
           let U : Tree = sweep depth (after depth) cs (m .frame .0) (node v) in
-          let σ : ℕ = slotOf y depth in
-          let same : firstPage (suc depth) U y ≡ firstPage depth (slotIn U σ) y =
-          ap (λ (t : Tree). firstPage (suc depth) t y) (sweep-node depth (after depth) cs (m .frame .0) v) ∙ first-node depth (λ j. slotIn U j) y in
+          let σ : ℕ = slotOfPage y depth in
+          let same : firstPage (suc depth) U y ≡ firstPage depth (slotTree U σ) y =
+          ap (λ (t : Tree). firstPage (suc depth) t y) (sweep-node depth (after depth) cs (m .frame .0) v) ∙ first-node depth (λ j. slotTree U j) y in
           record {
             from = subst (λ (n : ℕ). m .region .start .0 / 4096 ≤ n) (sym same) (T .tell .from);
             count = ap (λ (n : ℕ). occurs (n % 2 ^ 44) (tableNumbers set clear depth (m .region) (node v))) same
-                ∙ numbers-are depth (firstPage depth (slotIn U σ) y % 2 ^ 44) (m .region) (node v) ∙ T .tell .count
+                ∙ numbers-are depth (firstPage depth (slotTree U σ) y % 2 ^ 44) (m .region) (node v) ∙ T .tell .count
                 ∙ ap changes (ap (λ (t : Tree). seen depth t y) (in-node v σ) ∙ sym (seen-node depth v y));
           }
 
@@ -316,7 +316,7 @@ module _ (set clear : ℕ) where
           let z = span-zero in
           let start : c .start .0 / 4096 ≡ y = omega (arith, piece .inside .low, piece .inside .high) in
           let here : firstPage 0 (after 0 c p (leaf w)) y ≡ y = ap (λ (t : Tree). firstPage 0 t y) (chunked-page c p w) ∙ first-edit 0 w (leaf w) y
-          ∙ (let k : y - y % span 0 ≡ y = omega arith in k) in
+          ∙ (let k : y - y % pagesIn 0 ≡ y = omega arith in k) in
           record {
             from = omega arith;
             count = ap (occurs (firstPage 0 (after 0 c p (leaf w)) y % 2 ^ 44)) (sym (leaf-page set clear c (leaf w)) ∙ leaf-number set clear c w)
@@ -336,7 +336,7 @@ module _ (set clear : ℕ) where
           let its = in-rest (suc depth) q (c .start .0 / 4096) (in-of (suc depth) q (c .start .0 / 4096) (piece .inside .low) (omega (arith, piece .inside .high))) in
           let here : firstPage (suc depth) (after (suc depth) c p (leaf w)) y ≡ c .start .0 / 4096 =
           ap (λ (t : Tree). firstPage (suc depth) t y) (chunked-whole depth c p w all) ∙ first-edit (suc depth) w _ y
-          ∙ (let k : y - y % span (suc depth) ≡ c .start .0 / 4096 = omega arith in k) in
+          ∙ (let k : y - y % pagesIn (suc depth) ≡ c .start .0 / 4096 = omega arith in k) in
           record {
             from = omega arith;
             count = ap (occurs (firstPage (suc depth) (after (suc depth) c p (leaf w)) y % 2 ^ 44))
@@ -369,7 +369,7 @@ module _ (set clear : ℕ) where
           (λ e. goes-tells depth q p c m (leaf w) (fillSlot depth w) low tells piece (fine-fill-slots depth w fine) above under (opens-leaf depth w ∙ fill-node depth w)
           (chunked-part depth c p w e)
           (lower-part set clear _ depth c w e) (own-part set clear depth c w e)
-          (seen-node depth (fillSlot depth w) y ∙ ap (λ (t : Tree). seen depth t y) (fill-slot depth w (slotOf y depth) (slot-lt y depth)) ∙ seen-leaf depth _ y ∙ fill-seen depth w y fine
+          (seen-node depth (fillSlot depth w) y ∙ ap (λ (t : Tree). seen depth t y) (fill-slot depth w (slotOfPage y depth) (slot-lt y depth)) ∙ seen-leaf depth _ y ∙ fill-seen depth w y fine
           ∙ sym (seen-leaf (suc depth) w y)))
 
       each-tells : (depth : ℕ) → depth ≤ 3 → EachTells depth

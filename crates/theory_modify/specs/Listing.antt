@@ -21,7 +21,7 @@ use Rattle.modify_entry.specs.declared.Edit.{Edit}
 use Rattle.modify_entry.specs.Word.{editWord}
 use Rattle.modify_entry.specs.Each.{eachChunk, chunkEdit}
 use Rattle.modify_entry.specs.Own.{Numbered, numbered, putNumber, Noted, noted, ownChunk, ownRange, own-same, own-changed}
-use Rattle.modify_range.specs.Range.{Work, work, own, ownWork, modifyRange, own-table, own-leaf, stepAt, modify-pages, modify-open, step-own}
+use Rattle.modify_range.specs.Range.{Work, work, own, ownWork, modifyRange, own-table, own-leaf, downStep, modify-pages, modify-open, step-own}
 use Rattle.theory_forest.specs.Tree.{Tree, leaf, node, treeAt-node}
 use Rattle.theory_forest.specs.Sound.{TableWord}
 use Rattle.theory_forest.specs.Keep.{slot-leaf}
@@ -32,13 +32,13 @@ use Rattle.theory_tree.specs.Visit.{opened, splits}
 use Rattle.theory_tree.specs.Fine.{Fine}
 use Rattle.theory_tree.specs.Shown.{FineTree}
 use Rattle.theory_tree.specs.Chunks.{sweep}
-use Rattle.theory_tree.specs.Needed.{slotIn, tallied, needed, neededTable}
+use Rattle.theory_tree.specs.Needed.{slotTree, tallied, needed, neededTable}
 use Rattle.theory_tree.specs.DocumentModify.{documentModify}
 use Rattle.theory_map.specs.Leaf.{slot-fine}
 use Rattle.theory_map.specs.Stand.{Piece}
 use Rattle.theory_map.specs.Moves.{slotShows, Ready, worked-ready}
 use Rattle.theory_map.specs.Pieces.{Area, slotAt, Pieces, pieces}
-use Rattle.theory_map.specs.Down.{Holds, holds-table, holds-leaf, holds, opens}
+use Rattle.theory_map.specs.Down.{SlotHolds, holds-table, holds-leaf, holds, opens}
 use Rattle.theory_map.specs.Loop.{slot-of, through, EachWorks, stepped}
 use Rattle.theory_modify.specs.Word.{Bits, table-stays, hole-stays, valid-edited}
 use Rattle.theory_modify.specs.Passes.{ownTo, downTo, takes-part, takes-into}
@@ -81,7 +81,7 @@ module _ {h : Handle} (placed : Placed h) where
         (gathered-from depth q m low numbers cs (suc (slotAt depth c)) p′ (treeFrom h (stateOf (each c p x)) depth k) t (all .1) (first .same))
         (puts c p x (all .0 .piece) R (enough c cs p x room)
         ∙ ap (λ (u : Tree). putAll live (numbers c u) (notesOf x)) (sym (slot-of h (stateOf x) depth k i)))
-        ∙ sym (put-append live (numbers c (slotIn t i)) (gathered depth numbers cs t) (notesOf x))
+        ∙ sym (put-append live (numbers c (slotTree t i)) (gathered depth numbers cs t) (notesOf x))
 
   -- ---- a table's own entries
 
@@ -141,7 +141,7 @@ module _ {h : Handle} (placed : Placed h) where
       (word-in (st (n .words) ledger) k (i 0 k e ledger c n R) (inside 0 k e ledger c n R)) old)
   own-puts (suc depth) k e ledger c n R = go (holds placed R (i (suc depth) k e ledger c n R) (inside (suc depth) k e ledger c n R))
     where
-      go : Holds placed (st (n .words) ledger) depth k (i (suc depth) k e ledger c n R) → Puts (suc depth) k e ledger c n R
+      go : SlotHolds placed (st (n .words) ledger) depth k (i (suc depth) k e ledger c n R) → Puts (suc depth) k e ledger c n R
       go (holds-table j r both leads shows) =
           puts-none (suc depth) k e ledger c n R (table-stays (3 - suc depth) e _ (omega (arith, R .low)) both)
           (ap (leafNumbers (e .set) (e .clear) c) shows ∙ leaf-none (e .set) (e .clear) c _)
@@ -195,7 +195,7 @@ module _ {h : Handle} (placed : Placed h) where
     lower v = lowerNumbers (e .set) (e .clear) table depth c v
 
     abbrev Downs : Type 0
-    Downs = ofWork (stepAt h k level e c x) ≡ putAll (e .live) (lower u) (ofWork x)
+    Downs = ofWork (downStep h k level e c x) ≡ putAll (e .live) (lower u) (ofWork x)
 
     slot : j < 512
     slot = slot-below level (c .start .0)
@@ -221,7 +221,7 @@ module _ {h : Handle} (placed : Placed h) where
         clear : ℕ
         clear = e .clear
 
-        go : Holds placed (x .state) depth k j → Downs
+        go : SlotHolds placed (x .state) depth k j → Downs
         go (holds-table a r both leads shows) =
             puts-down room (sym (own-table level c y both))
             (ap lower shows ∙ lower-into set clear table depth c _ ∙ sym (ap (λ (v : Tree). table c (opened depth v)) shows))
@@ -236,13 +236,13 @@ module _ {h : Handle} (placed : Placed h) where
   down-pass-puts : (depth q k p : ℕ) (e : Edit) (w : Work) → suc depth ≤ 3 → Edits placed depth → Lists depth → Bits h e → Area (suc depth) q (areaOf e p)
       → Ready placed (w .state) (suc depth) k → let t = treeFrom h (w .state) (suc depth) k in let cs = chunks (3 - suc depth) (e .region .start .0) (e .region .end .0) in
       editTakes e (suc depth) p t ≤ free (w .state .ledger)
-      → ofWork (eachChunk (3 - suc depth) (stepAt h k (3 - suc depth) e) (e .region) w)
+      → ofWork (eachChunk (3 - suc depth) (downStep h k (3 - suc depth) e) (e .region) w)
       ≡ putAll (e .live) (gathered (suc depth) (lowerNumbers (e .set) (e .clear) (λ d v. tableNumbers (e .set) (e .clear) depth d v) depth) cs t) (ofWork w)
   unfolding neededTable
   down-pass-puts depth q k p e w low edits lists bits area R room =
       let cs : List MemoryRegion = chunks (3 - suc depth) (e .region .start .0) (e .region .end .0) in
-      ap ofWork (sym (through-chunks (3 - suc depth) (stepAt h k (3 - suc depth) e) (e .region) p w))
-      ∙ loop-puts (λ (x : Work). x .state) (λ c x y. stepAt h k (3 - suc depth) e c y) (downTo (e .set) (e .clear) depth)
+      ap ofWork (sym (through-chunks (3 - suc depth) (downStep h k (3 - suc depth) e) (e .region) p w))
+      ∙ loop-puts (λ (x : Work). x .state) (λ c x y. downStep h k (3 - suc depth) e c y) (downTo (e .set) (e .clear) depth)
       (λ c x v. needed (documentModify (e .set) (e .clear)) (suc depth) c x v) (suc depth) q k (areaOf e p) ofWork (e .live)
       (lowerNumbers (e .set) (e .clear) (λ d v. tableNumbers (e .set) (e .clear) depth d v) depth) low
       (λ c x y piece ready enough. down-works placed depth (child q (slotAt (suc depth) c)) k e bits edits c x y
@@ -267,7 +267,7 @@ module _ {h : Handle} (placed : Placed h) where
       let level : ℕ = 3 - suc depth in
       let t : Tree = treeFrom h (w .state) (suc depth) k in
       let is : t ≡ node (λ i. slotShows h (w .state) (suc depth) k i) = treeAt-node (childOf (h .base .0)) (suc depth) (slotWord (w .state)) k in
-      let mid : Work = eachChunk level (stepAt h k level e) (e .region) w in
+      let mid : Work = eachChunk level (downStep h k level e) (e .region) w in
       let D = down-pass placed depth q k p e w low edits bits area R room in
       let cs : List MemoryRegion = chunks level (e .region .start .0) (e .region .end .0) in
       let all = pieces (suc depth) q (areaOf e p) low p (e .region) area in

@@ -16,39 +16,39 @@ use Rattle.pool.specs.declared.Handle.{Handle}
 use Rattle.modify_entry.specs.declared.Edit.{Edit}
 use Rattle.modify_entry.specs.Word.{editWord}
 use Rattle.modify_survey.specs.House.{mayChange}
-use Rattle.modify_verify.specs.Permit.{asked}
+use Rattle.modify_verify.specs.Permit.{askedEdit}
 use Rattle.modify.specs.Call.{nothing}
 use Rattle.theory_forest.specs.Tree.{Tree}
 use Rattle.theory_forest.specs.Walk.{Ends, walkTree}
 use Rattle.theory_sound.specs.Clauses.{SoundPool}
 use Rattle.theory_sound.specs.Codec.{shaped-placed, rootTree}
 use Rattle.arm.specs.Arm.{at}
-use Rattle.theory_walk.specs.Any.{slotsOf, met}
+use Rattle.theory_walk.specs.Any.{slotsTaken, reachedAt}
 use Rattle.theory_walk.specs.Walked.{reach-tree}
-use Rattle.theory_tree.specs.Page.{span, span-size, first, slotOf, slot-lt, in-rest, entry-start}
-use Rattle.theory_map.specs.Terms.{leftOf, rootIn}
+use Rattle.theory_tree.specs.Page.{pagesIn, span-size, first, slotOfPage, slot-lt, in-rest, entry-start}
+use Rattle.theory_map.specs.Terms.{depthOf, rootIn}
 use Rattle.theory_map.specs.Leaf.{root-fine}
 use Rattle.theory_map.specs.Shown.{slots-are, walk-same, FineEnds, table-ends}
-use Rattle.theory_modify.specs.Terms.{Call, Modifies, askedOf, Passed, surveyed, InRegion, pagesOf, treeAfter}
-use Rattle.theory_modify.specs.House.{reachOf, Standing, Covered, Breaks, Lowest, Keeps}
+use Rattle.theory_modify.specs.Terms.{ModifyArguments, Modifies, editAsked, ModifyPassed, surveyed, InModifyRegion, modifyPagesOf, treeAfterModify}
+use Rattle.theory_modify.specs.House.{reachOf, ValidEntry, Covered, Breaks, LowestBreach, Keeps}
 use Rattle.theory_modify.specs.Word.{valid-edited}
 use Rattle.theory_modify.specs.Asked.{asked-forwards}
 use Rattle.theory_modify.specs.Call.{area, ready, call-passed, call-clear, call-shaped, call-sound, call-tree}
 use Rattle.theory_modify.specs.Place.{region-page, page-region, region-spans}
-use Rattle.theory_modify.specs.Found.{Within, newWord, Broken, First, Finds, new-is, BreaksIn, survey-finds}
+use Rattle.theory_modify.specs.Found.{WithinPages, newWord, Broken, First, Finds, new-is, BreaksIn, survey-finds}
 use Rattle.theory_modify.specs.Stays.{modify-stays}
 
 -- ---- the walk of an address, on the root's tree
 
 abbrev endsOf : Handle → Tree → ℕ → Ends
-endsOf h t y = walkTree (slotOf y) (suc (leftOf h)) t
+endsOf h t y = walkTree (slotOfPage y) (suc (depthOf h)) t
 
 reach-ends : {h : Handle} {s : St} → Shaped h s → SoundPool h s → (va : ℕ)
     → reachOf h s va ≡ at (3 - endsOf h (rootTree h s) (va / 4096) .depth) (endsOf h (rootTree h s) (va / 4096) .word)
-unfolding met
+unfolding reachedAt
 reach-ends {h} {s} shape P va =
     reach-tree shape P va
-    ∙ ap met (walk-same (slotsOf va) (slotOf (va / 4096)) (suc (leftOf h)) (rootTree h s) (λ l k. slots-are va l (omega arith)))
+    ∙ ap reachedAt (walk-same (slotsTaken va) (slotOfPage (va / 4096)) (suc (depthOf h)) (rootTree h s) (λ l k. slots-are va l (omega arith)))
 
 at-level : {a b v w : ℕ} → at a v ≡ at b w → a ≡ b
 at-level {a} {b} {v} {w} e = let z : a ≡ b = cc in z
@@ -56,9 +56,9 @@ at-level {a} {b} {v} {w} e = let z : a ≡ b = cc in z
 at-word : {a b v w : ℕ} → at a v ≡ at b w → v ≡ w
 at-word {a} {b} {v} {w} e = let z : v ≡ w = cc in z
 
-module _ {h : Handle} {c : Call} {s : St} (passed : Passed h c s) where
+module _ {h : Handle} {c : ModifyArguments} {s : St} (passed : ModifyPassed h c s) where
   abbrev e : Edit
-  e = askedOf c
+  e = editAsked c
 
   abbrev lo : ℕ
   lo = e .region .start .0 / 4096
@@ -69,27 +69,27 @@ module _ {h : Handle} {c : Call} {s : St} (passed : Passed h c s) where
   abbrev ends : ℕ → Ends
   ends y = endsOf h (rootTree h s) y
 
-  ends-fine : (y : ℕ) → FineEnds (leftOf h) (ends y)
-  ends-fine y = table-ends (slotOf y) (leftOf h) (rootTree h s) (slot-lt y) (root-fine (shaped-placed (passed .shape)) (passed .pool))
+  ends-fine : (y : ℕ) → FineEnds (depthOf h) (ends y)
+  ends-fine y = table-ends (slotOfPage y) (depthOf h) (rootTree h s) (slot-lt y) (root-fine (shaped-placed (passed .shape)) (passed .pool))
 
   -- an entry that lies in the region, in bytes and in pages
   module _ (n va : ℕ) (low : n ≤ 3) where
-    start-is : down va (sizeAt (3 - n)) ≡ (va / 4096 - va / 4096 % span n) * 4096
+    start-is : down va (sizeAt (3 - n)) ≡ (va / 4096 - va / 4096 % pagesIn n) * 4096
     unfolding down
     start-is =
-        let i = in-rest n (va / 4096 / span n) (va / 4096) refl in
-        let f : first n (va / 4096 / span n) ≡ va / 4096 - va / 4096 % span n = omega arith in
+        let i = in-rest n (va / 4096 / pagesIn n) (va / 4096) refl in
+        let f : first n (va / 4096 / pagesIn n) ≡ va / 4096 - va / 4096 % pagesIn n = omega arith in
         entry-start n va low ∙ ap (λ (x : ℕ). x * 4096) f
 
-    covered-within : Covered c (3 - n) va → Within lo hi n (va / 4096)
-    unfolding asked
+    covered-within : Covered c (3 - n) va → WithinPages lo hi n (va / 4096)
+    unfolding askedEdit
     covered-within C =
         let a = start-is in
         let b = span-size n low in
         record { from = omega (arith, C .from); upto = omega (arith, C .upto) }
 
-    within-covered : Within lo hi n (va / 4096) → Covered c (3 - n) va
-    unfolding asked
+    within-covered : WithinPages lo hi n (va / 4096) → Covered c (3 - n) va
+    unfolding askedEdit
     within-covered W =
         let a = start-is in
         let b = span-size n low in
@@ -116,26 +116,26 @@ module _ {h : Handle} {c : Call} {s : St} (passed : Passed h c s) where
         same = sym reached ∙ B .stands .ends
 
         either : (¬ (Covered c (B .level) va)) ⊎ (mayChange h w (editWord (B .level) e w) ≡ false)
-            → (¬ (Within lo hi (x .depth) (va / 4096))) ⊎ (mayChange h w (newWord (e .set) (e .clear) (3 - x .depth) w) ≡ false)
+            → (¬ (WithinPages lo hi (x .depth) (va / 4096))) ⊎ (mayChange h w (newWord (e .set) (e .clear) (3 - x .depth) w) ≡ false)
         either (inl split) = inl (λ W. split (subst (λ (l : ℕ). Covered c l va) (at-level same) (within-covered (x .depth) va low-end W)))
         either (inr bits) = inr (ap (mayChange h w) (new-word w ∙ ap (λ (l : ℕ). editWord l e w) (at-level same)) ∙ bits)
 
-    of-page : (w : ℕ) → InRegion c va → Broken h (e .set) (e .clear) lo hi x (va / 4096) w → Breaks h c s va w
+    of-page : (w : ℕ) → InModifyRegion c va → Broken h (e .set) (e .clear) lo hi x (va / 4096) w → Breaks h c s va w
     of-page w in-region B = record {
       level = 3 - x .depth;
       stands = record { region = in-region; ends = reached ∙ ap (at (3 - x .depth)) (B .word); valid = valid-yes w (B .valid) };
       rule = either (B .rule);
     }
       where
-        either : (¬ (Within lo hi (x .depth) (va / 4096))) ⊎ (mayChange h w (newWord (e .set) (e .clear) (3 - x .depth) w) ≡ false)
+        either : (¬ (WithinPages lo hi (x .depth) (va / 4096))) ⊎ (mayChange h w (newWord (e .set) (e .clear) (3 - x .depth) w) ≡ false)
             → (¬ (Covered c (3 - x .depth) va)) ⊎ (mayChange h w (editWord (3 - x .depth) e w) ≡ false)
         either (inl split) = inl (λ C. split (covered-within (x .depth) va low-end C))
         either (inr bits) = inr (ap (mayChange h w) (sym (new-word w)) ∙ bits)
 
   -- ---- the survey
 
-  scanned : Finds (BreaksIn (shaped-placed (passed .shape)) e (suc (leftOf h)) (rootTree h s)) lo hi nothing (surveyed h c s)
-  scanned = survey-finds (shaped-placed (passed .shape)) (leftOf h) (omega arith) (rootIn h) 0 0 e s nothing (area passed) (ready passed)
+  scanned : Finds (BreaksIn (shaped-placed (passed .shape)) e (suc (depthOf h)) (rootTree h s)) lo hi nothing (surveyed h c s)
+  scanned = survey-finds (shaped-placed (passed .shape)) (depthOf h) (omega arith) (rootIn h) 0 0 e s nothing (area passed) (ready passed)
       (asked-forwards h (c .start) (c .end) (c .set) (c .clear) (c .live) (passed .asks))
 
   -- the first address of the page
@@ -156,11 +156,11 @@ module _ {h : Handle} {c : Call} {s : St} (passed : Passed h c s) where
     unfolding address
     first-least b u l B = f .least (b / 4096) u (region-page passed b (B .stands .region) .from) (omega arith) (to-page b u B)
 
-    first-lowest : Lowest h c s w
+    first-lowest : LowestBreach h c s w
     first-lowest = record { address = address; breaks = first-breaks; least = first-least }
 
     -- no other address is the lowest
-    lowest-first : {u : ℕ} → Lowest h c s u → w ≡ u
+    lowest-first : {u : ℕ} → LowestBreach h c s u → w ≡ u
     unfolding address
     lowest-first {u} L =
         let a : ℕ = L .address in
@@ -179,9 +179,9 @@ module _ {h : Handle} {c : Call} {s : St} (passed : Passed h c s) where
   kept-none kept va u B = let page = region-page passed va (B .stands .region) in scanned .none refl kept (va / 4096) u (page .from) (page .below) (to-page va u B)
 
   -- REFUSAL 10, BY THE WALK
-  pub survey-lowest : (w : ℕ) → ((surveyed h c s .broken ≡ true) × (surveyed h c s .word ≡ w)) ↔ Lowest h c s w
+  pub survey-lowest : (w : ℕ) → ((surveyed h c s .broken ≡ true) × (surveyed h c s .word ≡ w)) ↔ LowestBreach h c s w
   survey-lowest w = (
-    λ found. subst (Lowest h c s) (found .1) (first-lowest (scanned .some refl (found .0))),
+    λ found. subst (LowestBreach h c s) (found .1) (first-lowest (scanned .some refl (found .0))),
     λ L. byBool (surveyed h c s .broken)
         (λ broken. (broken, lowest-first (scanned .some refl broken) L))
         (λ kept. absurd (kept-none kept (L .address) w (L .breaks))),
@@ -197,7 +197,7 @@ module _ {h : Handle} {c : Call} {s : St} (passed : Passed h c s) where
 
   -- ---- where the rule is kept
 
-  module _ (kept : surveyed h c s .broken ≡ false) (va level w : ℕ) (S : Standing h c s va level w) where
+  module _ (kept : surveyed h c s .broken ≡ false) (va level w : ℕ) (S : ValidEntry h c s va level w) where
     pub kept-change : mayChange h w (editWord level e w) ≡ true
     kept-change = byBool {A = mayChange h w (editWord level e w) ≡ true} (mayChange h w (editWord level e w)) (λ may. may)
         (λ bits. absurd (kept-none kept va w (record { level = level; stands = S; rule = inr bits })))
@@ -219,15 +219,15 @@ module _ {h : Handle} {c : Call} {s : St} (passed : Passed h c s) where
     same-end = sym (reached va) ∙ S .ends
 
     -- the tree after the modify has the edited word at the same level
-    pub kept-walk : endsOf h (treeAfter h c s) (va / 4096) ≡ record { word = editWord level e w; depth = ends (va / 4096) .depth }
+    pub kept-walk : endsOf h (treeAfterModify h c s) (va / 4096) ≡ record { word = editWord level e w; depth = ends (va / 4096) .depth }
     kept-walk =
         let y : ℕ = va / 4096 in
         let page = region-page passed va (S .region) in
         let v : valid (ends y .word) ≡ true = ap valid (at-word same-end) ∙ valid-of w (S .valid) in
-        let W : Within lo hi (ends y .depth) y = covered-within (ends y .depth) va (low-end va) (subst (λ (l : ℕ). Covered c l va) (sym (at-level same-end)) kept-covered) in
+        let W : WithinPages lo hi (ends y .depth) y = covered-within (ends y .depth) va (low-end va) (subst (λ (l : ℕ). Covered c l va) (sym (at-level same-end)) kept-covered) in
         let new : edited (e .set) (e .clear) (ends y .word) ≡ editWord level e w =
         sym (valid-edited e (ends y .word) (ends y .depth) (low-end va) (ends-fine y .fine) v) ∙ ap₂ (λ (l x : ℕ). editWord l e x) (at-level same-end) (at-word same-end) in
-        modify-stays (leftOf h) (rootIn h) (pagesOf c) (rootTree h s) y (root-fine (shaped-placed (passed .shape)) (passed .pool)) (region-spans passed va (S .region))
+        modify-stays (depthOf h) (rootIn h) (modifyPagesOf c) (rootTree h s) y (root-fine (shaped-placed (passed .shape)) (passed .pool)) (region-spans passed va (S .region))
         (page .from) (page .below) v W
         ∙ ap (λ (x : ℕ). record { word = x; depth = ends y .depth }) new
 
@@ -236,21 +236,21 @@ module _ {h : Handle} {c : Call} {s : St} (passed : Passed h c s) where
 
 -- ---- an accepted live call
 
-module _ {h : Handle} {c : Call} {s s′ : St} {list list′ : List ℕ} {n k : ℕ} (modifies : Modifies h c s list n k s′ list′) (live : c .live ≡ true) where
-  was : Passed h c s
+module _ {h : Handle} {c : ModifyArguments} {s s′ : St} {list list′ : List ℕ} {n k : ℕ} (modifies : Modifies h c s list n k s′ list′) (live : c .live ≡ true) where
+  was : ModifyPassed h c s
   was = call-passed modifies
 
   kept : surveyed h c s .broken ≡ false
   kept = call-clear modifies .kept live
 
   -- LIVE SAFETY
-  pub live-safe : {va level w : ℕ} → Standing h c s va level w
-      → (reachOf h s′ va ≡ at level (editWord level (askedOf c) w)) × (mayChange h w (editWord level (askedOf c) w) ≡ true) × Covered c level va
+  pub live-safe : {va level w : ℕ} → ValidEntry h c s va level w
+      → (reachOf h s′ va ≡ at level (editWord level (editAsked c) w)) × (mayChange h w (editWord level (editAsked c) w) ≡ true) × Covered c level va
   live-safe {va} {level} {w} S = (
     reach-ends (call-shaped modifies) (call-sound modifies) va
         ∙ ap (λ (t : Tree). at (3 - endsOf h t (va / 4096) .depth) (endsOf h t (va / 4096) .word)) (call-tree modifies)
         ∙ ap (λ (x : Ends). at (3 - x .depth) (x .word)) (kept-walk was kept va level w S)
-        ∙ ap (λ (l : ℕ). at l (editWord level (askedOf c) w)) (kept-level was kept va level w S),
+        ∙ ap (λ (l : ℕ). at l (editWord level (editAsked c) w)) (kept-level was kept va level w S),
     kept-change was kept va level w S,
     kept-covered was kept va level w S,
   )

@@ -11,14 +11,14 @@ use Rattle.region.specs.Chunks.{chunks}
 use Rattle.region.specs.declared.MemoryRegion.{MemoryRegion}
 use Rattle.theory_forest.specs.Tree.{Tree, leaf, node}
 use Rattle.theory_forest.specs.Walk.{walkTree}
-use Rattle.theory_tree.specs.Page.{span, slotOf}
+use Rattle.theory_tree.specs.Page.{pagesIn, slotOfPage}
 use Rattle.theory_tree.specs.Visit.{fillTree}
-use Rattle.theory_tree.specs.Needed.{slotIn}
+use Rattle.theory_tree.specs.Needed.{slotTree}
 
 -- what `each` gives for a chunk and its slot of a table, one chunk after the other
 unfoldable pub gathered : ℕ → (MemoryRegion → Tree → List ℕ) → List MemoryRegion → Tree → List ℕ
 gathered depth each [] t = []
-gathered depth each (c ∷ cs) t = each c (slotIn t (entryIndex (3 - depth) (c .start .0))) ++ gathered depth each cs t
+gathered depth each (c ∷ cs) t = each c (slotTree t (entryIndex (3 - depth) (c .start .0))) ++ gathered depth each cs t
 
 module _ (set clear : ℕ) where
   -- an entry that is edited: its page number if it is valid and its word changes
@@ -51,4 +51,4 @@ occurs x (y ∷ ys) = cond (eqb x y) 1 0 + occurs x ys
 
 -- the first page of the entry that shows page y, in a tree with `depth` levels below
 unfoldable pub firstPage : ℕ → Tree → ℕ → ℕ
-firstPage depth t y = y - y % span (walkTree (slotOf y) depth t .depth)
+firstPage depth t y = y - y % pagesIn (walkTree (slotOfPage y) depth t .depth)

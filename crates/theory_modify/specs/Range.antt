@@ -21,7 +21,7 @@ use Rattle.modify_entry.specs.declared.Edit.{Edit}
 use Rattle.modify_entry.specs.Word.{editWord}
 use Rattle.modify_entry.specs.Each.{eachOf, eachChunk, chunkEdit}
 use Rattle.modify_entry.specs.Own.{Numbered, putNumber, Noted, noted, ownChunk, ownRange, own-same, own-changed}
-use Rattle.modify_range.specs.Range.{Work, work, own, ownWork, modifyRange, own-table, own-leaf, stepAt, modify-pages, modify-open, step-own, step-into}
+use Rattle.modify_range.specs.Range.{Work, work, own, ownWork, modifyRange, own-table, own-leaf, downStep, modify-pages, modify-open, step-own, step-into}
 use Rattle.theory_forest.specs.Tree.{Tree, leaf}
 use Rattle.theory_forest.specs.Sound.{TableWord}
 use Rattle.theory_forest.specs.Keep.{slot-leaf}
@@ -39,7 +39,7 @@ use Rattle.theory_map.specs.Leaf.{slot-fine, leaf-from}
 use Rattle.theory_map.specs.Stand.{Piece}
 use Rattle.theory_map.specs.Moves.{slotShows, Ready, Slotted, Worked, kept, stored, worked-ready, worked-twice}
 use Rattle.theory_map.specs.Pieces.{Area, slotAt, pieces}
-use Rattle.theory_map.specs.Down.{Holds, holds-table, holds-leaf, Opens, holds, opens}
+use Rattle.theory_map.specs.Down.{SlotHolds, holds-table, holds-leaf, Opens, holds, opens}
 use Rattle.theory_map.specs.Loop.{through, loop}
 use Rattle.theory_modify.specs.Word.{Bits, table-stays, hole-stays, valid-edited, edited-stands}
 use Rattle.theory_modify.specs.Passes.{ownTo, downTo, own-valid, own-hole, own-node, down-whole, down-part, down-into, takes-part, takes-into, pages-pass, two-passes}
@@ -138,7 +138,7 @@ module _ {h : Handle} (placed : Placed h) where
       (word-in (st (n .words) ledger) k (i 0 k e ledger bits c n R) (inside 0 k e ledger bits c n R)) old)
   own-works (suc depth) k e ledger bits c n R = go (holds placed R (i (suc depth) k e ledger bits c n R) (inside (suc depth) k e ledger bits c n R))
     where
-      go : Holds placed (st (n .words) ledger) depth k (i (suc depth) k e ledger bits c n R) → Goal (suc depth) k e ledger bits c n R
+      go : SlotHolds placed (st (n .words) ledger) depth k (i (suc depth) k e ledger bits c n R) → Goal (suc depth) k e ledger bits c n R
       go (holds-table j r both leads shows) =
           stays (suc depth) k e ledger bits c n R (table-stays (3 - suc depth) e _ (omega (arith, R .low)) both)
           (ap (ownTo (e .set) (e .clear)) shows ∙ own-node (e .set) (e .clear) _ ∙ sym shows)
@@ -185,14 +185,14 @@ module _ {h : Handle} (placed : Placed h) where
     count v = needed (documentModify (e .set) (e .clear)) (suc depth) c p v
 
     abbrev Down : Type 0
-    Down = Slotted placed (x .state) (stepAt h k level e c x .state) (suc depth) k j (downTo (e .set) (e .clear) depth c p u) (count u)
+    Down = Slotted placed (x .state) (downStep h k level e c x .state) (suc depth) k j (downTo (e .set) (e .clear) depth c p u) (count u)
 
     slot : j < 512
     slot = slot-below level (c .start .0)
 
     -- on in the table that is found
     pub goes-down : (O : Opens placed (x .state) depth k j) → own level c y ≡ false
-        → modifyRange depth h (O .table) (chunkEdit e c) (work (O .state) (x .list) (x .count)) ≡ stepAt h k level e c x
+        → modifyRange depth h (O .table) (chunkEdit e c) (work (O .state) (x .list) (x .count)) ≡ downStep h k level e c x
     goes-down O goes =
         let last : 3 - (level + 1) ≡ depth = omega (arith, R .low) in
         ap (λ (d : ℕ). modifyRange d h (O .table) (chunkEdit e c) (work (O .state) (x .list) (x .count))) (sym last)
@@ -221,7 +221,7 @@ module _ {h : Handle} (placed : Placed h) where
         clear : ℕ
         clear = e .clear
 
-        go : Holds placed (x .state) depth k j → Down
+        go : SlotHolds placed (x .state) depth k j → Down
         go (holds-table a r both leads shows) =
             by-down room (sym (own-table level c y both))
             (ap (downTo set clear depth c p) shows ∙ down-into set clear depth c p _ ∙ sym (ap (λ (v : Tree). editTable (chunkEdit e c) depth p (opened depth v)) shows))
@@ -239,19 +239,19 @@ module _ {h : Handle} (placed : Placed h) where
   pub down-pass : (depth q k p : ℕ) (e : Edit) (w : Work) → suc depth ≤ 3 → Edits depth → Bits h e → Area (suc depth) q (areaOf e p) → Ready placed (w .state) (suc depth) k
       → let t = treeFrom h (w .state) (suc depth) k in let cs = chunks (3 - suc depth) (e .region .start .0) (e .region .end .0) in
       editTakes e (suc depth) p t ≤ free (w .state .ledger)
-      → Worked placed (w .state) (eachChunk (3 - suc depth) (stepAt h k (3 - suc depth) e) (e .region) w .state) (suc depth) k
+      → Worked placed (w .state) (eachChunk (3 - suc depth) (downStep h k (3 - suc depth) e) (e .region) w .state) (suc depth) k
       (sweep (suc depth) (downTo (e .set) (e .clear) depth) cs p t) (editTakes e (suc depth) p t)
   unfolding neededTable
   down-pass depth q k p e w low edits bits area R room =
       let t : Tree = treeFrom h (w .state) (suc depth) k in
       let cs : List MemoryRegion = chunks (3 - suc depth) (e .region .start .0) (e .region .end .0) in
-      let W = loop placed (λ (x : Work). x .state) (λ c x y. stepAt h k (3 - suc depth) e c y) (downTo (e .set) (e .clear) depth)
+      let W = loop placed (λ (x : Work). x .state) (λ c x y. downStep h k (3 - suc depth) e c y) (downTo (e .set) (e .clear) depth)
       (λ c x v. needed (documentModify (e .set) (e .clear)) (suc depth) c x v) (suc depth) q k (areaOf e p) low
       (λ c x y piece ready enough. down-works depth (child q (slotAt (suc depth) c)) k e bits edits c x y
       (record { inside = piece .inside; some = piece .some; room = piece .room }) ready enough)
       cs 0 p w (pieces (suc depth) q (areaOf e p) low p (e .region) area) R room in
       subst (λ (x : Work). Worked placed (w .state) (x .state) (suc depth) k (sweep (suc depth) (downTo (e .set) (e .clear) depth) cs p t) (editTakes e (suc depth) p t))
-      (through-chunks (3 - suc depth) (stepAt h k (3 - suc depth) e) (e .region) p w) W
+      (through-chunks (3 - suc depth) (downStep h k (3 - suc depth) e) (e .region) p w) W
 
   edits-pages : Edits 0
   unfolding neededTable
@@ -266,7 +266,7 @@ module _ {h : Handle} (placed : Placed h) where
   edits-up depth low edits q k p e w bits area R room =
       let level : ℕ = 3 - suc depth in
       let t : Tree = treeFrom h (w .state) (suc depth) k in
-      let mid : Work = eachChunk level (stepAt h k level e) (e .region) w in
+      let mid : Work = eachChunk level (downStep h k level e) (e .region) w in
       let D = down-pass depth q k p e w low edits bits area R room in
       let W = own-pass (suc depth) q k p e mid low bits area (worked-ready placed R D) in
       let cs : List MemoryRegion = chunks level (e .region .start .0) (e .region .end .0) in

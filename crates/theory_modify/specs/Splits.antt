@@ -28,12 +28,12 @@ use Rattle.theory_forest.specs.Tree.{Tree, leaf, node, treeAt-node}
 use Rattle.theory_sound.specs.Codec.{Placed, childOf, slotWord, treeFrom}
 use Rattle.theory_tree.specs.Word.{fillWord}
 use Rattle.theory_tree.specs.Visit.{opened, splits, counted, fillTree}
-use Rattle.theory_tree.specs.Needed.{slotIn, tallied, needed, neededTable}
+use Rattle.theory_tree.specs.Needed.{slotTree, tallied, needed, neededTable}
 use Rattle.theory_tree.specs.Modify.{editRule}
 use Rattle.theory_tree.specs.DocumentModify.{documentModify}
 use Rattle.theory_map.specs.Moves.{slotShows, Ready, entered-ready}
 use Rattle.theory_map.specs.Need.{slot-fill}
-use Rattle.theory_map.specs.Down.{Holds, holds-table, holds-leaf, holds}
+use Rattle.theory_map.specs.Down.{SlotHolds, holds-table, holds-leaf, holds}
 use Rattle.theory_map.specs.Loop.{slot-of}
 use Rattle.theory_modify.specs.Passes.{takes-part, takes-into}
 use Rattle.theory_modify.specs.Range.{editTakes}
@@ -42,7 +42,7 @@ use Rattle.theory_modify.specs.Range.{editTakes}
 
 -- where each chunk adds what it counts in its slot, the chunks add the tally
 fold-tally : {S : Type 0} (m : S → ℕ) (f : MemoryRegion → S → S) (depth : ℕ) (count : MemoryRegion → ℕ → Tree → ℕ) (t : Tree)
-    → ((c : MemoryRegion) (p : ℕ) (x : S) → m (f c x) ≡ m x + count c p (slotIn t (entryIndex (3 - depth) (c .start .0))))
+    → ((c : MemoryRegion) (p : ℕ) (x : S) → m (f c x) ≡ m x + count c p (slotTree t (entryIndex (3 - depth) (c .start .0))))
     → (cs : List MemoryRegion) (p : ℕ) (x : S) → m (eachOf f cs x) ≡ m x + tallied depth count cs p t
 unfolding eachOf tallied
 fold-tally m f depth count t each [] p x = omega arith
@@ -53,7 +53,7 @@ fold-tally m f depth count t each (c ∷ cs) p x =
     omega arith
 
 pub chunks-tally : {S : Type 0} (m : S → ℕ) (f : MemoryRegion → S → S) (depth : ℕ) (count : MemoryRegion → ℕ → Tree → ℕ) (t : Tree)
-    → ((c : MemoryRegion) (p : ℕ) (x : S) → m (f c x) ≡ m x + count c p (slotIn t (entryIndex (3 - depth) (c .start .0))))
+    → ((c : MemoryRegion) (p : ℕ) (x : S) → m (f c x) ≡ m x + count c p (slotTree t (entryIndex (3 - depth) (c .start .0))))
     → (r : MemoryRegion) (p : ℕ) (x : S) → m (eachChunk (3 - depth) f r x) ≡ m x + tallied depth count (chunks (3 - depth) (r .start .0) (r .end .0)) p t
 unfolding eachChunk
 chunks-tally m f depth count t each r p x = fold-tally m f depth count t each (chunks (3 - depth) (r .start .0) (r .end .0)) p x
@@ -194,7 +194,7 @@ module _ {h : Handle} (placed : Placed h) where
       count : Tree → ℕ
       count t = needed (documentModify (e .set) (e .clear)) (suc depth) c p t
 
-      go : Holds placed s depth k i → surveyChunk rec h s k (3 - suc depth) e c v .splits ≡ v .splits + count (slotShows h s (suc depth) k i)
+      go : SlotHolds placed s depth k i → surveyChunk rec h s k (3 - suc depth) e c v .splits ≡ v .splits + count (slotShows h s (suc depth) k i)
       go (holds-table j r both leads shows) =
           ap (λ (x : Survey). x .splits) (chunk-table rec h s k (3 - suc depth) e c v j leads)
           ∙ counts j p (chunkEdit e c) s v (entered-ready placed R i inside r)

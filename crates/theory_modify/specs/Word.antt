@@ -5,7 +5,7 @@ use mathlib.Core.Logic.{inl, inr}
 use Prim.Native.Nat.{ℕ, zero, suc, _+_, _-_, _%_, _^_, _≤_}
 use native.Mathlib.Omega.{arith}
 use lib.Bits.{bitOr}
-use Rattle.laws.specs.Bit.{Sub, sub-or, sub-and}
+use Rattle.laws.specs.Bit.{SubBits, sub-or, sub-and}
 use Rattle.entry.specs.Word.{kind-table, kind-page, kind-block, kind-clear, valid, plainFlags, valid-yes, valid-no, edited}
 use Rattle.pool.specs.Sound.{flagSet}
 use Rattle.pool.specs.declared.Handle.{Handle}
@@ -44,11 +44,11 @@ module _ (e : Edit) (w : ℕ) where
       let o = valid-yes w v in let b = fine .clear (omega arith) in sym (edit-block 1 e w refl (kind-block 1 w (inl refl) (omega arith)))
   valid-edited (suc (suc (suc depth))) low fine v = absurd (omega (arith, valid-yes w v, fine .top (omega arith) .0))
 
-  inset : (h : Handle) → Bits h e → Sub (plainFlags w) (flagSet h) → Sub (edited (e .set) (e .clear) (plainFlags w)) (flagSet h)
+  inset : (h : Handle) → Bits h e → SubBits (plainFlags w) (flagSet h) → SubBits (edited (e .set) (e .clear) (plainFlags w)) (flagSet h)
   unfolding edited
   inset h bits from = sub-and (bitOr (plainFlags w) (e .set)) (2 ^ 64 - 1 - e .clear) (flagSet h) (sub-or (plainFlags w) (e .set) (flagSet h) from (bits .set .from))
 
-  pub edited-stands : (h : Handle) (depth level : ℕ) → Bits h e → level + depth ≡ 3 → Fine depth w → Sub (plainFlags w) (flagSet h) → valid w ≡ true → Stands h level new
+  pub edited-stands : (h : Handle) (depth level : ℕ) → Bits h e → level + depth ≡ 3 → Fine depth w → SubBits (plainFlags w) (flagSet h) → valid w ≡ true → Stands h level new
   edited-stands h depth level bits low fine from v =
       fine-stands h depth level new low (fine-edited (e .set) (e .clear) (bits .set .plain) (bits .clear .plain) depth w fine v)
-      (subst (λ (x : ℕ). Sub x (flagSet h)) (sym (edited-plain (e .set) (e .clear) (bits .set .plain) (bits .clear .plain) w (fine .wide))) (inset h bits from))
+      (subst (λ (x : ℕ). SubBits x (flagSet h)) (sym (edited-plain (e .set) (e .clear) (bits .set .plain) (bits .clear .plain) w (fine .wide))) (inset h bits from))

@@ -4,7 +4,7 @@ use mathlib.Core.Path.{_≡_}
 use mathlib.Core.Logic.{_≢_}
 use Prim.Native.Nat.{ℕ, _+_, _*_, _/_, _%_, _≤_, _<_}
 use lib.ListN.{length}
-use Rattle.laws.specs.Bit.{Sub}
+use Rattle.laws.specs.Bit.{SubBits}
 use Rattle.laws.specs.Size.{sizeAt}
 use Rattle.entry.specs.Word.{addressOf, linkOf, plainFlags}
 use Rattle.pool.specs.State.{St, tables, wordAt, numberAt}
@@ -48,7 +48,7 @@ pub record LinksTo (h : Handle) (s : St) (k i c : ℕ) : Type 0 where
 -- the word w, no table word, in a table of this level
 pub record LeafWord (set level w : ℕ) : Type 0 where
   -- it has flags only from the set (bit 1 apart)
-  pub flags : Sub (plainFlags w) set
+  pub flags : SubBits (plainFlags w) set
   -- at levels 0 to 2 bit 1 is clear
   pub clear : level < 3 → w / 2 % 2 ≡ 0
   -- at levels 1 and 2 the address is a multiple of the entry's size

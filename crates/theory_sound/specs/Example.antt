@@ -26,18 +26,18 @@ unfoldable pub handle : Handle
 handle = record { base = record { 0 = 0x8000_0000 }; level = 1; range = Lower }
 
 -- n = 2, fresh: the root alone
-unfoldable pub fresh : St
-fresh = st (replicate 1024 0) (5 ∷ 0 ∷ [])
+unfoldable pub freshExample : St
+freshExample = st (replicate 1024 0) (5 ∷ 0 ∷ [])
 
-fresh-shaped : Shaped handle fresh
-unfolding handle fresh shaped maxTables
-fresh-shaped = shaped-says handle fresh tt
+fresh-shaped : Shaped handle freshExample
+unfolding handle freshExample shaped maxTables
+fresh-shaped = shaped-says handle freshExample tt
 
-fresh-test : T (soundb handle fresh)
-unfolding handle fresh soundb allBelow tableb hangsb namesb allFrom slotb refersb linkb leafb fits only flagSet plainFlags rootNumber linkOf addressOf el1Flags sizeAt
+fresh-test : T (soundb handle freshExample)
+unfolding handle freshExample soundb allBelow tableb hangsb namesb allFrom slotb refersb linkb leafb fits only flagSet plainFlags rootNumber linkOf addressOf el1Flags sizeAt
 fresh-test = tt
 
-pub fresh-sound : SoundPool handle fresh
+pub fresh-sound : SoundPool handle freshExample
 fresh-sound = decide-sound fresh-shaped fresh-test
 
 -- case B with n = 3: three tables, two links, two pages
@@ -58,15 +58,15 @@ pub mapped-sound : SoundPool handle mapped
 mapped-sound = decide-sound mapped-shaped mapped-test
 
 -- and so are the steps' hypotheses: an empty table taken for slot 0 of the fresh root
-found : lowestFree (fresh .ledger) ≡ At 1
-unfolding fresh lowestFree firstFrom
+found : lowestFree (freshExample .ledger) ≡ At 1
+unfolding freshExample lowestFree firstFrom
 found = refl
 
-facts : InUse fresh 0 × (levelAt fresh 0 ≡ 1) × (wordAt fresh 0 0 ≡ 0)
-unfolding fresh
+facts : InUse freshExample 0 × (levelAt freshExample 0 ≡ 1) × (wordAt freshExample 0 0 ≡ 0)
+unfolding freshExample
 facts = (omega arith, refl, refl)
 
-pub taken-sound : SoundPool handle (takeAt handle 0 2 0 zeros 1 fresh)
+pub taken-sound : SoundPool handle (takeAt handle 0 2 0 zeros 1 freshExample)
 taken-sound =
     step-pool fresh-sound
     (take-step (shaped-placed fresh-shaped) fresh-sound 0 2 0 zeros 1 (facts .0) (omega arith) (omega (arith, facts .1)) (omega arith) length-zeros found

@@ -16,7 +16,7 @@ use Rattle.theory_forest.specs.Sound.{Codec, Refers, Sound}
 use Rattle.theory_forest.specs.Under.{Under, NotUnder, LevelsLeft, under-self, under-zero, under-via, refers-level, refers-table, refers-child, refers-under, refers-over, refers-one}
 use Rattle.theory_sound.specs.Codec.{shaped-placed, codecOf, slotWord, view, word-in}
 use Rattle.theory_sound.specs.Clauses.{InUse, levelAt}
-use Rattle.theory_sound.specs.Lists.{Inside, clear-tables, clear-words, clear-number, clear-number-other, clear-word, clear-word-other}
+use Rattle.theory_sound.specs.Lists.{TableInside, clear-tables, clear-words, clear-number, clear-number-other, clear-word, clear-word-other}
 
 -- table j of q is zeroed
 pub record Zeroed (q : St) (j : ℕ) : Type 0 where
@@ -67,7 +67,7 @@ module _ {h : Handle} {s : St} (shape : Shaped h s) (S : Sound (codecOf h (shape
     pub size : SameSize s q
     pub words : (j m : ℕ) → Under C (view s) d m j → (i : ℕ) → slotWord q j i ≡ slotWord s j i
 
-  inside : (d : ℕ) {q : St} → InUse s d → SameSize s q → Inside q d
+  inside : (d : ℕ) {q : St} → InUse s d → SameSize s q → TableInside q d
   inside d used size = omega (arith, used-in s d used, shape .sized, size .same-words)
 
   -- ---- after the loop the table itself is cleared
@@ -79,7 +79,7 @@ module _ {h : Handle} {s : St} (shape : Shaped h s) (S : Sound (codecOf h (shape
     size = size-trans (done .size) (record { same-tables = clear-tables d q₁; same-words = clear-words d q₁ at });
   }
     where
-      at : Inside q₁ d
+      at : TableInside q₁ d
       at = inside d used size
 
       kept : (j : ℕ) → j ≢ d → Kept q₁ (clear d q₁) j

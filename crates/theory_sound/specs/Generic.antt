@@ -6,7 +6,7 @@ use Prim.Native.Nat.{ℕ, zero, suc, _+_, _*_, _/_, _%_, _≤_, _<_}
 use native.Mathlib.Omega.{arith}
 use lib.Dec.{T, eqb, eqb→eq, ltb, ltb→lt, lt→ltb, T-not, not-T}
 use lib.ListN.{length, List·getD-eq-default}
-use Rattle.laws.specs.Bit.{Sub}
+use Rattle.laws.specs.Bit.{SubBits}
 use Rattle.laws.specs.Size.{sizeAt}
 use Rattle.laws.specs.Test.{le-or, and-l, and-r, and-i, eq→eqb}
 use Rattle.entry.specs.Word.{addressOf, only, plainFlags}
@@ -26,7 +26,7 @@ leaf-says set level w low t =
     let flags = eqb→eq _ (plainFlags w) (and-l (only set (plainFlags w)) (fits level w) t) in
     shape flags level low (and-r (only set (plainFlags w)) (fits level w) t)
   where
-    shape : Sub (plainFlags w) set → (level : ℕ) → level ≤ 3 → T (fits level w) → LeafWord set level w
+    shape : SubBits (plainFlags w) set → (level : ℕ) → level ≤ 3 → T (fits level w) → LeafWord set level w
     shape flags zero low t =
         let both : w % 4 ≡ 0 = eqb→eq (w % 4) 0 (and-l (eqb (w % 4) 0) (eqb (addressOf w) 0) t) in
         let address : addressOf w ≡ 0 = eqb→eq (addressOf w) 0 (and-r (eqb (w % 4) 0) (eqb (addressOf w) 0) t) in

@@ -14,13 +14,13 @@ use Rattle.theory_forest.specs.Keep.{SameSlot}
 use Rattle.theory_sound.specs.Codec.{slotWord, word-in, word-out}
 
 -- table k stands in the words
-abbrev pub Inside : St → ℕ → Type 0
-Inside s k = 512 * k + 512 ≤ length (s .words)
+abbrev pub TableInside : St → ℕ → Type 0
+TableInside s k = 512 * k + 512 ≤ length (s .words)
 
 -- ---- one store
 
 module _ (s : St) (p i v : ℕ) (inside : i < 512) where
-  pub store-here : Inside s p → slotWord (storeAt p i v s) p i ≡ v
+  pub store-here : TableInside s p → slotWord (storeAt p i v s) p i ≡ v
   store-here at = word-in (storeAt p i v s) p i inside ∙ getD-set-same (s .words) (512 * p + i) v 0 (omega arith)
 
   pub store-other : (k j : ℕ) → ¬ (SameSlot k j p i) → slotWord (storeAt p i v s) k j ≡ slotWord s k j
@@ -35,7 +35,7 @@ module _ (s : St) (p i v : ℕ) (inside : i < 512) where
 
 -- ---- one table replaced
 
-module _ (s : St) (l t : List ℕ) (f : ℕ) (full : length t ≡ 512) (at : Inside s f) where
+module _ (s : St) (l t : List ℕ) (f : ℕ) (full : length t ≡ 512) (at : TableInside s f) where
   pub put-here : (i : ℕ) → slotWord (st (putTable f t (s .words)) l) f i ≡ getD t i 0
   unfolding putTable
   put-here i = go (le-or 512 i)
@@ -63,7 +63,7 @@ module _ (k : ℕ) (s : St) where
   unfolding clear
   clear-tables = length-set (s .ledger) k 0
 
-  pub clear-words : Inside s k → length (clear k s .words) ≡ length (s .words)
+  pub clear-words : TableInside s k → length (clear k s .words) ≡ length (s .words)
   unfolding clear
   clear-words at = length-table k zeros (s .words) length-zeros at
 
@@ -80,10 +80,10 @@ module _ (k : ℕ) (s : St) where
   unfolding clear
   clear-number-other j other = getD-set-other (s .ledger) k j 0 0 other
 
-  pub clear-word : Inside s k → (i : ℕ) → slotWord (clear k s) k i ≡ 0
+  pub clear-word : TableInside s k → (i : ℕ) → slotWord (clear k s) k i ≡ 0
   unfolding clear
   clear-word at i = put-here s (set (s .ledger) k 0) zeros k length-zeros at i ∙ zeros-at i
 
-  pub clear-word-other : Inside s k → (j i : ℕ) → j ≢ k → slotWord (clear k s) j i ≡ slotWord s j i
+  pub clear-word-other : TableInside s k → (j i : ℕ) → j ≢ k → slotWord (clear k s) j i ≡ slotWord s j i
   unfolding clear
   clear-word-other at j i other = put-other s (set (s .ledger) k 0) zeros k length-zeros at j i other

@@ -18,7 +18,7 @@ use Rattle.theory_forest.specs.Move.{Move}
 use Rattle.theory_sound.specs.Codec.{Placed, codecOf, view, word-in, zero-leaf}
 use Rattle.theory_sound.specs.Clauses.{InUse, levelAt, LeafWord, SoundPool}
 use Rattle.theory_sound.specs.Generic.{says-leaf, sound-pool, leaf-says}
-use Rattle.theory_sound.specs.Lists.{Inside}
+use Rattle.theory_sound.specs.Lists.{TableInside}
 
 -- the word v may stand as a leaf in a table of this level
 pub record Stands (h : Handle) (level v : ℕ) : Type 0 where
@@ -38,7 +38,7 @@ pub not-table : {h : Handle} (placed : Placed h) (s : St) (k i : ℕ) → i < 51
 not-table placed s k i inside old table = old (table .0, ap (λ (w : ℕ). w % 4) (sym (word-in s k i inside)) ∙ table .1)
 
 -- a used table of a sound pool stands in the words
-pub used-inside : {h : Handle} {s : St} → SoundPool h s → (k : ℕ) → InUse s k → Inside s k
+pub used-inside : {h : Handle} {s : St} → SoundPool h s → (k : ℕ) → InUse s k → TableInside s k
 used-inside {s = s} P k used = omega (arith, P .sized, used-in s k used)
 
 -- s′ is s after a step at slot i of table p, which has `depth` levels below its own; the slot now shows the tree t

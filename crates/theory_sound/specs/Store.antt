@@ -19,7 +19,7 @@ use Rattle.theory_forest.specs.Move.{move-store, move-free}
 use Rattle.theory_sound.specs.Codec.{Placed, codecOf, slotWord, view, word-in, word-out}
 use Rattle.theory_sound.specs.Clauses.{InUse, levelAt, SoundPool}
 use Rattle.theory_sound.specs.Generic.{pool-sound}
-use Rattle.theory_sound.specs.Lists.{Inside, store-here, store-other, clear-tables, clear-words, clear-number, clear-number-other, clear-word, clear-word-other}
+use Rattle.theory_sound.specs.Lists.{TableInside, store-here, store-other, clear-tables, clear-words, clear-number, clear-number-other, clear-word, clear-word-other}
 use Rattle.theory_sound.specs.Step.{Stands, stands-fits, not-table, used-inside, Step}
 
 module _ {h : Handle} (placed : Placed h) {s : St} (P : SoundPool h s) (p i v : ℕ) (inUse : InUse s p) (inside : i < 512) where
@@ -54,7 +54,7 @@ module _ {h : Handle} (placed : Placed h) {s : St} (P : SoundPool h s) (p i v : 
         apart : p ≢ e
         apart same = omega (arith, refers-level r, ap (levelAt s) same)
 
-        at : Inside (storeAt p i v s) e
+        at : TableInside (storeAt p i v s) e
         at = omega (arith, used-inside P e (r .used), length-set (s .words) (512 * p + i) v)
 
     -- CLEAR: a table whose words are all 0
@@ -67,7 +67,7 @@ module _ {h : Handle} (placed : Placed h) {s : St} (P : SoundPool h s) (p i v : 
       same-words = clear-words e (storeAt p i v s) at ∙ length-set (s .words) (512 * p + i) v;
     }
       where
-        at : Inside (storeAt p i v s) e
+        at : TableInside (storeAt p i v s) e
         at = omega (arith, used-inside P e (r .used), length-set (s .words) (512 * p + i) v)
 
         empty : (j : ℕ) → (512 ≤ j) ⊎ (j < 512) → slotWord s e j ≡ 0

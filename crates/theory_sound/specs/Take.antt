@@ -9,19 +9,19 @@ use lib.ListN.{length, getD, set, length-set, List·getD-eq-default}
 use lib.Seq.{getD-set-same, getD-set-other}
 use Rattle.entry.specs.Word.{linkOf}
 use Rattle.pool.specs.State.{St, st, tables, wordAt, numberAt}
-use Rattle.pool.specs.Number.{levelOf, numberOf, Names, parent-back, slot-back, number-names, lowestFree, Lowest, lowest-found, used, free, level-back}
+use Rattle.pool.specs.Number.{levelOf, numberOf, Names, parent-back, slot-back, number-names, lowestFree, LowestFree, lowest-found, used, free, level-back}
 use Rattle.pool_table.specs.Table.{putTable, length-table, takeAt, taken, takeTable, take-some}
 use Rattle.pool.specs.declared.Handle.{Handle}
 use Rattle.pool.specs.declared.Found.the-variants.{At}
 use Rattle.theory_forest.specs.Tree.{leaf, node}
 use Rattle.theory_forest.specs.Sound.{TableWord}
-use Rattle.theory_forest.specs.Split.{Splits, Fit, new-tree}
+use Rattle.theory_forest.specs.Split.{Splits, SplitFits, new-tree}
 use Rattle.theory_forest.specs.Move.{work-skip, split-at, move-split}
 use Rattle.theory_sound.specs.Alloc.{free-take}
 use Rattle.theory_sound.specs.Codec.{Placed, over-names, number-pos, codecOf, view}
 use Rattle.theory_sound.specs.Clauses.{InUse, levelAt, SoundPool}
 use Rattle.theory_sound.specs.Generic.{pool-sound}
-use Rattle.theory_sound.specs.Lists.{Inside, store-here, store-other, put-here, put-other}
+use Rattle.theory_sound.specs.Lists.{TableInside, store-here, store-other, put-here, put-other}
 use Rattle.theory_sound.specs.Step.{Stands, stands-fits, not-table, used-inside, Step}
 
 -- ---- what is taken, and the counts; nothing is asked of the pool
@@ -31,7 +31,7 @@ module _ (h : Handle) (p level i : ℕ) (t : List ℕ) (s : St) (f : ℕ) (found
   take-is = sym (take-some h p level i t s f refl found)
 
   -- the lowest free table
-  pub take-lowest : Lowest (s .ledger) f
+  pub take-lowest : LowestFree (s .ledger) f
   take-lowest = lowest-found (s .ledger) f found
 
   pub take-free : suc (free (takeAt h p level i t f s .ledger)) ≡ free (s .ledger)
@@ -43,7 +43,7 @@ module _ (h : Handle) (p level i : ℕ) (t : List ℕ) (s : St) (f : ℕ) (found
 module _ {h : Handle} (placed : Placed h) {s : St} (P : SoundPool h s) (p level i : ℕ) (t : List ℕ) (f : ℕ)
     (inUse : InUse s p) (inside : i < 512) (below : level ≡ levelAt s p + 1) (high : level ≤ 3) (full : length t ≡ 512)
     (found : lowestFree (s .ledger) ≡ At f) where
-  lowest : Lowest (s .ledger) f
+  lowest : LowestFree (s .ledger) f
   lowest = lowest-found (s .ledger) f found
 
   abbrev after : St
@@ -52,7 +52,7 @@ module _ {h : Handle} (placed : Placed h) {s : St} (P : SoundPool h s) (p level 
   apart : p ≢ f
   apart same = omega (arith, inUse, lowest .free, ap (numberAt s) same)
 
-  at : Inside s f
+  at : TableInside s f
   at = omega (arith, lowest .inside, P .sized)
 
   pub take-splits : Splits (codecOf h placed) (view s) (view after) p i f (numberOf p level i) (λ j. getD t j 0)
@@ -77,7 +77,7 @@ module _ {h : Handle} (placed : Placed h) {s : St} (P : SoundPool h s) (p level 
   take-words = length-set (putTable f t (s .words)) (512 * p + i) (linkOf (h .base .0) f) ∙ length-table f t (s .words) full at
 
   module _ (stands : (j : ℕ) → j < 512 → Stands h level (getD t j 0)) where
-    pub take-fit : Fit (codecOf h placed) (view s) p i f (numberOf p level i) (λ j. getD t j 0)
+    pub take-fit : SplitFits (codecOf h placed) (view s) p i f (numberOf p level i) (λ j. getD t j 0)
     take-fit = record {
       well = names;
       used = number-pos p level i;

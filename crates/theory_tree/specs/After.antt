@@ -9,8 +9,8 @@ use borrow.Author.Tests.{leb-true, le-leb, ltb-true, lt-ltb}
 use Rattle.laws.specs.Test.{byBool, both}
 use Rattle.entry.specs.Word.{valid, plainFlags, flags-valid}
 use Rattle.theory_forest.specs.Tree.{Tree, leaf, node}
-use Rattle.theory_tree.specs.Page.{span, span-zero, span-pos, first, In, in-from, in-rest}
-use Rattle.theory_tree.specs.Word.{frameOf, leafWord, leaf-hole, plain-flags}
+use Rattle.theory_tree.specs.Page.{pagesIn, span-zero, span-pos, first, In, in-from, in-rest}
+use Rattle.theory_tree.specs.Word.{frameIn, leafWordOf, leaf-hole, plain-flags}
 use Rattle.theory_tree.specs.Fine.{Fine, fine-flags, fine-leaf}
 use Rattle.theory_tree.specs.Walk.{Seen, mapped, hole, seen, seenIn, seen-leaf, seen-fine, seen-leaf-word, seen-flags}
 use Rattle.theory_tree.specs.Shown.{FineTree, Good, Right, Shows}
@@ -69,7 +69,7 @@ module _ (m : Map) (depth q page : ℕ) (at : In depth q page) where
   whole-in e = let x = whole-yes depth (first depth q) m e in let y = in-from depth q page at in yes-covers m page (omega arith) (omega arith)
 
   -- the frame of the entry's first page, and the page's offset
-  pub frame-page : m .from ≤ first depth q → frameAt (first depth q) m + page % span depth ≡ m .frame + (page - m .from)
+  pub frame-page : m .from ≤ first depth q → frameAt (first depth q) m + page % pagesIn depth ≡ m .frame + (page - m .from)
   unfolding frameAt
   frame-page h = let r = in-rest depth q page at in omega arith
 
@@ -81,16 +81,16 @@ module _ (m : Map) (G : Given m) where
   unfolding frameAt
   frame-at b p q = let e = G .ends in omega arith
 
-  page-aligned : (p : ℕ) → p % span zero ≡ 0
-  unfolding span
+  page-aligned : (p : ℕ) → p % pagesIn zero ≡ 0
+  unfolding pagesIn
   page-aligned p = mod-one p
 
-  page-good : (b : ℕ) → meets zero b m ≡ true → Fine zero (leafWord zero (frameAt b m) (m .flags))
+  page-good : (b : ℕ) → meets zero b m ≡ true → Fine zero (leafWordOf zero (frameAt b m) (m .flags))
   page-good b e =
       let x = page-in b m e in
       fine-leaf zero (frameAt b m) (m .flags) (G .plain) (frame-at b (x .0) (x .1)) (page-aligned (frameAt b m)) (omega arith)
 
-  block-good : (depth b : ℕ) → fits depth b m ≡ true → Fine depth (leafWord depth (frameAt b m) (m .flags))
+  block-good : (depth b : ℕ) → fits depth b m ≡ true → Fine depth (leafWordOf depth (frameAt b m) (m .flags))
   block-good depth b e =
       let x = fits-yes depth b m e in
       let y = whole-yes depth b m (x .0) in
@@ -116,7 +116,7 @@ module _ (m : Map) (G : Given m) where
 
   -- rules 1 and 3: frame and flags
   written-seen : (depth q page : ℕ) → In depth q page → m .from ≤ first depth q → frameAt (first depth q) m < 2 ^ 36
-      → frameAt (first depth q) m % span depth ≡ 0 → depth < 3 → seenIn depth (leafWord depth (frameAt (first depth q) m) (m .flags)) page ≡ asked m page
+      → frameAt (first depth q) m % pagesIn depth ≡ 0 → depth < 3 → seenIn depth (leafWordOf depth (frameAt (first depth q) m) (m .flags)) page ≡ asked m page
   written-seen depth q page at h below aligned low =
       let p : ℕ = frameAt (first depth q) m in
       byBool (valid (m .flags))
@@ -135,7 +135,7 @@ module _ (m : Map) (G : Given m) where
       let r = in-rest (suc depth) q page at in
       let flags : plainFlags w ≡ m .flags = plain-flags w (fine .clear (omega arith)) ∙ x .0 in
       let odd : valid w ≡ valid (m .flags) = sym (flags-valid w) ∙ ap valid (x .0) in
-      let frame : frameOf w + page % span (suc depth) ≡ m .frame + (page - m .from) = omega arith in
+      let frame : frameIn w + page % pagesIn (suc depth) ≡ m .frame + (page - m .from) = omega arith in
       seen-fine (suc depth) w page fine ∙ rw (flags, odd, frame)
 
   map-right : (depth q : ℕ) (t : Tree) (page : ℕ) → FineTree depth t → In depth q page → Right (after m) depth t page (mapRule m depth (first depth q) t)

@@ -12,7 +12,7 @@ use Rattle.address_slot.specs.Slot.{entryLast, entryIndex, chunkEnd}
 use Rattle.region.specs.Chunks.{chunks, chunk-fits}
 use Rattle.region.specs.declared.MemoryRegion.{MemoryRegion}
 use Rattle.theory_forest.specs.Tree.{Tree, leaf, node}
-use Rattle.theory_tree.specs.Page.{span, span-size, entry-number, entry-start, first, child, slotOf, In, in-from, in-of, in-child}
+use Rattle.theory_tree.specs.Page.{pagesIn, span-size, entry-number, entry-start, first, child, slotOfPage, In, in-from, in-of, in-child}
 use Rattle.theory_tree.specs.Visit.{Rule, opened, obey}
 use Rattle.theory_tree.specs.Rules.{Map}
 
@@ -56,38 +56,38 @@ pub record Inside (b n start end frame : ℕ) : Type 0 where
   pub high : end / 4096 ≤ b + n
 
 -- the slot of an address
-pub index-slot : (depth a : ℕ) → depth ≤ 3 → entryIndex (3 - depth) a ≡ slotOf (a / 4096) depth
-unfolding entryIndex slotOf
+pub index-slot : (depth a : ℕ) → depth ≤ 3 → entryIndex (3 - depth) a ≡ slotOfPage (a / 4096) depth
+unfolding entryIndex slotOfPage
 index-slot depth a h = ap (λ (x : ℕ). x % 512) (entry-number depth a h)
 
 -- where the chunk from an address ends
-chunk-end : (depth q s e : ℕ) → depth ≤ 3 → In depth q (s / 4096) → chunkEnd (3 - depth) s e ≡ min e ((first depth q + span depth) * 4096)
+chunk-end : (depth q s e : ℕ) → depth ≤ 3 → In depth q (s / 4096) → chunkEnd (3 - depth) s e ≡ min e ((first depth q + pagesIn depth) * 4096)
 unfolding chunkEnd entryLast down
 chunk-end depth q s e h at =
     let size = span-size depth h in
     let pos = size-pos (3 - depth) in
     let start : s / sizeAt (3 - depth) * sizeAt (3 - depth) ≡ first depth q * 4096 = entry-start depth s h ∙ ap (λ (x : ℕ). first depth x * 4096) at in
-    let last : s / sizeAt (3 - depth) * sizeAt (3 - depth) + (sizeAt (3 - depth) - 1) + 1 ≡ (first depth q + span depth) * 4096 = omega arith in
+    let last : s / sizeAt (3 - depth) * sizeAt (3 - depth) + (sizeAt (3 - depth) - 1) + 1 ≡ (first depth q + pagesIn depth) * 4096 = omega arith in
     ap (min e) last
 
 -- ---- the first chunk of a region in a table
 
 -- the region from s to e of table q starts with the chunk up to z, in slot i
-pub record Cut (depth q s e p z i : ℕ) : Type 0 where
-  pub chunk : Inside (first depth (child q i)) (span depth) s z p
-  pub rest : Inside (first (suc depth) q) (span (suc depth)) z e (p + (z - s))
+pub record FirstCut (depth q s e p z i : ℕ) : Type 0 where
+  pub chunk : Inside (first depth (child q i)) (pagesIn depth) s z p
+  pub rest : Inside (first (suc depth) q) (pagesIn (suc depth)) z e (p + (z - s))
   pub more : s < z
   pub within : z ≤ e
-  pub ends : z / 4096 ≡ min (e / 4096) (first depth (child q i) + span depth)
+  pub ends : z / 4096 ≡ min (e / 4096) (first depth (child q i) + pagesIn depth)
 
-pub cut : (depth q s e p : ℕ) → depth ≤ 3 → s < e → Inside (first (suc depth) q) (span (suc depth)) s e p
-    → Cut depth q s e p (chunkEnd (3 - depth) s e) (slotOf (s / 4096) depth)
+pub cut : (depth q s e p : ℕ) → depth ≤ 3 → s < e → Inside (first (suc depth) q) (pagesIn (suc depth)) s e p
+    → FirstCut depth q s e p (chunkEnd (3 - depth) s e) (slotOfPage (s / 4096) depth)
 cut depth q s e p low some I =
-    let r : ℕ = child q (slotOf (s / 4096) depth) in
+    let r : ℕ = child q (slotOfPage (s / 4096) depth) in
     let in-table : In (suc depth) q (s / 4096) = in-of (suc depth) q (s / 4096) (I .low) (omega (arith, I .startPage, I .endPage, I .high)) in
     let in-entry : In depth r (s / 4096) = in-child depth q (s / 4096) in-table in
     let at = in-from depth r (s / 4096) in-entry in
-    let end : chunkEnd (3 - depth) s e ≡ min e ((first depth r + span depth) * 4096) = chunk-end depth r s e low in-entry in
+    let end : chunkEnd (3 - depth) s e ≡ min e ((first depth r + pagesIn depth) * 4096) = chunk-end depth r s e low in-entry in
     let fits = chunk-fits (3 - depth) s e some in
     let page : chunkEnd (3 - depth) s e % 4096 ≡ 0 = omega (arith, I .endPage) in
     record {

@@ -7,8 +7,8 @@ use native.Mathlib.Omega.{arith}
 use Rattle.laws.specs.Test.{byBool}
 use Rattle.entry.specs.Word.{flagsOf, valid, flags-valid}
 use Rattle.theory_forest.specs.Tree.{Tree, leaf, node, eachSlot}
-use Rattle.theory_tree.specs.Page.{span, span-pos, first, child, child-first}
-use Rattle.theory_tree.specs.Word.{frameOf, leafWord, fillWord, pageBit, leaf-frame, leaf-flags}
+use Rattle.theory_tree.specs.Page.{pagesIn, span-pos, first, child, child-first}
+use Rattle.theory_tree.specs.Word.{frameIn, leafWordOf, fillWord, pageBit, leaf-frame, leaf-flags}
 use Rattle.theory_tree.specs.Fine.{Fine, fill-flags, fill-is, fill-below}
 use Rattle.theory_tree.specs.Visit.{opened, visit, visitTable, visit-keep, visit-write, visit-down}
 use Rattle.theory_tree.specs.Slots.{slotAfter, each-node, each-same, each-both, fillSlot, fill-node, fill-slot}
@@ -49,12 +49,12 @@ module _ (m : Map) where
       (λ e. let x = same-yes (first 1 q) m w s in
       let y = page-in b m e in
       let z = child-first zero q i in
-      let frames : m .frame + (b - m .from) ≡ frameOf w + i * span zero = omega arith in
-      visit-write (mapRule m) zero (child q i) old _ (rule-page m b (fillWord zero w i) e) ∙ ap leaf (ap₂ (leafWord zero) frames (sym (x .0)) ∙ sym (fill-is zero w fine i)))
+      let frames : m .frame + (b - m .from) ≡ frameIn w + i * pagesIn zero = omega arith in
+      visit-write (mapRule m) zero (child q i) old _ (rule-page m b (fillWord zero w i) e) ∙ ap leaf (ap₂ (leafWordOf zero) frames (sym (x .0)) ∙ sym (fill-is zero w fine i)))
       (λ e. work-off zero (child q i) old e)
   keeps-fill (suc depth) q w i v fine s l =
       let b : ℕ = first (suc depth) (child q i) in
-      let p : ℕ = frameOf w + i * span (suc depth) in
+      let p : ℕ = frameIn w + i * pagesIn (suc depth) in
       let x = same-yes (first (suc (suc depth)) q) m w s in
       let F = fill-flags (suc depth) w fine in
       let vw : valid (flagsOf w) ≡ true = ap valid (x .0) ∙ v in
@@ -62,7 +62,7 @@ module _ (m : Map) where
       let z = child-first (suc depth) q i in
       let word = fill-is (suc depth) w fine i in
       let flags = ap flagsOf word ∙ leaf-flags (flagsOf w) F (suc depth) p below vw in
-      let frame = ap frameOf word ∙ leaf-frame (flagsOf w) F (suc depth) p below vw in
+      let frame = ap frameIn word ∙ leaf-frame (flagsOf w) F (suc depth) p below vw in
       visit-keep (mapRule m) (suc depth) (child q i) (leaf (fillWord (suc depth) w i))
       (rule-same m depth b (fillWord (suc depth) w i) (yes-same b m (fillWord (suc depth) w i) (flags ∙ add-zero (flagsOf w) ∙ x .0) (omega arith)))
 

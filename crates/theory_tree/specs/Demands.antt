@@ -18,7 +18,7 @@ use Rattle.theory_tree.specs.Rules.{Map, Given}
 use Rattle.theory_tree.specs.After.{covers, yes-covers, covers-yes, after-in, after-out, asked-valid, asked-hole}
 use Rattle.theory_tree.specs.Commute.{Apart}
 use Rattle.theory_tree.specs.Root.{mapTree, mapMade, mapFreed, map-seen, map-count, valid-frees-none, map-commute}
-use Rattle.theory_tree.specs.Order.{Reorders, Each, Pairwise, ValidMap, run, Room, madeAll, each-reorders, pairwise-reorders, run-reorders, room-reorders, seen-reorders}
+use Rattle.theory_tree.specs.Order.{Reorders, Each, Pairwise, ValidMap, run, RoomFor, madeAll, each-reorders, pairwise-reorders, run-reorders, room-reorders, seen-reorders}
 use Rattle.theory_tree.specs.Order.{room-enough}
 use Rattle.theory_tree.specs.Modify.{Modify, GivenModify, pagesOf, changed, afterModify, modifyTree, modifyMade, modify-seen, modify-count}
 
@@ -61,7 +61,7 @@ module _ (depth r : ℕ) (t : Tree) (fine : FineTable depth t) where
 
   -- with VALID every reordering is accepted as a whole or none is, and the walk answers and tables in use agree
   pub record AnyOrder (k : ℕ) (ms ns : List Map) : Type 0 where
-    pub accepted : Room depth r k ms t ↔ Room depth r k ns t
+    pub accepted : RoomFor depth r k ms t ↔ RoomFor depth r k ns t
     pub answers : (page : ℕ) → walk (suc depth) (run depth r ms t) page ≡ walk (suc depth) (run depth r ns t) page
     pub tables : nodes (run depth r ms t) ≡ nodes (run depth r ns t)
 
@@ -123,5 +123,5 @@ module _ (depth r : ℕ) (t : Tree) where
   modify-tables e = modify-count depth r e t
 
   -- a list of maps whose new tables are all free at entry is not refused 9 (Q-13, with and without VALID)
-  pub enough-room : (k : ℕ) (ms : List Map) → nodes t + madeAll depth r ms t ≤ k → Room depth r k ms t
+  pub enough-room : (k : ℕ) (ms : List Map) → nodes t + madeAll depth r ms t ≤ k → RoomFor depth r k ms t
   enough-room k ms room = room-enough depth r k ms t room

@@ -6,10 +6,10 @@ use Prim.Native.Nat.{ℕ, zero, suc, _-_, _/_, _≤_}
 use Rattle.region.specs.Region.{region, whole}
 use Rattle.region.specs.declared.MemoryRegion.{MemoryRegion}
 use Rattle.theory_forest.specs.Tree.{Tree, leaf, node}
-use Rattle.theory_tree.specs.Page.{span, first}
+use Rattle.theory_tree.specs.Page.{pagesIn, first}
 use Rattle.theory_tree.specs.Visit.{Rule, keep, down}
 use Rattle.theory_tree.specs.Chunks.{Inside, chunkedTable}
-use Rattle.theory_tree.specs.Sweep.{Says, table-is}
+use Rattle.theory_tree.specs.Sweep.{RulesSay, table-is}
 use Rattle.theory_tree.specs.Document.{meets-is, whole-is}
 use Rattle.theory_tree.specs.Needed.{neededTable, table-needed}
 use Rattle.theory_tree.specs.Modify.{Modify, editRule, modifyRule, modify-local, modifyTree, modifyMade}
@@ -22,7 +22,7 @@ module _ (set clear : ℕ) where
   documentModify (suc depth) c frame (leaf w) = cond (whole (3 - suc depth) c) (editRule set clear w) down
   documentModify (suc depth) c frame (node f) = down
 
-  modify-says : Says (modify-local set clear) documentModify 0 false
+  modify-says : RulesSay (modify-local set clear) documentModify 0 false
   unfolding documentModify modifyRule
   modify-says zero q s e p (leaf w) low some I = rw (meets-is zero q s e p 0 false low some I)
   modify-says zero q s e p (node f) low some I = refl
@@ -33,7 +33,7 @@ module _ (set clear : ℕ) where
   abbrev pub modifyPages : ℕ → ℕ → Modify
   modifyPages start end = record { from = start / 4096; upto = end / 4096; set = set; clear = clear }
 
-  module _ (depth r start end : ℕ) (f : ℕ → Tree) (low : depth ≤ 3) (inside : Inside (first (suc depth) r) (span (suc depth)) start end 0) where
+  module _ (depth r start end : ℕ) (f : ℕ → Tree) (low : depth ≤ 3) (inside : Inside (first (suc depth) r) (pagesIn (suc depth)) start end 0) where
     -- THE DOCUMENT'S LOOP IS THE MODIFY ON TREES
     pub document-modifies : chunkedTable documentModify depth (region start end) 0 (node f) ≡ modifyTree depth r (modifyPages start end) (node f)
     unfolding modifyTree

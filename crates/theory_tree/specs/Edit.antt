@@ -7,8 +7,8 @@ use native.Mathlib.Omega.{arith}
 use lib.Bits.{bitAnd, bitOr, and-comm, and-high, and-le-r, and-zero-r, or-zero-r}
 use Rattle.laws.specs.Bit.{and-assoc, and-or, and-swap, sub-not}
 use Rattle.entry.specs.Word.{mask-address, valid, plainFlags, Plain, valid-same, valid-yes, edited, mask-plain}
-use Rattle.theory_tree.specs.Page.{span}
-use Rattle.theory_tree.specs.Word.{frameOf, address-frame, flags-frame, flags-shown}
+use Rattle.theory_tree.specs.Page.{pagesIn}
+use Rattle.theory_tree.specs.Word.{frameIn, address-frame, flags-frame, flags-shown}
 use Rattle.theory_tree.specs.Fine.{Fine}
 
 bit-mask : (w : ℕ) → bitAnd w 2 ≡ w / 2 % 2 * 2
@@ -29,12 +29,12 @@ module _ (set clear : ℕ) (S : Plain set) (C : Plain clear) where
   edited-wide w = omega (arith, and-le-r (bitOr w set) (2 ^ 64 - 1 - clear))
 
   flags-address : (f : ℕ) → Plain f → bitAnd f 0xFFFF_FFFF_F000 ≡ 0
-  flags-address f F = mask-address f ∙ address-frame f ∙ (let z = flags-frame f F in let e : frameOf f * 4096 ≡ 0 = omega arith in e)
+  flags-address f F = mask-address f ∙ address-frame f ∙ (let z = flags-frame f F in let e : frameIn f * 4096 ≡ 0 = omega arith in e)
 
   flags-bit : (f : ℕ) → Plain f → bitAnd f 2 ≡ 0
   flags-bit f F = bit-mask f ∙ (let z = F .clear in let e : f / 2 % 2 * 2 ≡ 0 = omega arith in e)
 
-  pub edited-frame : (w : ℕ) → w < 2 ^ 64 → frameOf (edited set clear w) ≡ frameOf w
+  pub edited-frame : (w : ℕ) → w < 2 ^ 64 → frameIn (edited set clear w) ≡ frameIn w
   edited-frame w wide =
       let x : ℕ = edited set clear w in
       let same = edited-keeps w 0xFFFF_FFFF_F000 wide (omega arith) (flags-address set S) (flags-address clear C) in
@@ -70,7 +70,7 @@ module _ (set clear : ℕ) (S : Plain set) (C : Plain clear) where
       record {
         wide = edited-wide w;
         clear = λ h. bit ∙ fine .clear h;
-        aligned = ap (λ (x : ℕ). x % span depth) frame ∙ fine .aligned;
+        aligned = ap (λ (x : ℕ). x % pagesIn depth) frame ∙ fine .aligned;
         top = λ h. absurd (omega (arith, fine .top h .0));
         page = λ h k. bit ∙ fine .page h o;
       }

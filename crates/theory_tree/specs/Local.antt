@@ -9,8 +9,8 @@ use borrow.Author.Tests.{le-ltb, leb-true, leb-false, le-leb, lt-leb}
 use Rattle.laws.specs.Test.{byBool, same-test, eq→eqb}
 use Rattle.entry.specs.Word.{flagsOf, valid}
 use Rattle.theory_forest.specs.Tree.{Tree, leaf, node, eachSlot}
-use Rattle.theory_tree.specs.Page.{span, first, child, child-in}
-use Rattle.theory_tree.specs.Word.{frameOf, leafWord}
+use Rattle.theory_tree.specs.Page.{pagesIn, first, child, child-in}
+use Rattle.theory_tree.specs.Word.{frameIn, leafWordOf}
 use Rattle.theory_tree.specs.Visit.{Rule, keep, opened, obey, visit, visit-keep}
 use Rattle.theory_tree.specs.Slots.{each-same, fill-node, fillSlot}
 use Rattle.theory_tree.specs.Rules.{Map, meets, whole, frameAt, same, fits, drops, mapRule, whole-yes, page-in, fits-yes, rule-off}
@@ -18,7 +18,7 @@ use Rattle.theory_tree.specs.Rules.{Map, meets, whole, frameAt, same, fi
 -- two calls agree on an entry: the same part of it, the same frames there, flags and blocks
 pub record Agree (depth b : ℕ) (m n : Map) : Type 0 where
   pub starts : max (m .from) b ≡ max (n .from) b
-  pub stops : min (m .upto) (b + span depth) ≡ min (n .upto) (b + span depth)
+  pub stops : min (m .upto) (b + pagesIn depth) ≡ min (n .upto) (b + pagesIn depth)
   pub frames : m .frame + n .from ≡ n .frame + m .from
   pub sameFlags : m .flags ≡ n .flags
   pub sameBlocks : m .blocks ≡ n .blocks
@@ -27,9 +27,9 @@ pub record Local (rule : Map → ℕ → ℕ → Tree → Rule) : Type 0 where
   pub off : (m : Map) (depth b : ℕ) (t : Tree) → meets depth b m ≡ false → rule m depth b t ≡ keep
   pub agree : (m n : Map) (depth b : ℕ) (t : Tree) → Agree depth b m n → rule m depth b t ≡ rule n depth b t
 
-pub meets-no : (depth b : ℕ) (m : Map) → min (m .upto) (b + span depth) ≤ max (m .from) b → meets depth b m ≡ false
+pub meets-no : (depth b : ℕ) (m : Map) → min (m .upto) (b + pagesIn depth) ≤ max (m .from) b → meets depth b m ≡ false
 unfolding meets
-meets-no depth b m h = le-ltb (max (m .from) b) (min (m .upto) (b + span depth)) h
+meets-no depth b m h = le-ltb (max (m .from) b) (min (m .upto) (b + pagesIn depth)) h
 
 -- .. then on the entries below
 pub agree-child : (depth q i : ℕ) (m n : Map) → i < 512 → Agree (suc depth) (first (suc depth) q) m n → Agree depth (first depth (child q i)) m n
@@ -74,10 +74,10 @@ module _ (depth b : ℕ) (m n : Map) (a : Agree depth b m n) where
       (λ e. e ∙ sym (le-leb (n .from) b (omega (arith, leb-true (m .from) b e, a .starts))))
       (λ e. e ∙ sym (lt-leb (n .from) b (omega (arith, leb-false (m .from) b e, a .starts))))
 
-  agree-upto : leb (b + span depth) (m .upto) ≡ leb (b + span depth) (n .upto)
-  agree-upto = byBool (leb (b + span depth) (m .upto))
-      (λ e. e ∙ sym (le-leb (b + span depth) (n .upto) (omega (arith, leb-true (b + span depth) (m .upto) e, a .stops))))
-      (λ e. e ∙ sym (lt-leb (b + span depth) (n .upto) (omega (arith, leb-false (b + span depth) (m .upto) e, a .stops))))
+  agree-upto : leb (b + pagesIn depth) (m .upto) ≡ leb (b + pagesIn depth) (n .upto)
+  agree-upto = byBool (leb (b + pagesIn depth) (m .upto))
+      (λ e. e ∙ sym (le-leb (b + pagesIn depth) (n .upto) (omega (arith, leb-true (b + pagesIn depth) (m .upto) e, a .stops))))
+      (λ e. e ∙ sym (lt-leb (b + pagesIn depth) (n .upto) (omega (arith, leb-false (b + pagesIn depth) (m .upto) e, a .stops))))
 
   pub agree-whole : whole depth b m ≡ whole depth b n
   unfolding whole
@@ -99,13 +99,13 @@ module _ (depth b : ℕ) (m n : Map) (a : Agree depth b m n) where
 
   agree-same : (w : ℕ) → same b m w ≡ same b n w
   unfolding same
-  agree-same w = ap₂ _&&_ (ap (eqb (flagsOf w)) (a .sameFlags)) (same-test (eqb (m .frame + b) (frameOf w + m .from)) (eqb (n .frame + b) (frameOf w + n .from))
-      (λ t. eq→eqb (n .frame + b) (frameOf w + n .from) (let e = eqb→eq (m .frame + b) (frameOf w + m .from) t in omega (arith, a .frames)))
-      (λ t. eq→eqb (m .frame + b) (frameOf w + m .from) (let e = eqb→eq (n .frame + b) (frameOf w + n .from) t in omega (arith, a .frames))))
+  agree-same w = ap₂ _&&_ (ap (eqb (flagsOf w)) (a .sameFlags)) (same-test (eqb (m .frame + b) (frameIn w + m .from)) (eqb (n .frame + b) (frameIn w + n .from))
+      (λ t. eq→eqb (n .frame + b) (frameIn w + n .from) (let e = eqb→eq (m .frame + b) (frameIn w + m .from) t in omega (arith, a .frames)))
+      (λ t. eq→eqb (m .frame + b) (frameIn w + m .from) (let e = eqb→eq (n .frame + b) (frameIn w + n .from) t in omega (arith, a .frames))))
 
   -- what rules 1 and 3 write
-  agree-word : m .from ≤ b → leafWord depth (frameAt b m) (m .flags) ≡ leafWord depth (frameAt b n) (n .flags)
-  agree-word h = ap₂ (leafWord depth) (agree-frame h) (a .sameFlags)
+  agree-word : m .from ≤ b → leafWordOf depth (frameAt b m) (m .flags) ≡ leafWordOf depth (frameAt b n) (n .flags)
+  agree-word h = ap₂ (leafWordOf depth) (agree-frame h) (a .sameFlags)
 
 map-agree : (m n : Map) (depth b : ℕ) (t : Tree) → Agree depth b m n → mapRule m depth b t ≡ mapRule n depth b t
 unfolding mapRule

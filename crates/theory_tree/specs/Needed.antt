@@ -14,28 +14,28 @@ use Rattle.region.specs.Region.{region}
 use Rattle.region.specs.Chunks.{chunks, met, met-step, chunks-none, chunks-step}
 use Rattle.region.specs.declared.MemoryRegion.{MemoryRegion}
 use Rattle.theory_forest.specs.Tree.{Tree, leaf, node}
-use Rattle.theory_tree.specs.Page.{span, first, child, slotOf, slot-lt}
+use Rattle.theory_tree.specs.Page.{pagesIn, first, child, slotOfPage, slot-lt}
 use Rattle.theory_tree.specs.Visit.{Rule, fillTree, opened, splits, total, counted, made, madeTable}
 use Rattle.theory_tree.specs.Slots.{fillSlot, fill-node}
 use Rattle.theory_tree.specs.Rules.{Map, meets}
 use Rattle.theory_tree.specs.Local.{Agree, Local, meets-no, agree-child, map-local}
-use Rattle.theory_tree.specs.Chunks.{inPages, Inside, index-slot, Cut, cut}
-use Rattle.theory_tree.specs.Sweep.{Shares, nothing, chunk, rest, shares, Says}
+use Rattle.theory_tree.specs.Chunks.{inPages, Inside, index-slot, FirstCut, cut}
+use Rattle.theory_tree.specs.Sweep.{Shares, nothing, chunk, rest, shares, RulesSay}
 use Rattle.theory_tree.specs.Document.{documentRule, document-says}
 use Rattle.theory_tree.specs.Root.{mapMade}
 
 -- ---- the count, chunk by chunk
 
 -- what a slot of a table shows
-unfoldable pub slotIn : Tree → ℕ → Tree
-slotIn (leaf w) i = leaf w
-slotIn (node f) i = f i
+unfoldable pub slotTree : Tree → ℕ → Tree
+slotTree (leaf w) i = leaf w
+slotTree (node f) i = f i
 
 -- `each` counts a chunk, with its frame, of an entry
 unfoldable pub tallied : ℕ → (MemoryRegion → ℕ → Tree → ℕ) → List MemoryRegion → ℕ → Tree → ℕ
 tallied depth each [] frame t = 0
 tallied depth each (c ∷ cs) frame t =
-    each c frame (slotIn t (entryIndex (3 - depth) (c .start .0))) + tallied depth each cs (frame + (c .end .0 - c .start .0)) t
+    each c frame (slotTree t (entryIndex (3 - depth) (c .start .0))) + tallied depth each cs (frame + (c .end .0 - c .start .0)) t
 
 module _ (rules : ℕ → MemoryRegion → ℕ → Tree → Rule) where
   -- the new tables for the chunk c of an entry with `depth` levels below: one for a split, and those for the chunks below
@@ -80,10 +80,10 @@ module _ {rule : Map → ℕ → ℕ → Tree → Rule} (L : Local rule) (rules 
   call s e p = inPages flags blocks s e p
 
   abbrev Counts : ℕ → Type 0
-  Counts depth = (q s e p : ℕ) (t : Tree) → depth ≤ 3 → s < e → Inside (first depth q) (span depth) s e p
+  Counts depth = (q s e p : ℕ) (t : Tree) → depth ≤ 3 → s < e → Inside (first depth q) (pagesIn depth) s e p
       → needed rules depth (region s e) p t ≡ made (rule (call s e p)) depth q t
 
-  module _ (depth q s e p z i : ℕ) (low : depth ≤ 3) (counts : Counts depth) (c : Cut depth q s e p z i) (f : ℕ → Tree) where
+  module _ (depth q s e p z i : ℕ) (low : depth ≤ 3) (counts : Counts depth) (c : FirstCut depth q s e p z i) (f : ℕ → Tree) where
     -- the first chunk's count stands in its slot alone
     abbrev only : ℕ → ℕ
     only j = cond (eqb j i) (needed rules depth (region s z) p (f j)) 0
@@ -129,9 +129,9 @@ module _ {rule : Map → ℕ → ℕ → Tree → Rule} (L : Local rule) (rules 
       (λ j l. made-off L (call s e p) depth (child q j) (f j) (meets-no depth (first depth (child q j)) (call s e p) (omega arith)))
 
   tallied-is : (depth : ℕ) → depth ≤ 3 → Counts depth → (n q s e p : ℕ) (f : ℕ → Tree) → met (3 - depth) s e ≡ n
-      → Inside (first (suc depth) q) (span (suc depth)) s e p
+      → Inside (first (suc depth) q) (pagesIn (suc depth)) s e p
       → tallied depth (λ d x u. needed rules depth d x u) (chunks (3 - depth) s e) p (node f) ≡ madeTable (rule (call s e p)) depth q (node f)
-  unfolding tallied slotIn
+  unfolding tallied slotTree
   tallied-is depth low counts zero q s e p f n I = go (le-or e s)
     where
       go : (e ≤ s) ⊎ (s < e) → tallied depth (λ d x u. needed rules depth d x u) (chunks (3 - depth) s e) p (node f) ≡ madeTable (rule (call s e p)) depth q (node f)
@@ -143,7 +143,7 @@ module _ {rule : Map → ℕ → ℕ → Tree → Rule} (L : Local rule) (rules 
       each d x u = needed rules depth d x u
 
       go : (e ≤ s) ⊎ (s < e)
-          → ((z : ℕ) → met (3 - depth) z e ≡ n → Inside (first (suc depth) q) (span (suc depth)) z e (p + (z - s))
+          → ((z : ℕ) → met (3 - depth) z e ≡ n → Inside (first (suc depth) q) (pagesIn (suc depth)) z e (p + (z - s))
           → tallied depth each (chunks (3 - depth) z e) (p + (z - s)) (node f) ≡ madeTable (rule (call z e (p + (z - s)))) depth q (node f))
           → tallied depth each (chunks (3 - depth) s e) p (node f) ≡ madeTable (rule (call s e p)) depth q (node f)
       go (inl h) ih = ap (λ (cs : List MemoryRegion). tallied depth each cs p (node f)) (chunks-none (3 - depth) s e h) ∙ sym (table-none depth q s e p f h)
@@ -153,10 +153,10 @@ module _ {rule : Map → ℕ → ℕ → Tree → Rule} (L : Local rule) (rules 
           let fewer : met (3 - depth) (chunkEnd (3 - depth) s e) e ≡ n = let m = met-step (3 - depth) s e h in omega arith in
           ap (λ (cs : List MemoryRegion). tallied depth each cs p (node f)) (chunks-step (3 - depth) s e h)
           ∙ ap (λ (x : ℕ). each (region s z) p (f x) + tallied depth each (chunks (3 - depth) z e) (p + (z - s)) (node f)) (index-slot depth s low)
-          ∙ ap (λ (x : ℕ). each (region s z) p (f (slotOf (s / 4096) depth)) + x) (ih z fewer (c .rest))
-          ∙ sym (table depth q s e p z (slotOf (s / 4096) depth) low counts c f (slot-lt (s / 4096) depth))
+          ∙ ap (λ (x : ℕ). each (region s z) p (f (slotOfPage (s / 4096) depth)) + x) (ih z fewer (c .rest))
+          ∙ sym (table depth q s e p z (slotOfPage (s / 4096) depth) low counts c f (slot-lt (s / 4096) depth))
 
-  module _ (says : Says L rules flags blocks) where
+  module _ (says : RulesSay L rules flags blocks) where
     needed-is : (depth : ℕ) → Counts depth
     unfolding needed made opened
     needed-is zero q s e p t low some I = refl
@@ -169,14 +169,14 @@ module _ {rule : Map → ℕ → ℕ → Tree → Rule} (L : Local rule) (rules 
         ap₂ (λ (x : Rule) (k : ℕ). counted x 0 (splits (node f) + k)) (says (suc depth) q s e p (node f) low some I)
         (tallied-is depth (omega arith) (needed-is depth) (met (3 - depth) s e) q s e p f refl I ∙ table-made depth q (rule (call s e p)) (node f))
 
-    pub table-needed : (depth q s e p : ℕ) (f : ℕ → Tree) → depth ≤ 3 → Inside (first (suc depth) q) (span (suc depth)) s e p
+    pub table-needed : (depth q s e p : ℕ) (f : ℕ → Tree) → depth ≤ 3 → Inside (first (suc depth) q) (pagesIn (suc depth)) s e p
         → neededTable rules depth (region s e) p (node f) ≡ madeTable (rule (call s e p)) depth q (node f)
     unfolding neededTable
     table-needed depth q s e p f low I = tallied-is depth low (needed-is depth) (met (3 - depth) s e) q s e p f refl I
 
 -- WHAT THE DOCUMENT'S LOOP TAKES IS WHAT THE MAP TAKES
 pub document-needs : (flags : ℕ) (blocks : Bool) (depth r start end frame : ℕ) (f : ℕ → Tree) → depth ≤ 3
-    → Inside (first (suc depth) r) (span (suc depth)) start end frame
+    → Inside (first (suc depth) r) (pagesIn (suc depth)) start end frame
     → neededTable (documentRule flags blocks) depth (region start end) frame (node f) ≡ mapMade depth r (inPages flags blocks start end frame) (node f)
 unfolding mapMade
 document-needs flags blocks depth r start end frame f low I =

@@ -89,9 +89,9 @@ module _ (depth r : ℕ) where
   run (m ∷ ms) t = run ms (mapTree depth r m t)
 
   -- refusal 9 is given to none of them, in a pool of n tables
-  abbrev pub Room : ℕ → List Map → Tree → Type 0
-  Room n [] t = Unit {0}
-  Room n (m ∷ ms) t = (mapMade depth r m t ≤ n - nodes t) × Room n ms (mapTree depth r m t)
+  abbrev pub RoomFor : ℕ → List Map → Tree → Type 0
+  RoomFor n [] t = Unit {0}
+  RoomFor n (m ∷ ms) t = (mapMade depth r m t ≤ n - nodes t) × RoomFor n ms (mapTree depth r m t)
 
   -- the new tables of a list, want of room aside
   unfoldable pub madeAll : List Map → Tree → ℕ
@@ -117,7 +117,7 @@ module _ (depth r : ℕ) where
   run-grows [] v t = omega arith
   run-grows (m ∷ ms) v t = omega (arith, run-grows ms (v .1) (mapTree depth r m t), valid-grows depth r m (v .0 .valid) t)
 
-  pub room-if : (n : ℕ) (ms : List Map) → Each ValidMap ms → (t : Tree) → nodes t ≤ n → Room n ms t ↔ (nodes (run ms t) ≤ n)
+  pub room-if : (n : ℕ) (ms : List Map) → Each ValidMap ms → (t : Tree) → nodes t ≤ n → RoomFor n ms t ↔ (nodes (run ms t) ≤ n)
   unfolding run
   room-if n [] v t h = (λ room. h, λ fits. tt)
   room-if n (m ∷ ms) v t h = (
@@ -129,7 +129,7 @@ module _ (depth r : ℕ) where
   )
 
   pub room-reorders : (n : ℕ) {ms ns : List Map} → Reorders ms ns → Pairwise ms → Each ValidMap ms → (t : Tree) → FineTable depth t → nodes t ≤ n
-      → Room n ms t → Room n ns t
+      → RoomFor n ms t → RoomFor n ns t
   room-reorders n {ms} {ns} d h v t fine k room =
       room-if n ns (each-reorders ValidMap d v) t k .1 (subst (λ (u : Tree). nodes u ≤ n) (run-reorders d h v t fine) (room-if n ms v t k .0 room))
 
@@ -148,7 +148,7 @@ module _ (depth r : ℕ) where
       run-seen ms g t fine page at ∙ afters-reorders d h page (seen (suc depth) t page) ∙ sym (run-seen ns (each-reorders Given d g) t fine page at)
 
   -- where the tables that a list makes are free at entry, no call is refused 9
-  pub room-enough : (n : ℕ) (ms : List Map) (t : Tree) → nodes t + madeAll ms t ≤ n → Room n ms t
+  pub room-enough : (n : ℕ) (ms : List Map) (t : Tree) → nodes t + madeAll ms t ≤ n → RoomFor n ms t
   unfolding madeAll
   room-enough n [] t h = tt
   room-enough n (m ∷ ms) t h = (omega arith, room-enough n ms (mapTree depth r m t) (omega (arith, map-count depth r m t)))

@@ -9,7 +9,7 @@ use Rattle.entry.specs.Word.{valid}
 use Rattle.theory_forest.specs.Tree.{Tree}
 use Rattle.theory_forest.specs.Nodes.{nodes}
 use Rattle.laws.specs.Size.{sizeAt}
-use Rattle.theory_tree.specs.Page.{span, span-size, span-suc, In}
+use Rattle.theory_tree.specs.Page.{pagesIn, span-size, span-suc, In}
 use Rattle.theory_tree.specs.Walk.{seen}
 use Rattle.theory_tree.specs.Visit.{visitTable, madeTable, freedTable}
 use Rattle.theory_tree.specs.Count.{table-count, table-frees-none}
@@ -23,7 +23,7 @@ abbrev pub lowerRoot : ℕ
 lowerRoot = 0
 
 unfoldable pub upperRoot : ℕ → ℕ
-upperRoot depth = 2 ^ 52 / span (suc depth) - 1
+upperRoot depth = 2 ^ 52 / pagesIn (suc depth) - 1
 
 -- the address lies in the root's span
 abbrev pub Spans : ℕ → ℕ → ℕ → Type 0
@@ -34,8 +34,8 @@ pub lower-span : (depth address : ℕ) → depth ≤ 3 → address < 512 * sizeA
 lower-span depth address low h = let s = span-size depth low in let n = span-suc depth in div-eq-of-lt (omega arith)
 
 -- .. or the highest
-in-upper : (depth page : ℕ) → depth ≤ 3 → 2 ^ 52 - span (suc depth) ≤ page → page < 2 ^ 52 → In (suc depth) (upperRoot depth) page
-unfolding upperRoot span
+in-upper : (depth page : ℕ) → depth ≤ 3 → 2 ^ 52 - pagesIn (suc depth) ≤ page → page < 2 ^ 52 → In (suc depth) (upperRoot depth) page
+unfolding upperRoot pagesIn
 in-upper zero page h l u = omega arith
 in-upper (suc zero) page h l u = omega arith
 in-upper (suc (suc zero)) page h l u = omega arith

@@ -9,8 +9,8 @@ use borrow.Author.Tests.{ltb-true, lt-ltb, leb-true, le-leb, eqb-true, eq-eqb, n
 use Rattle.laws.specs.Test.{byBool, both}
 use Rattle.entry.specs.Word.{flagsOf, valid, Plain}
 use Rattle.theory_forest.specs.Tree.{Tree, leaf, node}
-use Rattle.theory_tree.specs.Page.{span, span-zero}
-use Rattle.theory_tree.specs.Word.{frameOf, leafWord}
+use Rattle.theory_tree.specs.Page.{pagesIn, span-zero}
+use Rattle.theory_tree.specs.Word.{frameIn, leafWordOf}
 use Rattle.theory_tree.specs.Visit.{Rule, keep, write, down, no-write}
 
 -- A call of map: the pages from `from` up to `upto`, to the frames from `frame` on, with the flags; `blocks` says that NO_BLOCK_MAPPINGS is unset.
@@ -31,11 +31,11 @@ pub record Given (m : Map) : Type 0 where
 
 -- region and entry share a page
 unfoldable pub meets : ℕ → ℕ → Map → Bool
-meets depth b m = ltb (max (m .from) b) (min (m .upto) (b + span depth))
+meets depth b m = ltb (max (m .from) b) (min (m .upto) (b + pagesIn depth))
 
 -- the chunk is the whole entry
 unfoldable pub whole : ℕ → ℕ → Map → Bool
-whole depth b m = leb (m .from) b && leb (b + span depth) (m .upto)
+whole depth b m = leb (m .from) b && leb (b + pagesIn depth) (m .upto)
 
 -- the frame of the entry's first page
 unfoldable pub frameAt : ℕ → Map → ℕ
@@ -43,11 +43,11 @@ frameAt b m = m .frame + (b - m .from)
 
 -- rule 2: same flags, and frame at least the chunk's offset in the entry with difference equal to the entry's address
 unfoldable pub same : ℕ → Map → ℕ → Bool
-same b m w = eqb (flagsOf w) (m .flags) && eqb (m .frame + b) (frameOf w + m .from)
+same b m w = eqb (flagsOf w) (m .flags) && eqb (m .frame + b) (frameIn w + m .from)
 
 -- rule 3: whole entry, frame aligned to the entry, blocks allowed, level above 0
 unfoldable pub fits : ℕ → ℕ → Map → Bool
-fits depth b m = whole depth b m && (eqb (frameAt b m % span depth) 0 && (m .blocks && ltb depth 3))
+fits depth b m = whole depth b m && (eqb (frameAt b m % pagesIn depth) 0 && (m .blocks && ltb depth 3))
 
 -- rule 4: whole entry, not VALID
 unfoldable pub drops : ℕ → ℕ → Map → Bool
@@ -55,32 +55,32 @@ drops depth b m = whole depth b m && not (valid (m .flags))
 
 -- the first rule that fits; below the lowest level no table stands
 unfoldable pub mapRule : Map → ℕ → ℕ → Tree → Rule
-mapRule m zero b (leaf w) = cond (meets zero b m) (write (leafWord zero (frameAt b m) (m .flags))) keep
+mapRule m zero b (leaf w) = cond (meets zero b m) (write (leafWordOf zero (frameAt b m) (m .flags))) keep
 mapRule m zero b (node f) = keep
 mapRule m (suc depth) b (leaf w) =
-    cond (meets (suc depth) b m) (cond (same b m w) keep (cond (fits (suc depth) b m) (write (leafWord (suc depth) (frameAt b m) (m .flags))) down)) keep
+    cond (meets (suc depth) b m) (cond (same b m w) keep (cond (fits (suc depth) b m) (write (leafWordOf (suc depth) (frameAt b m) (m .flags))) down)) keep
 mapRule m (suc depth) b (node f) = cond (meets (suc depth) b m) (cond (drops (suc depth) b m) (write (m .flags)) down) keep
 
 -- ---- what the tests say
 
 module _ (depth b : ℕ) (m : Map) where
-  pub meets-yes : meets depth b m ≡ true → (m .from < b + span depth) × (b < m .upto) × (m .from < m .upto)
+  pub meets-yes : meets depth b m ≡ true → (m .from < b + pagesIn depth) × (b < m .upto) × (m .from < m .upto)
   unfolding meets
-  meets-yes e = let h = ltb-true (max (m .from) b) (min (m .upto) (b + span depth)) e in (omega arith, omega arith, omega arith)
+  meets-yes e = let h = ltb-true (max (m .from) b) (min (m .upto) (b + pagesIn depth)) e in (omega arith, omega arith, omega arith)
 
-  pub yes-meets : (page : ℕ) → m .from ≤ page → page < m .upto → b ≤ page → page < b + span depth → meets depth b m ≡ true
+  pub yes-meets : (page : ℕ) → m .from ≤ page → page < m .upto → b ≤ page → page < b + pagesIn depth → meets depth b m ≡ true
   unfolding meets
-  yes-meets page p q r s = lt-ltb (max (m .from) b) (min (m .upto) (b + span depth)) (omega arith)
+  yes-meets page p q r s = lt-ltb (max (m .from) b) (min (m .upto) (b + pagesIn depth)) (omega arith)
 
-  pub whole-yes : whole depth b m ≡ true → (m .from ≤ b) × (b + span depth ≤ m .upto)
+  pub whole-yes : whole depth b m ≡ true → (m .from ≤ b) × (b + pagesIn depth ≤ m .upto)
   unfolding whole
   whole-yes e =
-      let h = both (leb (m .from) b) (leb (b + span depth) (m .upto)) e in
-      (leb-true (m .from) b (h .0), leb-true (b + span depth) (m .upto) (h .1))
+      let h = both (leb (m .from) b) (leb (b + pagesIn depth) (m .upto)) e in
+      (leb-true (m .from) b (h .0), leb-true (b + pagesIn depth) (m .upto) (h .1))
 
-  pub yes-whole : m .from ≤ b → b + span depth ≤ m .upto → whole depth b m ≡ true
+  pub yes-whole : m .from ≤ b → b + pagesIn depth ≤ m .upto → whole depth b m ≡ true
   unfolding whole
-  yes-whole p q = rw (le-leb (m .from) b p, le-leb (b + span depth) (m .upto) q)
+  yes-whole p q = rw (le-leb (m .from) b p, le-leb (b + pagesIn depth) (m .upto) q)
 
   pub drops-yes : drops depth b m ≡ true → (whole depth b m ≡ true) × (valid (m .flags) ≡ false)
   unfolding drops
@@ -98,24 +98,24 @@ module _ (depth b : ℕ) (m : Map) where
   unfolding fits
   fits-no e = rw e
 
-  pub fits-yes : fits depth b m ≡ true → (whole depth b m ≡ true) × (frameAt b m % span depth ≡ 0) × (depth < 3)
+  pub fits-yes : fits depth b m ≡ true → (whole depth b m ≡ true) × (frameAt b m % pagesIn depth ≡ 0) × (depth < 3)
   unfolding fits
   fits-yes e =
-      let h = both (whole depth b m) (eqb (frameAt b m % span depth) 0 && (m .blocks && ltb depth 3)) e in
-      let k = both (eqb (frameAt b m % span depth) 0) (m .blocks && ltb depth 3) (h .1) in
+      let h = both (whole depth b m) (eqb (frameAt b m % pagesIn depth) 0 && (m .blocks && ltb depth 3)) e in
+      let k = both (eqb (frameAt b m % pagesIn depth) 0) (m .blocks && ltb depth 3) (h .1) in
       let l = both (m .blocks) (ltb depth 3) (k .1) in
-      (h .0, eqb-true (frameAt b m % span depth) 0 (k .0), ltb-true depth 3 (l .1))
+      (h .0, eqb-true (frameAt b m % pagesIn depth) 0 (k .0), ltb-true depth 3 (l .1))
 
 module _ (b : ℕ) (m : Map) where
-  pub same-yes : (w : ℕ) → same b m w ≡ true → (flagsOf w ≡ m .flags) × (m .frame + b ≡ frameOf w + m .from)
+  pub same-yes : (w : ℕ) → same b m w ≡ true → (flagsOf w ≡ m .flags) × (m .frame + b ≡ frameIn w + m .from)
   unfolding same
   same-yes w e =
-      let h = both (eqb (flagsOf w) (m .flags)) (eqb (m .frame + b) (frameOf w + m .from)) e in
-      (eqb-true (flagsOf w) (m .flags) (h .0), eqb-true (m .frame + b) (frameOf w + m .from) (h .1))
+      let h = both (eqb (flagsOf w) (m .flags)) (eqb (m .frame + b) (frameIn w + m .from)) e in
+      (eqb-true (flagsOf w) (m .flags) (h .0), eqb-true (m .frame + b) (frameIn w + m .from) (h .1))
 
-  pub yes-same : (w : ℕ) → flagsOf w ≡ m .flags → m .frame + b ≡ frameOf w + m .from → same b m w ≡ true
+  pub yes-same : (w : ℕ) → flagsOf w ≡ m .flags → m .frame + b ≡ frameIn w + m .from → same b m w ≡ true
   unfolding same
-  yes-same w p q = rw (eq-eqb (flagsOf w) (m .flags) p, eq-eqb (m .frame + b) (frameOf w + m .from) q)
+  yes-same w p q = rw (eq-eqb (flagsOf w) (m .flags) p, eq-eqb (m .frame + b) (frameIn w + m .from) q)
 
   -- a page that a region meets lies in it
   pub page-in : meets zero b m ≡ true → (m .from ≤ b) × (b < m .upto)
@@ -131,7 +131,7 @@ module _ (m : Map) where
   rule-off (suc depth) b (leaf w) e = rw e
   rule-off (suc depth) b (node f) e = rw e
 
-  pub rule-page : (b w : ℕ) → meets zero b m ≡ true → mapRule m zero b (leaf w) ≡ write (leafWord zero (frameAt b m) (m .flags))
+  pub rule-page : (b w : ℕ) → meets zero b m ≡ true → mapRule m zero b (leaf w) ≡ write (leafWordOf zero (frameAt b m) (m .flags))
   unfolding mapRule
   rule-page b w e = rw e
 
@@ -141,7 +141,7 @@ module _ (m : Map) where
     rule-same w s = byBool (meets (suc depth) b m) (λ e. rw (e, s)) (λ e. rw e)
 
     pub rule-block : (w : ℕ) → meets (suc depth) b m ≡ true → same b m w ≡ false → fits (suc depth) b m ≡ true
-        → mapRule m (suc depth) b (leaf w) ≡ write (leafWord (suc depth) (frameAt b m) (m .flags))
+        → mapRule m (suc depth) b (leaf w) ≡ write (leafWordOf (suc depth) (frameAt b m) (m .flags))
     unfolding mapRule
     rule-block w e s k = rw (e, s, k)
 

@@ -3,7 +3,7 @@
 use mathlib.Core.Path.{_≡_, sym, ap, subst, _∙_}
 use Prim.Native.Nat.{ℕ, zero, suc, _<_}
 use Rattle.theory_forest.specs.Tree.{Tree, leaf, node, eachSlot}
-use Rattle.theory_tree.specs.Page.{first, child, In, slotOf, slot-lt, in-child}
+use Rattle.theory_tree.specs.Page.{first, child, In, slotOfPage, slot-lt, in-child}
 use Rattle.theory_tree.specs.Word.{fillWord}
 use Rattle.theory_tree.specs.Fine.{Fine, fine-fill}
 use Rattle.theory_tree.specs.Walk.{Seen, seen, seenIn, seen-leaf, seen-node, fill-seen}
@@ -48,9 +48,9 @@ pub record Shows (rule : ℕ → ℕ → Tree → Rule) (new : ℕ → Seen → 
 pub fine-fill-slots : (depth w : ℕ) → Fine (suc depth) w → (i : ℕ) → i < 512 → FineTree depth (fillSlot depth w i)
 fine-fill-slots depth w fine i l = subst (FineTree depth) (sym (fill-slot depth w i l)) (fine-fill depth w fine i l)
 
-fill-slot-seen : (depth w page : ℕ) → Fine (suc depth) w → seen depth (fillSlot depth w (slotOf page depth)) page ≡ seen (suc depth) (leaf w) page
+fill-slot-seen : (depth w page : ℕ) → Fine (suc depth) w → seen depth (fillSlot depth w (slotOfPage page depth)) page ≡ seen (suc depth) (leaf w) page
 fill-slot-seen depth w page fine =
-    let i : ℕ = slotOf page depth in
+    let i : ℕ = slotOfPage page depth in
     ap (λ (t : Tree). seen depth t page) (fill-slot depth w i (slot-lt page depth))
     ∙ seen-leaf depth (fillWord depth w i) page ∙ fill-seen depth w page fine ∙ sym (seen-leaf (suc depth) w page)
 
@@ -87,11 +87,11 @@ module _ {rule : ℕ → ℕ → Tree → Rule} {new : ℕ → Seen → Seen} (S
 
   -- a page's slot after the visit of a table
   each-seen : (depth : ℕ) (h : ℕ → Tree → Tree) (f : ℕ → Tree) (page : ℕ)
-      → seen depth (h (slotOf page depth) (f (slotOf page depth))) page ≡ new page (seen depth (f (slotOf page depth)) page)
-      → seen (suc depth) (eachSlot h (node f)) page ≡ new page (seen depth (f (slotOf page depth)) page)
+      → seen depth (h (slotOfPage page depth) (f (slotOfPage page depth))) page ≡ new page (seen depth (f (slotOfPage page depth)) page)
+      → seen (suc depth) (eachSlot h (node f)) page ≡ new page (seen depth (f (slotOfPage page depth)) page)
   each-seen depth h f page below =
       ap (λ (t : Tree). seen (suc depth) t page) (each-node h f) ∙ seen-node depth (slotAfter h f) page
-      ∙ ap (λ (t : Tree). seen depth t page) (slot-after h f (slotOf page depth) (slot-lt page depth)) ∙ below
+      ∙ ap (λ (t : Tree). seen depth t page) (slot-after h f (slotOfPage page depth) (slot-lt page depth)) ∙ below
 
   obey-seen : (depth : ℕ) (r : Rule) (t u : Tree) (page : ℕ) → Right new (suc depth) t page r → seen (suc depth) u page ≡ new page (seen (suc depth) t page)
       → seen (suc depth) (obey r t u) page ≡ new page (seen (suc depth) t page)
@@ -111,7 +111,7 @@ module _ {rule : ℕ → ℕ → Tree → Rule} {new : ℕ → Seen → Seen} (S
   unfolding visit opened
   seen-visit zero q t page fine at = low-seen (rule zero (first zero q) t) t page (S .right zero q t page fine at)
   seen-visit (suc depth) q (leaf w) page fine at =
-      let i : ℕ = slotOf page depth in
+      let i : ℕ = slotOfPage page depth in
       let h : ℕ → Tree → Tree = λ i u. visit rule depth (child q i) u in
       obey-seen depth (rule (suc depth) (first (suc depth) q) (leaf w)) (leaf w) _ page (S .right (suc depth) q (leaf w) page fine at)
       (ap (λ (t : Tree). seen (suc depth) (eachSlot h t) page) (fill-node depth w)
@@ -119,7 +119,7 @@ module _ {rule : ℕ → ℕ → Tree → Rule} {new : ℕ → Seen → Seen} (S
       (seen-visit depth (child q i) (fillSlot depth w i) page (fine-fill-slots depth w fine i (slot-lt page depth)) (in-child depth q page at))
       ∙ ap (new page) (fill-slot-seen depth w page fine))
   seen-visit (suc depth) q (node f) page fine at =
-      let i : ℕ = slotOf page depth in
+      let i : ℕ = slotOfPage page depth in
       let h : ℕ → Tree → Tree = λ i u. visit rule depth (child q i) u in
       obey-seen depth (rule (suc depth) (first (suc depth) q) (node f)) (node f) _ page (S .right (suc depth) q (node f) page fine at)
       (each-seen depth h f page (seen-visit depth (child q i) (f i) page (fine i (slot-lt page depth)) (in-child depth q page at))
@@ -130,6 +130,6 @@ module _ {rule : ℕ → ℕ → Tree → Rule} {new : ℕ → Seen → Seen} (S
   unfolding visitTable
   seen-table depth q (leaf w) page fine at = absurd fine
   seen-table depth q (node f) page fine at =
-      let i : ℕ = slotOf page depth in
+      let i : ℕ = slotOfPage page depth in
       each-seen depth (λ i u. visit rule depth (child q i) u) f page (seen-visit depth (child q i) (f i) page (fine i (slot-lt page depth)) (in-child depth q page at))
       ∙ ap (new page) (sym (seen-node depth f page))

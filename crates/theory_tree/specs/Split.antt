@@ -12,8 +12,8 @@ use Rattle.laws.specs.Test.{byBool, le-or}
 use Rattle.entry.specs.Word.{addressOf, flagsOf, address-pages, valid, valid-none, flags-valid, leafWord as written}
 use Rattle.region.specs.Region.{region}
 use Rattle.theory_forest.specs.Tree.{Tree, leaf, node, node-ext}
-use Rattle.theory_tree.specs.Page.{span, span-size, span-pos, first, child, child-in, child-first, entry-start}
-use Rattle.theory_tree.specs.Word.{frameOf, leafWord, fillWord, pageBit, address-frame, leaf-hole, flags-none}
+use Rattle.theory_tree.specs.Page.{pagesIn, span-size, span-pos, first, child, child-in, child-first, entry-start}
+use Rattle.theory_tree.specs.Word.{frameIn, leafWordOf, fillWord, pageBit, address-frame, leaf-hole, flags-none}
 use Rattle.theory_tree.specs.Fine.{Fine, fill-flags, fill-is, fill-aligned}
 use Rattle.theory_tree.specs.Visit.{fillTree, visit, visitTable, visit-keep, visit-write}
 use Rattle.theory_tree.specs.Slots.{slotAfter, each-node, slot-after, slot-past, fillSlot, fill-node, fill-slot, fill-past}
@@ -24,7 +24,7 @@ use Rattle.theory_tree.specs.Root.{mapTree}
 
 -- the map that the split of the q-th entry runs, in pages
 abbrev splitMap : ℕ → ℕ → ℕ → Map
-splitMap depth q w = record { from = first (suc depth) q; upto = first (suc depth) q + span (suc depth); frame = frameOf w; flags = flagsOf w; blocks = true }
+splitMap depth q w = record { from = first (suc depth) q; upto = first (suc depth) q + pagesIn (suc depth); frame = frameIn w; flags = flagsOf w; blocks = true }
 
 module _ (depth q w : ℕ) (fine : Fine (suc depth) w) (low : suc depth ≤ 3) (i : ℕ) (l : i < 512) where
   abbrev m : Map
@@ -36,7 +36,7 @@ module _ (depth q w : ℕ) (fine : Fine (suc depth) w) (low : suc depth ≤ 3) (
   slot-meets : meets depth b m ≡ true
   slot-meets = let c = child-in depth q i l in let s = span-pos depth in yes-meets depth b m b (c .0) (omega arith) (omega arith) (omega arith)
 
-  frame-is : frameAt b m ≡ frameOf w + i * span depth
+  frame-is : frameAt b m ≡ frameIn w + i * pagesIn depth
   unfolding frameAt
   frame-is = let c = child-first depth q i in omega arith
 
@@ -46,14 +46,14 @@ module _ (depth q w : ℕ) (fine : Fine (suc depth) w) (low : suc depth ≤ 3) (
       let c = child-in depth q i l in
       rw (yes-whole depth b m (c .0) (c .1), frame-is, fill-aligned depth w fine i, lt-ltb depth 3 low)
 
-  word-is : leafWord depth (frameAt b m) (flagsOf w) ≡ fillWord depth w i
-  word-is = ap (λ (x : ℕ). leafWord depth x (flagsOf w)) frame-is ∙ sym (fill-is depth w fine i)
+  word-is : leafWordOf depth (frameAt b m) (flagsOf w) ≡ fillWord depth w i
+  word-is = ap (λ (x : ℕ). leafWordOf depth x (flagsOf w)) frame-is ∙ sym (fill-is depth w fine i)
 
 -- a word without flags is no block: rule 2 may find the flags there already
 bare : (depth w i : ℕ) → (fine : Fine (suc depth) w) → flagsOf w ≡ 0 → fillWord depth w i ≡ 0
 bare depth w i fine e =
     fill-is depth w fine i
-    ∙ leaf-hole (flagsOf w) (fill-flags depth w fine) depth (frameOf w + i * span depth) (valid-none (flagsOf w) (ap (λ (x : ℕ). x % 2) e)) ∙ e
+    ∙ leaf-hole (flagsOf w) (fill-flags depth w fine) depth (frameIn w + i * pagesIn depth) (valid-none (flagsOf w) (ap (λ (x : ℕ). x % 2) e)) ∙ e
 
 -- a slot of zeros after it
 slot-fill : (depth q w : ℕ) → Fine (suc depth) w → suc depth ≤ 3 → (i : ℕ) → i < 512
@@ -91,36 +91,36 @@ table-fill depth q w fine low = each-node each zeros ∙ node-ext (λ i. go i (l
 
 -- THE CRATE'S SPLIT of the word w in the q-th entry is the fill
 pub crate-split : (depth q w : ℕ) → Fine (suc depth) w → suc depth ≤ 3
-    → chunkedTable (documentRule (flagsOf w) true) depth (region (first (suc depth) q * 4096) ((first (suc depth) q + span (suc depth)) * 4096)) (addressOf w)
+    → chunkedTable (documentRule (flagsOf w) true) depth (region (first (suc depth) q * 4096) ((first (suc depth) q + pagesIn (suc depth)) * 4096)) (addressOf w)
     (node (λ i. leaf 0))
     ≡ fillTree depth w
 unfolding zeros
 crate-split depth q w fine low =
     let b : ℕ = first (suc depth) q in
-    let n : ℕ = span (suc depth) in
+    let n : ℕ = pagesIn (suc depth) in
     let inside : Inside b n (b * 4096) ((b + n) * 4096) (addressOf w) =
     record { startPage = omega arith; endPage = omega arith; framePage = address-pages w; low = omega arith; high = omega arith } in
     let start : b * 4096 / 4096 ≡ b = omega arith in
     let end : (b + n) * 4096 / 4096 ≡ b + n = omega arith in
-    let frame : addressOf w / 4096 ≡ frameOf w = omega (arith, address-frame w) in
+    let frame : addressOf w / 4096 ≡ frameIn w = omega (arith, address-frame w) in
     document-is (flagsOf w) true depth q (b * 4096) ((b + n) * 4096) (addressOf w) (λ i. leaf 0) (omega arith) inside
     ∙ rw (start, end, frame) (table-fill depth q w fine low)
 
 -- ---- the fill in addresses: the old address, cleared below the entry's size, in steps of the child's size; the flags alone if it wasn't valid
 pub fill-address : (depth w i : ℕ) → suc depth ≤ 3
     → fillWord depth w i ≡ cond (valid w) (written (3 - depth) (down (addressOf w) (sizeAt (3 - suc depth))) (flagsOf w) + i * sizeAt (3 - depth)) (flagsOf w)
-unfolding down fillWord leafWord first
+unfolding down fillWord leafWordOf first
 fill-address depth w i low =
-    let f : ℕ = frameOf w / span (suc depth) * span (suc depth) in
+    let f : ℕ = frameIn w / pagesIn (suc depth) * pagesIn (suc depth) in
     let size = span-size depth (omega arith) in
-    let frame : addressOf w / 4096 ≡ frameOf w = omega (arith, address-frame w) in
+    let frame : addressOf w / 4096 ≡ frameIn w = omega (arith, address-frame w) in
     let start : addressOf w / sizeAt (3 - suc depth) * sizeAt (3 - suc depth) ≡ f * 4096 =
-    entry-start (suc depth) (addressOf w) low ∙ ap (λ (x : ℕ). x / span (suc depth) * span (suc depth) * 4096) frame in
+    entry-start (suc depth) (addressOf w) low ∙ ap (λ (x : ℕ). x / pagesIn (suc depth) * pagesIn (suc depth) * 4096) frame in
     let pages : f * 4096 / 4096 ≡ f = omega arith in
-    let word = word-frames depth (f * 4096) (flagsOf w) (omega arith) (omega arith) ∙ ap (λ (x : ℕ). leafWord depth x (flagsOf w)) pages in
+    let word = word-frames depth (f * 4096) (flagsOf w) (omega arith) (omega arith) ∙ ap (λ (x : ℕ). leafWordOf depth x (flagsOf w)) pages in
     byBool (valid w)
-    (λ v. rw (start, word, flags-valid w, v) (steps f (i * span depth) (flagsOf w) (pageBit depth) (i * sizeAt (3 - depth))
-    (ap (λ (x : ℕ). i * x) size ∙ sym (mul-assoc i (span depth) 4096))))
+    (λ v. rw (start, word, flags-valid w, v) (steps f (i * pagesIn depth) (flagsOf w) (pageBit depth) (i * sizeAt (3 - depth))
+    (ap (λ (x : ℕ). i * x) size ∙ sym (mul-assoc i (pagesIn depth) 4096))))
     (λ v. rw (flags-valid w, v))
   where
     steps : (f k g c n : ℕ) → n ≡ k * 4096 → (f + k) * 4096 + g + c ≡ f * 4096 + g + c + n

@@ -13,12 +13,12 @@ use Rattle.region.specs.Region.{region}
 use Rattle.region.specs.Chunks.{chunks, met, met-step, chunks-none, chunks-step}
 use Rattle.region.specs.declared.MemoryRegion.{MemoryRegion}
 use Rattle.theory_forest.specs.Tree.{Tree, leaf, node, node-ext, eachSlot}
-use Rattle.theory_tree.specs.Page.{span, first, child, slotOf, slot-lt, child-order}
+use Rattle.theory_tree.specs.Page.{pagesIn, first, child, slotOfPage, slot-lt, child-order}
 use Rattle.theory_tree.specs.Visit.{Rule, fillTree, opened, obey, visit, visitTable}
 use Rattle.theory_tree.specs.Slots.{slotAfter, each-node, each-none, slot-after, slot-past, fillSlot, fill-node}
 use Rattle.theory_tree.specs.Rules.{Map, meets}
 use Rattle.theory_tree.specs.Local.{Agree, Local, meets-no, visit-off, visit-agree}
-use Rattle.theory_tree.specs.Chunks.{atSlot, sweep, chunked, chunkedTable, inPages, Inside, index-slot, Cut, cut}
+use Rattle.theory_tree.specs.Chunks.{atSlot, sweep, chunked, chunkedTable, inPages, Inside, index-slot, FirstCut, cut}
 
 -- ---- a region of table q, cut into its first chunk, from s to z in slot i, and the rest
 
@@ -30,7 +30,7 @@ pub data Shares (flags : ℕ) (blocks : Bool) (depth q s e p z i j : ℕ) : Type
       → Agree depth (first depth (child q i)) (inPages flags blocks s z p) (inPages flags blocks s e p) → Shares flags blocks depth q s e p z i j
   rest : j ≢ i → Agree depth (first depth (child q j)) (inPages flags blocks z e (p + (z - s))) (inPages flags blocks s e p) → Shares flags blocks depth q s e p z i j
 
-pub shares : (flags : ℕ) (blocks : Bool) (depth q s e p z i : ℕ) → Cut depth q s e p z i → (j : ℕ) → Shares flags blocks depth q s e p z i j
+pub shares : (flags : ℕ) (blocks : Bool) (depth q s e p z i : ℕ) → FirstCut depth q s e p z i → (j : ℕ) → Shares flags blocks depth q s e p z i j
 shares flags blocks depth q s e p z i c j = go (eq-or j i) (le-or i j)
   where
     go : (j ≡ i) ⊎ (j ≢ i) → (i ≤ j) ⊎ (j < i) → Shares flags blocks depth q s e p z i j
@@ -56,16 +56,16 @@ module _ {rule : Map → ℕ → ℕ → Tree → Rule} (L : Local rule) (rules 
   call s e p = inPages flags blocks s e p
 
   -- `rules` says of a chunk what `rule` says of its entry
-  abbrev pub Says : Type 0
-  Says = (depth q s e p : ℕ) (t : Tree) → depth ≤ 3 → s < e → Inside (first depth q) (span depth) s e p
+  abbrev pub RulesSay : Type 0
+  RulesSay = (depth q s e p : ℕ) (t : Tree) → depth ≤ 3 → s < e → Inside (first depth q) (pagesIn depth) s e p
       → rules depth (region s e) p t ≡ rule (call s e p) depth (first depth q) t
 
   -- the loop does with a chunk what the visit does with its entry
   abbrev Does : ℕ → Type 0
-  Does depth = (q s e p : ℕ) (t : Tree) → depth ≤ 3 → s < e → Inside (first depth q) (span depth) s e p
+  Does depth = (q s e p : ℕ) (t : Tree) → depth ≤ 3 → s < e → Inside (first depth q) (pagesIn depth) s e p
       → chunked rules depth (region s e) p t ≡ visit (rule (call s e p)) depth q t
 
-  module _ (depth q s e p z i : ℕ) (low : depth ≤ 3) (does : Does depth) (c : Cut depth q s e p z i) (f : ℕ → Tree) where
+  module _ (depth q s e p z i : ℕ) (low : depth ≤ 3) (does : Does depth) (c : FirstCut depth q s e p z i) (f : ℕ → Tree) where
     -- the slots after the first chunk
     abbrev g : ℕ → Tree
     g j = cond (eqb j i) (chunked rules depth (region s z) p (f j)) (f j)
@@ -124,7 +124,7 @@ module _ {rule : Map → ℕ → ℕ → Tree → Rule} (L : Local rule) (rules 
   table-visit depth q s e p t = refl
 
   sweep-is : (depth : ℕ) → depth ≤ 3 → Does depth → (n q s e p : ℕ) (f : ℕ → Tree) → met (3 - depth) s e ≡ n
-      → Inside (first (suc depth) q) (span (suc depth)) s e p
+      → Inside (first (suc depth) q) (pagesIn (suc depth)) s e p
       → sweep depth (λ d x u. chunked rules depth d x u) (chunks (3 - depth) s e) p (node f) ≡ visitTable (rule (call s e p)) depth q (node f)
   unfolding sweep atSlot
   sweep-is depth low does zero q s e p f n I = go (le-or e s)
@@ -141,13 +141,13 @@ module _ {rule : Map → ℕ → ℕ → Tree → Rule} (L : Local rule) (rules 
       Goal = sweep depth each (chunks (3 - depth) s e) p (node f) ≡ visitTable (rule (call s e p)) depth q (node f)
 
       go : (e ≤ s) ⊎ (s < e)
-          → ((z : ℕ) (y : ℕ → Tree) → met (3 - depth) z e ≡ n → Inside (first (suc depth) q) (span (suc depth)) z e (p + (z - s))
+          → ((z : ℕ) (y : ℕ → Tree) → met (3 - depth) z e ≡ n → Inside (first (suc depth) q) (pagesIn (suc depth)) z e (p + (z - s))
           → sweep depth each (chunks (3 - depth) z e) (p + (z - s)) (node y) ≡ visitTable (rule (call z e (p + (z - s)))) depth q (node y))
           → Goal
       go (inl h) ih = ap (λ (cs : List MemoryRegion). sweep depth each cs p (node f)) (chunks-none (3 - depth) s e h) ∙ sym (table-none depth q s e p f h)
       go (inr h) ih =
           let z : ℕ = chunkEnd (3 - depth) s e in
-          let i : ℕ = slotOf (s / 4096) depth in
+          let i : ℕ = slotOfPage (s / 4096) depth in
           let c = cut depth q s e p low h I in
           let fewer : met (3 - depth) (chunkEnd (3 - depth) s e) e ≡ n = let m = met-step (3 - depth) s e h in omega arith in
           ap (λ (cs : List MemoryRegion). sweep depth each cs p (node f)) (chunks-step (3 - depth) s e h)
@@ -157,7 +157,7 @@ module _ {rule : Map → ℕ → ℕ → Tree → Rule} (L : Local rule) (rules 
 
   -- ---- what the loop does
 
-  module _ (says : Says) where
+  module _ (says : RulesSay) where
     pub chunked-is : (depth : ℕ) → Does depth
     unfolding chunked visit opened
     chunked-is zero q s e p t low some I = ap (λ (x : Rule). obey x t t) (says zero q s e p t low some I)
@@ -171,7 +171,7 @@ module _ {rule : Map → ℕ → ℕ → Tree → Rule} (L : Local rule) (rules 
         (sweep-is depth (omega arith) (chunked-is depth) (met (3 - depth) s e) q s e p f refl I ∙ table-visit depth q s e p (node f))
 
     -- a call on a table, a region with no page too
-    pub table-is : (depth q s e p : ℕ) (f : ℕ → Tree) → depth ≤ 3 → Inside (first (suc depth) q) (span (suc depth)) s e p
+    pub table-is : (depth q s e p : ℕ) (f : ℕ → Tree) → depth ≤ 3 → Inside (first (suc depth) q) (pagesIn (suc depth)) s e p
         → chunkedTable rules depth (region s e) p (node f) ≡ visitTable (rule (call s e p)) depth q (node f)
     unfolding chunkedTable
     table-is depth q s e p f low I = sweep-is depth low (chunked-is depth) (met (3 - depth) s e) q s e p f refl I

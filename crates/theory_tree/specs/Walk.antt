@@ -12,8 +12,8 @@ use Rattle.entry.specs.declared.Kind.{Kind}
 use Rattle.entry.specs.declared.Kind.the-variants.{Table, Block, Page, Hole}
 use Rattle.theory_forest.specs.Tree.{Tree, leaf, node}
 use Rattle.theory_forest.specs.Walk.{walkTree}
-use Rattle.theory_tree.specs.Page.{span, slotOf, slot-lt, rest-child}
-use Rattle.theory_tree.specs.Word.{frameOf, leafWord, fillWord, flags-shown, plain-flags, leaf-hole, leaf-frame, leaf-plain, leaf-true}
+use Rattle.theory_tree.specs.Page.{pagesIn, slotOfPage, slot-lt, rest-child}
+use Rattle.theory_tree.specs.Word.{frameIn, leafWordOf, fillWord, flags-shown, plain-flags, leaf-hole, leaf-frame, leaf-plain, leaf-true}
 use Rattle.theory_tree.specs.Fine.{Fine, fine-flags, fine-leaf, fine-low, fill-flags, fill-is, fill-below, fill-aligned}
 
 -- what a page shows, which is what "as before" compares: flags without bit 1 and frame (its address / 4096), or a hole with its flags
@@ -35,12 +35,12 @@ framed Hole = false
 -- a word in an entry with `depth` levels below, read for a page: "the entry's address, cleared below the entry's size, plus the page's offset"
 unfoldable pub seenIn : ℕ → ℕ → ℕ → Seen
 seenIn depth w page =
-    cond (framed (kindOf (3 - depth) w)) (mapped (plainFlags w) (frameOf w / span depth * span depth + page % span depth)) (hole (plainFlags w))
+    cond (framed (kindOf (3 - depth) w)) (mapped (plainFlags w) (frameIn w / pagesIn depth * pagesIn depth + page % pagesIn depth)) (hole (plainFlags w))
 
 -- the walk to a page, from a tree that stands in an entry with `depth` levels below
 unfoldable pub walk : ℕ → Tree → ℕ → Answer
 walk depth t page =
-    let e = walkTree (slotOf page) depth t in
+    let e = walkTree (slotOfPage page) depth t in
     record { level = 3 - e .depth; seen = seenIn (e .depth) (e .word) page }
 
 abbrev pub seen : ℕ → Tree → ℕ → Seen
@@ -53,14 +53,14 @@ unfolding walk walkTree
 walk-leaf zero w page = refl
 walk-leaf (suc depth) w page = refl
 
-pub walk-node : (depth : ℕ) (f : ℕ → Tree) (page : ℕ) → walk (suc depth) (node f) page ≡ walk depth (f (slotOf page depth)) page
+pub walk-node : (depth : ℕ) (f : ℕ → Tree) (page : ℕ) → walk (suc depth) (node f) page ≡ walk depth (f (slotOfPage page depth)) page
 unfolding walk walkTree
 walk-node depth f page = refl
 
 pub seen-leaf : (depth w page : ℕ) → seen depth (leaf w) page ≡ seenIn depth w page
 seen-leaf depth w page = ap (λ (a : Answer). a .seen) (walk-leaf depth w page)
 
-pub seen-node : (depth : ℕ) (f : ℕ → Tree) (page : ℕ) → seen (suc depth) (node f) page ≡ seen depth (f (slotOf page depth)) page
+pub seen-node : (depth : ℕ) (f : ℕ → Tree) (page : ℕ) → seen (suc depth) (node f) page ≡ seen depth (f (slotOfPage page depth)) page
 seen-node depth f page = ap (λ (a : Answer). a .seen) (walk-node depth f page)
 
 -- a fine word has a frame exactly if it is valid
@@ -84,17 +84,17 @@ fine-framed depth w fine = go (eq-or (w % 4) 3) (eq-or (w % 4) 1)
     go (inr a) (inr b) = rw (kind-clear (3 - depth) w a b) (sym (valid-none w (omega arith)))
 
 pub seen-fine : (depth w page : ℕ) → Fine depth w
-    → seenIn depth w page ≡ cond (valid w) (mapped (plainFlags w) (frameOf w + page % span depth)) (hole (plainFlags w))
+    → seenIn depth w page ≡ cond (valid w) (mapped (plainFlags w) (frameIn w + page % pagesIn depth)) (hole (plainFlags w))
 unfolding seenIn
 seen-fine depth w page fine =
-    let whole : frameOf w / span depth * span depth ≡ frameOf w = omega (arith, div-add-mod' (frameOf w) (span depth), fine .aligned) in
+    let whole : frameIn w / pagesIn depth * pagesIn depth ≡ frameIn w = omega (arith, div-add-mod' (frameIn w) (pagesIn depth), fine .aligned) in
     rw (fine-framed depth w fine, whole)
 
 -- what a map writes is seen: the frame and the flags
-pub seen-leaf-word : (depth p f page : ℕ) → Plain f → p < 2 ^ 36 → p % span depth ≡ 0 → depth < 3 → valid f ≡ true
-    → seenIn depth (leafWord depth p f) page ≡ mapped f (p + page % span depth)
+pub seen-leaf-word : (depth p f page : ℕ) → Plain f → p < 2 ^ 36 → p % pagesIn depth ≡ 0 → depth < 3 → valid f ≡ true
+    → seenIn depth (leafWordOf depth p f) page ≡ mapped f (p + page % pagesIn depth)
 seen-leaf-word depth p f page F below at low v =
-    seen-fine depth (leafWord depth p f) page (fine-leaf depth p f F below at low)
+    seen-fine depth (leafWordOf depth p f) page (fine-leaf depth p f F below at low)
     ∙ rw (leaf-true f F depth p below v, leaf-plain f F depth p below v, leaf-frame f F depth p below v)
 
 -- flags alone are seen as a hole
@@ -102,19 +102,19 @@ pub seen-flags : (depth f page : ℕ) → Plain f → valid f ≡ false → seen
 seen-flags depth f page F v = seen-fine depth f page (fine-flags depth f F v) ∙ rw (v, flags-shown f F)
 
 -- a split is not seen
-pub fill-seen : (depth w page : ℕ) → Fine (suc depth) w → seenIn depth (fillWord depth w (slotOf page depth)) page ≡ seenIn (suc depth) w page
+pub fill-seen : (depth w page : ℕ) → Fine (suc depth) w → seenIn depth (fillWord depth w (slotOfPage page depth)) page ≡ seenIn (suc depth) w page
 fill-seen depth w page fine =
-    let i : ℕ = slotOf page depth in
+    let i : ℕ = slotOfPage page depth in
     let F = fill-flags depth w fine in
-    let sum : frameOf w + i * span depth + page % span depth ≡ frameOf w + page % span (suc depth) = omega (arith, rest-child page depth) in
+    let sum : frameIn w + i * pagesIn depth + page % pagesIn depth ≡ frameIn w + page % pagesIn (suc depth) = omega (arith, rest-child page depth) in
     let clear = plain-flags w (fine .clear (omega arith)) in
     ap (λ (x : ℕ). seenIn depth x page) (fill-is depth w fine i)
     ∙ byBool (valid w)
-    (λ v. seen-leaf-word depth (frameOf w + i * span depth) (flagsOf w) page F (fill-below depth w fine i (slot-lt page depth) v)
+    (λ v. seen-leaf-word depth (frameIn w + i * pagesIn depth) (flagsOf w) page F (fill-below depth w fine i (slot-lt page depth) v)
     (fill-aligned depth w fine i) (let l = fine-low depth w fine v in omega arith) (flags-valid w ∙ v)
     ∙ ap (mapped (flagsOf w)) sum
     ∙ sym (seen-fine (suc depth) w page fine ∙ rw (v, clear)))
     (λ v. let o = flags-valid w ∙ v in
-    ap (λ (x : ℕ). seenIn depth x page) (leaf-hole (flagsOf w) F depth (frameOf w + i * span depth) o)
+    ap (λ (x : ℕ). seenIn depth x page) (leaf-hole (flagsOf w) F depth (frameIn w + i * pagesIn depth) o)
     ∙ seen-flags depth (flagsOf w) page F o
     ∙ sym (seen-fine (suc depth) w page fine ∙ rw (v, clear)))

@@ -6,11 +6,11 @@ use Prim.Native.Nat.{ℕ, zero, suc, _+_, _*_, _/_, _%_, _^_, _<_}
 use native.Mathlib.Nat.{add-zero}
 use native.Mathlib.Omega.{arith}
 use Rattle.entry.specs.Word.{flagsOf, addressOf, address-back, flags-back, Plain, valid, plainFlags, valid-same, flags-low}
-use Rattle.theory_tree.specs.Page.{span}
+use Rattle.theory_tree.specs.Page.{pagesIn}
 
 -- the frame that a word names: bits 12 to 47, the address / 4096
-unfoldable pub frameOf : ℕ → ℕ
-frameOf w = w / 4096 % 2 ^ 36
+unfoldable pub frameIn : ℕ → ℕ
+frameIn w = w / 4096 % 2 ^ 36
 
 -- a page has bit 1, a block hasn't
 unfoldable pub pageBit : ℕ → ℕ
@@ -18,29 +18,29 @@ pageBit zero = 2
 pageBit (suc depth) = 0
 
 -- document 01, "Putting down a map", rules 1 and 3: the frame with the flags and, for a page, bit 1; "otherwise the flags alone"
-unfoldable pub leafWord : ℕ → ℕ → ℕ → ℕ
-leafWord depth frame flags = cond (valid flags) (frame * 4096 + flags + pageBit depth) flags
+unfoldable pub leafWordOf : ℕ → ℕ → ℕ → ℕ
+leafWordOf depth frame flags = cond (valid flags) (frame * 4096 + flags + pageBit depth) flags
 
 -- rule 5: what a split of the word w writes in slot i of the new table, whose entries have `depth` levels below
 unfoldable pub fillWord : ℕ → ℕ → ℕ → ℕ
-fillWord depth w i = leafWord depth (frameOf w / span (suc depth) * span (suc depth) + i * span depth) (flagsOf w)
+fillWord depth w i = leafWordOf depth (frameIn w / pagesIn (suc depth) * pagesIn (suc depth) + i * pagesIn depth) (flagsOf w)
 
 -- ---- frames and flags of a word
 
-pub frame-below : (w : ℕ) → frameOf w < 2 ^ 36
-unfolding frameOf
+pub frame-below : (w : ℕ) → frameIn w < 2 ^ 36
+unfolding frameIn
 frame-below w = omega arith
 
-pub frame-and-flags : (w : ℕ) → frameOf w * 4096 + flagsOf w ≡ w
-unfolding frameOf flagsOf
+pub frame-and-flags : (w : ℕ) → frameIn w * 4096 + flagsOf w ≡ w
+unfolding frameIn flagsOf
 frame-and-flags w = omega arith
 
-pub address-frame : (w : ℕ) → addressOf w ≡ frameOf w * 4096
-unfolding addressOf frameOf
+pub address-frame : (w : ℕ) → addressOf w ≡ frameIn w * 4096
+unfolding addressOf frameIn
 address-frame w = refl
 
-frame-address : (w p : ℕ) → addressOf w ≡ p * 4096 → frameOf w ≡ p
-unfolding addressOf frameOf
+frame-address : (w p : ℕ) → addressOf w ≡ p * 4096 → frameIn w ≡ p
+unfolding addressOf frameIn
 frame-address w p e = omega arith
 
 pub flags-none : flagsOf 0 ≡ 0
@@ -78,18 +78,18 @@ unfolding flagsOf
 frame-room p f below bits wide = let hi : f / 2 ^ 48 < 2 ^ 16 = omega arith in omega arith
 
 module _ (f : ℕ) (F : Plain f) where
-  pub flags-frame : frameOf f ≡ 0
+  pub flags-frame : frameIn f ≡ 0
   flags-frame = omega (arith, F .bits, frame-and-flags f)
 
   pub flags-shown : plainFlags f ≡ f
   flags-shown = plain-flags f (F .clear) ∙ F .bits
 
-  pub leaf-hole : (depth p : ℕ) → valid f ≡ false → leafWord depth p f ≡ f
-  unfolding leafWord
+  pub leaf-hole : (depth p : ℕ) → valid f ≡ false → leafWordOf depth p f ≡ f
+  unfolding leafWordOf
   leaf-hole depth p v = rw v
 
-  pub leaf-valid : (depth p : ℕ) → valid f ≡ true → leafWord depth p f ≡ p * 4096 + f + pageBit depth
-  unfolding leafWord
+  pub leaf-valid : (depth p : ℕ) → valid f ≡ true → leafWordOf depth p f ≡ p * 4096 + f + pageBit depth
+  unfolding leafWordOf
   leaf-valid depth p v = rw v
 
   bit-flags : (depth : ℕ) → flagsOf (f + pageBit depth) ≡ f + pageBit depth
@@ -103,33 +103,33 @@ module _ (f : ℕ) (F : Plain f) where
   bit-wide (suc depth) = omega (arith, F .wide)
 
   module _ (depth p : ℕ) (below : p < 2 ^ 36) (v : valid f ≡ true) where
-    sum-word : leafWord depth p f ≡ p * 4096 + (f + pageBit depth)
+    sum-word : leafWordOf depth p f ≡ p * 4096 + (f + pageBit depth)
     sum-word = leaf-valid depth p v ∙ (let e : p * 4096 + f + pageBit depth ≡ p * 4096 + (f + pageBit depth) = omega arith in e)
 
-    pub leaf-frame : frameOf (leafWord depth p f) ≡ p
+    pub leaf-frame : frameIn (leafWordOf depth p f) ≡ p
     leaf-frame =
         let a = address-back (p * 4096) (f + pageBit depth) (omega arith) (omega arith) (bit-flags depth) in
-        ap frameOf sum-word ∙ frame-address (p * 4096 + (f + pageBit depth)) p a
+        ap frameIn sum-word ∙ frame-address (p * 4096 + (f + pageBit depth)) p a
 
-    pub leaf-flags : flagsOf (leafWord depth p f) ≡ f + pageBit depth
+    pub leaf-flags : flagsOf (leafWordOf depth p f) ≡ f + pageBit depth
     leaf-flags = ap flagsOf sum-word ∙ flags-back (p * 4096) (f + pageBit depth) (omega arith) (omega arith) (bit-flags depth)
 
-    pub leaf-bit : leafWord depth p f / 2 % 2 ≡ pageBit depth / 2
+    pub leaf-bit : leafWordOf depth p f / 2 % 2 ≡ pageBit depth / 2
     unfolding pageBit
-    leaf-bit = go depth (leafWord depth p f) leaf-flags (flags-low (leafWord depth p f))
+    leaf-bit = go depth (leafWordOf depth p f) leaf-flags (flags-low (leafWordOf depth p f))
       where
         go : (k w : ℕ) → flagsOf w ≡ f + pageBit k → flagsOf w % 4 ≡ w % 4 → w / 2 % 2 ≡ pageBit k / 2
         go zero w g l = omega (arith, F .clear)
         go (suc k) w g l = omega (arith, F .clear)
 
-    pub leaf-plain : plainFlags (leafWord depth p f) ≡ f
-    leaf-plain = omega (arith, plain-bit (leafWord depth p f), leaf-flags, leaf-bit, bit-even depth)
+    pub leaf-plain : plainFlags (leafWordOf depth p f) ≡ f
+    leaf-plain = omega (arith, plain-bit (leafWordOf depth p f), leaf-flags, leaf-bit, bit-even depth)
 
     -- it is valid
-    pub leaf-true : valid (leafWord depth p f) ≡ true
+    pub leaf-true : valid (leafWordOf depth p f) ≡ true
     leaf-true =
-        let o : leafWord depth p f % 2 ≡ f % 2 = omega (arith, flags-low (leafWord depth p f), leaf-flags, bit-even depth) in
-        valid-same (leafWord depth p f) f o ∙ v
+        let o : leafWordOf depth p f % 2 ≡ f % 2 = omega (arith, flags-low (leafWordOf depth p f), leaf-flags, bit-even depth) in
+        valid-same (leafWordOf depth p f) f o ∙ v
 
-    pub leaf-wide : leafWord depth p f < 2 ^ 64
+    pub leaf-wide : leafWordOf depth p f < 2 ^ 64
     leaf-wide = let room = frame-room p (f + pageBit depth) below (bit-flags depth) (bit-wide depth) in let e = sum-word in omega arith

@@ -21,13 +21,13 @@ use Rattle.pool.specs.declared.VaRange.the-variants.{Lower, Upper}
 use Rattle.pool.specs.declared.Refusal.{Refusal}
 use Rattle.pool.specs.declared.Outcome.{Outcome}
 use Rattle.pool.specs.declared.Outcome.the-variants.{Accepted, Refused}
-use Rattle.region_verify.specs.Verify.{span, verify, InSpan, verified-forwards, verified-span}
+use Rattle.region_verify.specs.Verify.{span, verify, RegionInSpan, verified-forwards, verified-span}
 use Rattle.theory_sound.specs.Decide.{decide-sound}
 use Rattle.arm.specs.Arm.{lowBit, at, away, says, reach}
 use Rattle.arm.specs.Walk.{size-is}
 use Rattle.look_up.specs.Call.{answer, spanned, lookUpCall}
 use Rattle.list_lines.specs.Lines.{Line, linesOf}
-use Rattle.list_lines.specs.Cover.{Covers, covers-map, Meets, list-covers, nth, inside, ascending, holds, InLine, covered}
+use Rattle.list_lines.specs.Cover.{Covers, covers-map, Meets, list-covers, nthLine, inside, ascending, holds, InLine, covered}
 use Rattle.list.specs.Call.{verifyEnds, listing, put, listLines, listSound, listVerified, listCall, ends-verified}
 use Rattle.list.specs.declared.Listed.{Listed}
 use Rattle.list.specs.declared.Listed.the-variants.{Lines, Refused as refused}
@@ -77,18 +77,18 @@ module _ (h : Handle) (s : St) where
     pub looks : (a : ℕ) → l .start ≤ a → a < l .end → lookUpCall h s a ≡ answer (says a (at (l .level) (l .word)))
     pub alike : (a b : ℕ) → l .start ≤ a → a < l .end → l .start ≤ b → b < l .end → Alike a b (lookUpCall h s a) (lookUpCall h s b)
 
-  pub record Shows (r : MemoryRegion) (ls : List Line) : Type 0 where
+  pub record LinesShow (r : MemoryRegion) (ls : List Line) : Type 0 where
     -- in the region, and none empty
-    pub within : (i : ℕ) → i < length ls → (r .start .0 ≤ nth ls i .start) × (nth ls i .start < nth ls i .end) × (nth ls i .end ≤ r .end .0)
+    pub within : (i : ℕ) → i < length ls → (r .start .0 ≤ nthLine ls i .start) × (nthLine ls i .start < nthLine ls i .end) × (nthLine ls i .end ≤ r .end .0)
     -- ascending and disjoint: a line ends where a later one begins, or before
-    pub ascends : (i j : ℕ) → i < j → j < length ls → nth ls i .end ≤ nth ls j .start
+    pub ascends : (i j : ℕ) → i < j → j < length ls → nthLine ls i .end ≤ nthLine ls j .start
     -- every address of the region is in a line
     pub covers : (a : ℕ) → r .start .0 ≤ a → a < r .end .0 → InLine Walks ls a
     -- and every line says what the walk meets
-    pub walks : (i : ℕ) → i < length ls → Walks (nth ls i)
+    pub walks : (i : ℕ) → i < length ls → Walks (nthLine ls i)
 
 -- the addresses of a region that was verified lie in the span
-spans : (range : VaRange) (level : ℕ) (r : MemoryRegion) → InSpan range level r → (a : ℕ) → r .start .0 ≤ a → a < r .end .0 → spanned range level a ≡ true
+spans : (range : VaRange) (level : ℕ) (r : MemoryRegion) → RegionInSpan range level r → (a : ℕ) → r .start .0 ≤ a → a < r .end .0 → spanned range level a ≡ true
 unfolding spanned span
 spans Lower level r e a l u = lt-ltb a (512 * 2 ^ lowBit level) (let p = size-is level in omega arith)
 spans Upper level r e a l u = le-leb (2 ^ 64 - 512 * 2 ^ lowBit level) a (let p = size-is level in omega arith)
@@ -132,7 +132,7 @@ module _ (h : Handle) (s : St) (start end : ℕ) where
 
   -- THE LIST IS THE WALK: an accepted list gives the count of the lines, writes them at the front of what was lent, and they show what the walk meets
   pub list-walks : (list : List ℕ) {after : List ℕ} {count : ℕ} → listCall h s start end list ≡ listing (Lines count) after
-      → (length ls ≡ count) × (put ls list ≡ after) × Shows h s r ls
+      → (length ls ≡ count) × (put ls list ≡ after) × LinesShow h s r ls
   list-walks list e =
       let accepted = list-accepted e in
       let walk = lines-walk accepted in
@@ -140,5 +140,5 @@ module _ (h : Handle) (s : St) (start end : ℕ) where
 
   -- look up answers alike in every page of one line
   pub line-alike : (list : List ℕ) {after : List ℕ} {count : ℕ} → listCall h s start end list ≡ listing (Lines count) after → (i : ℕ) → i < count → (a b : ℕ)
-      → nth ls i .start ≤ a → a < nth ls i .end → nth ls i .start ≤ b → b < nth ls i .end → Alike a b (lookUpCall h s a) (lookUpCall h s b)
+      → nthLine ls i .start ≤ a → a < nthLine ls i .end → nthLine ls i .start ≤ b → b < nthLine ls i .end → Alike a b (lookUpCall h s a) (lookUpCall h s b)
   line-alike list e i known = let shown = list-walks list e in shown .2 .walks i (omega (arith, shown .0)) .alike

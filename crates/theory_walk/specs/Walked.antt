@@ -18,15 +18,15 @@ use Rattle.theory_sound.specs.Codec.{shaped-placed, childOf, slotWord, word-in,
 use Rattle.theory_sound.specs.Hanging.{root-left, Leads, table-leads, leads-refers}
 use Rattle.arm.specs.Arm.{index, tableAddress, away, says, reach, walk}
 use Rattle.arm.specs.Walk.{slot-below, table-address}
-use Rattle.theory_walk.specs.Any.{slotsOf, met, inPool, tableOf, word, reach-reading}
+use Rattle.theory_walk.specs.Any.{slotsTaken, reachedAt, hasTable, tableOf, word, reach-reading}
 
 root-used : {h : Handle} {s : St} → Shaped h s → SoundPool h s → InUse s 0
 unfolding rootNumber
 root-used shape P = omega (arith, P .root)
 
 -- where the code finds a table, there the Arm walk goes on
-found-in : (base n : ℕ) {level x w c : ℕ} → x ≡ w → Found base n level w c → (inPool base n x ≡ true) × (tableOf base x ≡ c)
-unfolding inPool tableOf
+found-in : (base n : ℕ) {level x w c : ℕ} → x ≡ w → Found base n level w c → (hasTable base n x ≡ true) × (tableOf base x ≡ c)
+unfolding hasTable tableOf
 found-in base n {x = x} is found =
     let a = table-address x ∙ ap addressOf is in
     let from : base ≤ tableAddress x = omega (arith, a, found .from) in
@@ -43,8 +43,8 @@ module _ {h : Handle} {s : St} (shape : Shaped h s) (P : SoundPool h s) (va : �
 
   -- its table words lead to used tables one level down
   on : (depth k : ℕ) → On (suc depth) k → let x = word base (tables s) s va (suc depth) k in
-      x % 4 ≡ 3 → (inPool base (tables s) x ≡ true) × (tableOf base x ≡ childOf base x) × On depth (childOf base x)
-  unfolding slotsOf
+      x % 4 ≡ 3 → (hasTable base (tables s) x ≡ true) × (tableOf base x ≡ childOf base x) × On depth (childOf base x)
+  unfolding slotsTaken
   on depth k o both = go (table-leads shape P k i (o .1) inside (omega (arith, o .0), ap (λ (w : ℕ). w % 4) (sym is) ∙ both))
     where
       i : ℕ
@@ -59,7 +59,7 @@ module _ {h : Handle} {s : St} (shape : Shaped h s) (P : SoundPool h s) (va : �
       is : x ≡ wordAt s k i
       is = word-in s k i inside
 
-      go : (c : ℕ) × Leads h s k i c → (inPool base (tables s) x ≡ true) × (tableOf base x ≡ childOf base x) × On depth (childOf base x)
+      go : (c : ℕ) × Leads h s k i c → (hasTable base (tables s) x ≡ true) × (tableOf base x ≡ childOf base x) × On depth (childOf base x)
       go (c, leads) =
           let r = leads-refers shape P leads in
           let child : childOf base x ≡ c = refers-child r in
@@ -68,14 +68,14 @@ module _ {h : Handle} {s : St} (shape : Shaped h s) (P : SoundPool h s) (va : �
           (found .0, found .1 ∙ sym child, rw child (omega (arith, o .0, below), r .used))
 
   -- the walk of an address is the walk of the root's tree, and so never leads away
-  pub reach-tree : reach base (tables s) (s .words) va (h .level) ≡ met (walkTree (slotsOf va) (suc (3 - h .level)) (rootTree h s))
+  pub reach-tree : reach base (tables s) (s .words) va (h .level) ≡ reachedAt (walkTree (slotsTaken va) (suc (3 - h .level)) (rootTree h s))
   unfolding reach
   reach-tree = reach-reading base (tables s) s va (childOf base) On on (3 - h .level) 0 (root-left (shaped-placed shape) P, root-used shape P)
 
   pub never-away : reach base (tables s) (s .words) va (h .level) ≢ away
-  unfolding met
+  unfolding reachedAt
   never-away e = let z : _≡_ {A = ℕ} 0 1 = cc (sym reach-tree ∙ e) in omega arith
 
-  pub walk-of-tree : walk base (tables s) (s .words) va (h .level) ≡ says va (met (walkTree (slotsOf va) (suc (3 - h .level)) (rootTree h s)))
+  pub walk-of-tree : walk base (tables s) (s .words) va (h .level) ≡ says va (reachedAt (walkTree (slotsTaken va) (suc (3 - h .level)) (rootTree h s)))
   unfolding walk
   walk-of-tree = ap (says va) reach-tree

@@ -21,7 +21,7 @@ use Rattle.checker_pass.proofs.scan_tables.Tie as tie
 use Rattle.checker_pass.proofs.scan_tables.Reads as reads
 use Rattle.checker_pass.proofs.scan_tables.Lts as lts
 use Rattle.pool_handle.proofs.flag_set.Reads as flag-set-reads
-use Rattle.checker_words.proofs.scan.Reads as scan-reads
+use Rattle.checker_words.proofs.scan_run.Reads as scan-run-reads
 use Rattle.checker_ledger.proofs.table_holds.Reads as table-holds-reads
 
 abbrev Inv-loop : tie.InvT-loop
@@ -51,7 +51,7 @@ passed c =
     let r = c .before .before .before .before .before .before .loop .r in
     let size : 512 * k + 128 * r + 128 - (512 * k + 128 * r) ≡ 128 = omega arith in
     let p = run-passed (flagSet (a .handle)) (numberAt s k) (runWords s k r)
-    (c .before .before .before .scan .ensures ∙ ap₂ (λ (m l : ℕ). runOf m (numberAt s k) (partOf (512 * k + 128 * r) l (a .words .now))) (c .before .before .before .before .before .before .before .before .before .before .before .before .flag-set .ensures) size) _
+    (c .before .before .before .scan-run .ensures ∙ ap₂ (λ (m l : ℕ). runOf m (numberAt s k) (partOf (512 * k + 128 * r) l (a .words .now))) (c .before .before .before .before .before .before .before .before .before .before .before .before .flag-set .ensures) size) _
     (c .before .run .given .1) in
     let long = length-part (512 * k + 128 * r) 128 (a .words .now) (omega (arith, c .before .before .before .before .before .before .before .before .before .before .before .before .before .before .before .pre .sized)) in
     (rw (p .0) tt, p .1, omega (arith, p .1, count-below (numberAt s k) (runWords s k r)))
@@ -92,25 +92,25 @@ add-e : tie.Need-add-e Inv-loop μ-loop Inv-tables μ-tables
 unfolding maxTables
 add-e c = let p = c .before .before .before .before .before .before .before .before .before .before .pre in omega (arith, p .sized, p .limit)
 
-mul-scan : tie.Need-mul-scan Inv-loop μ-loop Inv-tables μ-tables
+mul-scan-run : tie.Need-mul-scan-run Inv-loop μ-loop Inv-tables μ-tables
 unfolding maxTables
-mul-scan c = let p = c .before .before .before .before .before .before .before .before .before .before .pre in omega (arith, p .sized, p .limit)
+mul-scan-run c = let p = c .before .before .before .before .before .before .before .before .before .before .pre in omega (arith, p .sized, p .limit)
 
-sub-scan : tie.Need-sub-scan Inv-loop μ-loop Inv-tables μ-tables
+sub-scan-run : tie.Need-sub-scan-run Inv-loop μ-loop Inv-tables μ-tables
 unfolding maxTables
-sub-scan c = let p = c .before .before .before .before .before .before .before .before .before .before .pre in omega (arith, p .sized, p .limit)
+sub-scan-run c = let p = c .before .before .before .before .before .before .before .before .before .before .pre in omega (arith, p .sized, p .limit)
 
-part-scan-start : tie.Need-part-scan-start Inv-loop μ-loop Inv-tables μ-tables
+part-scan-run-start : tie.Need-part-scan-run-start Inv-loop μ-loop Inv-tables μ-tables
 unfolding maxTables
-part-scan-start c = let p = c .before .before .before .before .before .before .before .before .before .before .pre in omega (arith, p .sized, p .limit)
+part-scan-run-start c = let p = c .before .before .before .before .before .before .before .before .before .before .pre in omega (arith, p .sized, p .limit)
 
-part-scan-end : tie.Need-part-scan-end Inv-loop μ-loop Inv-tables μ-tables
+part-scan-run-end : tie.Need-part-scan-run-end Inv-loop μ-loop Inv-tables μ-tables
 unfolding maxTables
-part-scan-end c = let p = c .before .before .before .before .before .before .before .before .before .before .pre in omega (arith, p .sized, p .limit)
+part-scan-run-end c = let p = c .before .before .before .before .before .before .before .before .before .before .pre in omega (arith, p .sized, p .limit)
 
-scan-requires : tie.Need-scan-requires Inv-loop μ-loop Inv-tables μ-tables
+scan-run-requires : tie.Need-scan-run-requires Inv-loop μ-loop Inv-tables μ-tables
 unfolding flagSet
-scan-requires c κs = subst⁻¹ PlainSet (c .before .before .before .before .before .before .before .before .flag-set .ensures) el1-plain
+scan-run-requires c κs = subst⁻¹ PlainSet (c .before .before .before .before .before .before .before .before .flag-set .ensures) el1-plain
 
 enum-known-run : tie.Need-enum-known-run Inv-loop μ-loop Inv-tables μ-tables
 enum-known-run c = omega arith
@@ -189,7 +189,7 @@ returns-3 c =
     tables-failed (a .handle) s k (omega arith)
     (run-fails (a .handle) s k r (omega arith)
     (run-failed (flagSet (a .handle)) (numberAt s k) (runWords s k r)
-    (c .before .before .scan .ensures
+    (c .before .before .scan-run .ensures
     ∙ ap₂ (λ (m l : ℕ). runOf m (numberAt s k) (partOf (512 * k + 128 * r) l (a .words .now))) (c .before .before .before .before .before .before .before .before .before .before .before .flag-set .ensures) size)
     (c .enum-told .given .1)))
 
@@ -211,11 +211,11 @@ scan-tables-spec =
     mul-a-2
     add-a
     add-e
-    mul-scan
-    sub-scan
-    part-scan-start
-    part-scan-end
-    scan-requires
+    mul-scan-run
+    sub-scan-run
+    part-scan-run-start
+    part-scan-run-end
+    scan-run-requires
     enum-known-run
     enum-told
     add-links

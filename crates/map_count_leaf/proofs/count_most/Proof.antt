@@ -11,10 +11,10 @@ use Rattle.map_count_leaf.proofs.count_most.Lts as lts
 use Rattle.map_count_leaf.proofs.entries_met.Reads as entries-met-reads
 
 abbrev Inv-loop : tie.InvT-loop
-Inv-loop start end level count₀ below₀ count below = count + mets (3 - below) start end ≡ mets (3 - level) start end
+Inv-loop level start end count₀ below₀ count below = count + mets (3 - below) start end ≡ mets (3 - level) start end
 
 abbrev μ-loop : tie.MeasureT-loop
-μ-loop start end level count₀ below₀ count below = 3 - below
+μ-loop level start end count₀ below₀ count below = 3 - below
 
 loop-holds : tie.Need-loop-holds Inv-loop μ-loop
 loop-holds c = omega arith

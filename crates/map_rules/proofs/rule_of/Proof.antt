@@ -12,7 +12,7 @@ use Rattle.map_rules.proofs.rule_of.Tie as tie
 use Rattle.map_rules.proofs.rule_of.Reads as reads
 use Rattle.map_rules.proofs.rule_of.Lts as lts
 use Rattle.map_rules.proofs.is_blockable.Reads as is-blockable-reads
-use Rattle.map_rules.proofs.is_same.Reads as is-same-reads
+use Rattle.map_rules.proofs.is_already_mapped.Reads as is-already-mapped-reads
 use Rattle.map_rules.proofs.leaf_word.Reads as leaf-word-reads
 use Rattle.region.proofs.MemoryRegion.is_block.Reads as is-block-reads
 
@@ -26,23 +26,23 @@ leaf-word-requires c κs = leaf-needs (c .before)
 returns : tie.Need-returns
 returns c = let a = c .before .before .args in ap Write (c .leaf-word .ensures) ∙ rule-page (a .level) (a .map) (a .word) (c .before .if1 .taken)
 
-is-same-requires : tie.Need-is-same-requires
-is-same-requires c κs = search needs
+is-already-mapped-requires : tie.Need-is-already-mapped-requires
+is-already-mapped-requires c κs = search needs
 
 returns-2 : tie.Need-returns-2
-returns-2 c = let a = c .before .before .before .args in rule-keep (a .level) (a .map) (a .word) (omega arith) (sym (c .before .is-same .ensures) ∙ c .if2 .taken)
+returns-2 c = let a = c .before .before .before .args in rule-keep (a .level) (a .map) (a .word) (omega arith) (sym (c .before .is-already-mapped .ensures) ∙ c .if2 .taken)
 
 is-block-requires : tie.Need-is-block-requires
 is-block-requires c κs = search needs
 
 returns-3 : tie.Need-returns-3
-returns-3 c = let a = c .before .before .before .before .before .before .args in rule-part (a .level) (a .map) (a .word) (omega arith) (sym (c .before .before .before .before .is-same .ensures) ∙ c .before .before .before .if2 .left) (sym (c .before .is-block .ensures) ∙ not-true _ (c .if3 .taken))
+returns-3 c = let a = c .before .before .before .before .before .before .args in rule-part (a .level) (a .map) (a .word) (omega arith) (sym (c .before .before .before .before .is-already-mapped .ensures) ∙ c .before .before .before .if2 .left) (sym (c .before .is-block .ensures) ∙ not-true _ (c .if3 .taken))
 
 returns-4 : tie.Need-returns-4
-returns-4 c = let a = c .before .before .before .before .before .before .before .before .before .args in rule-drop (a .level) (a .map) (a .word) (omega arith) (sym (c .before .before .before .before .before .before .before .is-same .ensures) ∙ c .before .before .before .before .before .before .if2 .left) (sym (c .before .before .before .before .is-block .ensures) ∙ not-false _ (c .before .before .before .if3 .left)) (c .before .before .if4 .taken) (c .if5 .taken)
+returns-4 c = let a = c .before .before .before .before .before .before .before .before .before .args in rule-drop (a .level) (a .map) (a .word) (omega arith) (sym (c .before .before .before .before .before .before .before .is-already-mapped .ensures) ∙ c .before .before .before .before .before .before .if2 .left) (sym (c .before .before .before .before .is-block .ensures) ∙ not-false _ (c .before .before .before .if3 .left)) (c .before .before .if4 .taken) (c .if5 .taken)
 
 returns-5 : tie.Need-returns-5
-returns-5 c = let a = c .before .before .before .before .before .before .before .before .before .args in rule-into (a .level) (a .map) (a .word) (omega arith) (sym (c .before .before .before .before .before .before .before .is-same .ensures) ∙ c .before .before .before .before .before .before .if2 .left) (sym (c .before .before .before .before .is-block .ensures) ∙ not-false _ (c .before .before .before .if3 .left)) (c .before .before .if4 .taken) (c .if5 .left)
+returns-5 c = let a = c .before .before .before .before .before .before .before .before .before .args in rule-into (a .level) (a .map) (a .word) (omega arith) (sym (c .before .before .before .before .before .before .before .is-already-mapped .ensures) ∙ c .before .before .before .before .before .before .if2 .left) (sym (c .before .before .before .before .is-block .ensures) ∙ not-false _ (c .before .before .before .if3 .left)) (c .before .before .if4 .taken) (c .if5 .left)
 
 is-blockable-requires : tie.Need-is-blockable-requires
 is-blockable-requires c κs = search needs
@@ -54,13 +54,13 @@ returns-6 : tie.Need-returns-6
 returns-6 c =
     let a = c .before .before .before .before .before .before .before .before .before .before .args in
     ap Write (c .leaf-word2 .ensures)
-    ∙ rule-block (a .level) (a .map) (a .word) (omega arith) (sym (c .before .before .before .before .before .before .before .before .is-same .ensures) ∙ c .before .before .before .before .before .before .before .if2 .left) (sym (c .before .before .before .before .before .is-block .ensures) ∙ not-false _ (c .before .before .before .before .if3 .left)) (c .before .before .before .if4 .left)
+    ∙ rule-block (a .level) (a .map) (a .word) (omega arith) (sym (c .before .before .before .before .before .before .before .before .is-already-mapped .ensures) ∙ c .before .before .before .before .before .before .before .if2 .left) (sym (c .before .before .before .before .before .is-block .ensures) ∙ not-false _ (c .before .before .before .before .if3 .left)) (c .before .before .before .if4 .left)
     (sym (c .before .before .is-blockable .ensures) ∙ c .before .if6 .taken)
 
 returns-7 : tie.Need-returns-7
 returns-7 c =
     let a = c .before .before .before .before .before .before .before .before .before .args in
-    rule-split (a .level) (a .map) (a .word) (omega arith) (sym (c .before .before .before .before .before .before .before .is-same .ensures) ∙ c .before .before .before .before .before .before .if2 .left) (sym (c .before .before .before .before .is-block .ensures) ∙ not-false _ (c .before .before .before .if3 .left)) (c .before .before .if4 .left)
+    rule-split (a .level) (a .map) (a .word) (omega arith) (sym (c .before .before .before .before .before .before .before .is-already-mapped .ensures) ∙ c .before .before .before .before .before .before .if2 .left) (sym (c .before .before .before .before .is-block .ensures) ∙ not-false _ (c .before .before .before .if3 .left)) (c .before .before .if4 .left)
     (sym (c .before .is-blockable .ensures) ∙ c .if6 .left)
 
 pub rule-of-spec : {M : Type 1} → statement M
@@ -69,7 +69,7 @@ rule-of-spec =
     (tie.spec
     leaf-word-requires
     returns
-    is-same-requires
+    is-already-mapped-requires
     returns-2
     is-block-requires
     returns-3

@@ -7,7 +7,7 @@ use borrow.Author.Tests.{not-true, not-false}
 use Rattle.pool.specs.State.{st}
 use Rattle.pool.specs.Refuse.{shaped, shaped-says}
 use Rattle.modify_entry.specs.declared.Edit.{Edit}
-use Rattle.modify_verify.specs.Permit.{verifyEdit, asked, asked-is, asked-span}
+use Rattle.modify_verify.specs.Permit.{verifyEdit, askedEdit, asked-is, asked-span}
 use Rattle.modify.specs.Call.{modifySound, call-misshaped, call-refused, call-asked}
 use Rattle.modify.proofs.modify.Statement.{statement}
 use Rattle.modify.proofs.modify.Tie as tie
@@ -23,11 +23,11 @@ good : (c : tie.Else1) → let a = c .before .before .before .before .before .be
 good c = sym (c .before .is-shaped .ensures) ∙ not-false _ (c .if1 .left)
 
 -- the edit that is asked for
-edit : (c : tie.After-new) → let a = c .before .before .before .before .before .before .before .before .args in _≡_ {A = Edit} (record { region = c .new .result; set = a .set; clear = a .clear; live = a .live }) (asked (a .start .0) (a .end .0) (a .set) (a .clear) (a .live))
+edit : (c : tie.After-new) → let a = c .before .before .before .before .before .before .before .before .args in _≡_ {A = Edit} (record { region = c .new .result; set = a .set; clear = a .clear; live = a .live }) (askedEdit (a .start .0) (a .end .0) (a .set) (a .clear) (a .live))
 edit c = let a = c .before .before .before .before .before .before .before .before .args in asked-is (a .start .0) (a .end .0) (a .set) (a .clear) (a .live) (c .new .ensures)
 
 -- what is asked of it
-verified : (c : tie.After-verify-edit) → let a = c .before .before .before .before .before .before .before .before .before .args in c .verify-edit .result ≡ verifyEdit (a .handle) (a .end .0) (asked (a .start .0) (a .end .0) (a .set) (a .clear) (a .live))
+verified : (c : tie.After-verify-edit) → let a = c .before .before .before .before .before .before .before .before .before .args in c .verify-edit .result ≡ verifyEdit (a .handle) (a .end .0) (askedEdit (a .start .0) (a .end .0) (a .set) (a .clear) (a .live))
 verified c = let a = c .before .before .before .before .before .before .before .before .before .args in c .verify-edit .ensures ∙ ap (verifyEdit (a .handle) (a .end .0)) (edit (c .before))
 
 is-shaped-requires : tie.Need-is-shaped-requires

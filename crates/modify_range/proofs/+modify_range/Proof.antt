@@ -11,7 +11,7 @@ use Rattle.pool.specs.Refuse.{Shaped, shaped-keep}
 use Rattle.map_split.specs.Split.{below-inside}
 use Rattle.modify_entry.specs.declared.Edit.{Edit}
 use Rattle.modify_entry.specs.Each.{eachChunk, each-done, each-step}
-use Rattle.modify_range.specs.Range.{Work, work, own, ownWork, modifyRange, stepAt, own-done, modify-pages, modify-open, step-own, step-none, step-into}
+use Rattle.modify_range.specs.Range.{Work, work, own, ownWork, modifyRange, downStep, own-done, modify-pages, modify-open, step-own, step-none, step-into}
 use Prim.Native.Nat.{ℕ, _<_}
 use borrow.Fn.Kinds.{In}
 use borrow.Fn.PlainCycle.{Measures, is, falls, and}
@@ -48,8 +48,8 @@ calls t = (edit-own-reads.Asked, edit-own-reads.Learnt, chunk-end-reads.Asked, c
 abbrev modify-range-Inv-loop : modify-range-lts.InvT-loop
 modify-range-Inv-loop words₀ ledger₀ handle k level edit list₀ before end at₀ count₀ words ledger list at count =
     (length words ≡ length words₀) × (length ledger ≡ length ledger₀) × (length list ≡ length list₀)
-    × (eachChunk level (stepAt handle k level edit) (region at (edit .region .end .0)) (work (st words ledger) list count)
-    ≡ eachChunk level (stepAt handle k level edit) (edit .region) (work (st words₀ ledger₀) list₀ before))
+    × (eachChunk level (downStep handle k level edit) (region at (edit .region .end .0)) (work (st words ledger) list count)
+    ≡ eachChunk level (downStep handle k level edit) (edit .region) (work (st words₀ ledger₀) list₀ before))
 
 abbrev modify-range-μ-loop : modify-range-lts.MeasureT-loop
 modify-range-μ-loop words₀ ledger₀ handle k level edit list₀ before end at₀ count₀ words ledger list at count = edit .region .end .0 - at
@@ -70,7 +70,7 @@ record Facts (t : ℕ) (c : Place t) : Type 0 where
   index : c .entry-index .result ≡ entryIndex (c .before .before .before .before .before .before .before .before .args .level) (c .before .before .before .loop .at)
   shape : Shaped (c .before .before .before .before .before .before .before .before .args .handle) (st (c .before .before .before .loop .words) (c .before .before .before .loop .ledger))
   table : c .before .before .before .before .before .before .before .before .args .k < length (c .before .before .before .loop .ledger)
-  next : let a = c .before .before .before .before .before .before .before .before .args in let f = stepAt (a .handle) (a .k) (a .level) (a .edit) in
+  next : let a = c .before .before .before .before .before .before .before .before .args in let f = downStep (a .handle) (a .k) (a .level) (a .edit) in
       eachChunk (a .level) f (region (c .before .chunk-end .result) (a .edit .region .end .0)) (f (region (c .before .before .before .loop .at) (c .before .chunk-end .result)) (workOf t c))
       ≡ eachChunk (a .level) f (a .edit .region) (work (st (a .words .now) (a .ledger .now)) (a .list .now) (a .before))
 
@@ -85,7 +85,7 @@ facts t c =
     let low = c .before .before .loop-test .taken in
     let stop = c .before .chunk-end .ensures in
     let fits = chunk-fits (a .level) (at .loop .at) (a .edit .region .end .0) low in
-    let f = stepAt (a .handle) (a .k) (a .level) (a .edit) in
+    let f = downStep (a .handle) (a .k) (a .level) (a .edit) in
     record {
       high = omega arith;
       above = omega (arith, fits .0);
@@ -100,12 +100,12 @@ facts t c =
     }
 
 -- what is left to do after the chunk, where the step is known
-onwards : (t : ℕ) (c : Place t) (w : Work) → let a = c .before .before .before .before .before .before .before .before .args in let f = stepAt (a .handle) (a .k) (a .level) (a .edit) in
+onwards : (t : ℕ) (c : Place t) (w : Work) → let a = c .before .before .before .before .before .before .before .before .args in let f = downStep (a .handle) (a .k) (a .level) (a .edit) in
     w ≡ f (region (c .before .before .before .loop .at) (c .before .chunk-end .result)) (workOf t c)
     → eachChunk (a .level) f (region (c .before .chunk-end .result) (a .edit .region .end .0)) w ≡ eachChunk (a .level) f (a .edit .region) (work (st (a .words .now) (a .ledger .now)) (a .list .now) (a .before))
 onwards t c w e =
     let a = c .before .before .before .before .before .before .before .before .args in
-    ap (eachChunk (a .level) (stepAt (a .handle) (a .k) (a .level) (a .edit)) (region (c .before .chunk-end .result) (a .edit .region .end .0))) e ∙ facts t c .next
+    ap (eachChunk (a .level) (downStep (a .handle) (a .k) (a .level) (a .edit)) (region (c .before .chunk-end .result) (a .edit .region .end .0))) e ∙ facts t c .next
 
 -- whether the chunk's entry is the table's own, asked of the region itself
 is-own : (t : ℕ) (c : modify-range-lts.After-is-own (calls t) (modify-range-at t) modify-range.Post modify-range-Inv-loop modify-range-μ-loop) → let place = c .before .before .before in let a = c .before .before .before .before .before .before .before .before .before .before .before .args in
@@ -237,7 +237,7 @@ modify-range-returns-2 t c =
     let a = c .before .before .before .before .before .before .before .before .before .before .before .before .before .args in
     let w = work (st (at .loop .words) (at .loop .ledger)) (at .loop .list) (at .loop .count) in
     own-done (a .k) (a .level) (a .edit) w (c .before .before .before .before .edit-own2 .ensures)
-    ∙ ap (ownWork (a .k) (a .level) (a .edit)) (sym (each-done (a .level) (stepAt (a .handle) (a .k) (a .level) (a .edit)) (at .loop .at) (a .edit .region .end .0) w (omega arith)) ∙ at .loop .inv .3)
+    ∙ ap (ownWork (a .k) (a .level) (a .edit)) (sym (each-done (a .level) (downStep (a .handle) (a .k) (a .level) (a .edit)) (at .loop .at) (a .edit .region .end .0) w (omega arith)) ∙ at .loop .inv .3)
     ∙ modify-open (a .handle) (a .k) (a .level) (a .edit) (work (st (a .words .now) (a .ledger .now)) (a .list .now) (a .before)) (omega arith)
 
 pub +modify-range-spec : {M : Type 1} → statement M

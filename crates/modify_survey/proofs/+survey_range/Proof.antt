@@ -11,7 +11,7 @@ use Rattle.pool.specs.State.{st, wordAt}
 use Rattle.modify_entry.specs.Each.{eachChunk, each-done, each-step, chunkEdit}
 use Rattle.modify_entry.specs.declared.Edit.{Edit}
 use Rattle.modify_survey.specs.declared.Survey.{Survey}
-use Rattle.modify_survey.specs.Find.{surveyEntry, surveyRange, stepAt, survey-open, step-table, step-entry, step-outside}
+use Rattle.modify_survey.specs.Find.{surveyEntry, surveyRange, surveyStep, survey-open, step-table, step-entry, step-outside}
 use Rattle.modify_survey.specs.Room.{Room, Adds, same-adds, entry-adds, range-adds, room-chunk, room-after}
 use Prim.Native.Nat.{ℕ, _<_}
 use borrow.Fn.Kinds.{In}
@@ -48,7 +48,7 @@ calls t = (chunk-end-reads.Asked, chunk-end-reads.Learnt, entry-index-reads.Aske
 abbrev survey-range-Inv-loop : survey-range-lts.InvT-loop
 survey-range-Inv-loop words ledger handle k level edit end at₀ seen₀ at seen =
     Room (region at (edit .region .end .0)) seen
-    × (eachChunk level (stepAt handle (st words ledger) k level edit) (region at (edit .region .end .0)) seen ≡ eachChunk level (stepAt handle (st words ledger) k level edit) (edit .region) seen₀)
+    × (eachChunk level (surveyStep handle (st words ledger) k level edit) (region at (edit .region .end .0)) seen ≡ eachChunk level (surveyStep handle (st words ledger) k level edit) (edit .region) seen₀)
 
 abbrev survey-range-μ-loop : survey-range-lts.MeasureT-loop
 survey-range-μ-loop words ledger handle k level edit end at₀ seen₀ at seen = edit .region .end .0 - at
@@ -59,7 +59,7 @@ Place t = survey-range-lts.After-entry-index (calls t) (survey-range-at t) surve
 
 -- what is done with one chunk
 abbrev stepOf : (t : ℕ) → Place t → Survey → Survey
-stepOf t c v = let a = c .before .before .before .before .before .before .args in stepAt (a .handle) (st (a .words .now) (a .ledger .now)) (a .k) (a .level) (a .edit) (region (c .before .before .before .loop .at) (c .before .chunk-end .result)) v
+stepOf t c v = let a = c .before .before .before .before .before .before .args in surveyStep (a .handle) (st (a .words .now) (a .ledger .now)) (a .k) (a .level) (a .edit) (region (c .before .before .before .loop .at) (c .before .chunk-end .result)) v
 
 record Facts (t : ℕ) (c : Place t) : Type 0 where
   above : c .before .before .before .loop .at < c .before .chunk-end .result
@@ -67,7 +67,7 @@ record Facts (t : ℕ) (c : Place t) : Type 0 where
   slot : c .entry-index .result < 512
   index : c .entry-index .result ≡ entryIndex (c .before .before .before .before .before .before .args .level) (c .before .before .before .loop .at)
   room : Room (region (c .before .before .before .loop .at) (c .before .chunk-end .result)) (c .before .before .before .loop .seen)
-  next : let a = c .before .before .before .before .before .before .args in let f = stepAt (a .handle) (st (a .words .now) (a .ledger .now)) (a .k) (a .level) (a .edit) in
+  next : let a = c .before .before .before .before .before .before .args in let f = surveyStep (a .handle) (st (a .words .now) (a .ledger .now)) (a .k) (a .level) (a .edit) in
       eachChunk (a .level) f (region (c .before .chunk-end .result) (a .edit .region .end .0)) (stepOf t c (c .before .before .before .loop .seen)) ≡ eachChunk (a .level) f (a .edit .region) (a .before)
 
 facts : (t : ℕ) (c : Place t) → Facts t c
@@ -79,7 +79,7 @@ facts t c =
     let low = c .before .before .loop-test .taken in
     let stop = c .before .chunk-end .ensures in
     let fits = chunk-fits (a .level) (at .loop .at) (a .edit .region .end .0) low in
-    let f = stepAt (a .handle) (st (a .words .now) (a .ledger .now)) (a .k) (a .level) (a .edit) in
+    let f = surveyStep (a .handle) (st (a .words .now) (a .ledger .now)) (a .k) (a .level) (a .edit) in
     record {
       above = omega (arith, fits .0);
       under = omega (arith, fits .1);
@@ -93,13 +93,13 @@ facts t c =
 
 -- the invariant after the chunk, where the step and what it adds are known
 again : (t : ℕ) (c : Place t) (x : Survey) → Adds (region (c .before .before .before .loop .at) (c .before .chunk-end .result)) (c .before .before .before .loop .seen) x → x ≡ stepOf t c (c .before .before .before .loop .seen)
-    → let a = c .before .before .before .before .before .before .args in let f = stepAt (a .handle) (st (a .words .now) (a .ledger .now)) (a .k) (a .level) (a .edit) in
+    → let a = c .before .before .before .before .before .before .args in let f = surveyStep (a .handle) (st (a .words .now) (a .ledger .now)) (a .k) (a .level) (a .edit) in
     Room (region (c .before .chunk-end .result) (a .edit .region .end .0)) x × (eachChunk (a .level) f (region (c .before .chunk-end .result) (a .edit .region .end .0)) x ≡ eachChunk (a .level) f (a .edit .region) (a .before))
 again t c x adds e =
     let a = c .before .before .before .before .before .before .args in
     let f = facts t c in (
       room-after (c .before .before .before .loop .at) (c .before .chunk-end .result) (a .edit .region .end .0) (f .above) (f .under) (c .before .before .before .loop .seen) (c .before .before .before .loop .inv .0) x adds,
-      ap (eachChunk (a .level) (stepAt (a .handle) (st (a .words .now) (a .ledger .now)) (a .k) (a .level) (a .edit)) (region (c .before .chunk-end .result) (a .edit .region .end .0))) e ∙ f .next,
+      ap (eachChunk (a .level) (surveyStep (a .handle) (st (a .words .now) (a .ledger .now)) (a .k) (a .level) (a .edit)) (region (c .before .chunk-end .result) (a .edit .region .end .0))) e ∙ f .next,
     )
 
 survey-range-loop-holds : (t : ℕ) → survey-range-lts.Need-loop-holds (calls t) (survey-range-at t) survey-range.Post survey-range-Inv-loop survey-range-μ-loop
@@ -200,7 +200,7 @@ survey-range-returns t c =
     let at = c .before in
     let a = c .before .before .before .before .args in
     let s = st (a .words .now) (a .ledger .now) in
-    sym (each-done (a .level) (stepAt (a .handle) s (a .k) (a .level) (a .edit)) (at .loop .at) (a .edit .region .end .0) (at .loop .seen) (omega arith))
+    sym (each-done (a .level) (surveyStep (a .handle) s (a .k) (a .level) (a .edit)) (at .loop .at) (a .edit .region .end .0) (at .loop .seen) (omega arith))
     ∙ at .loop .inv .1
     ∙ survey-open (a .handle) s (a .k) (a .level) (a .edit) (a .before) (c .before .before .before .before .pre .1 .2)
 

@@ -8,7 +8,7 @@ use borrow.Rule.Slice.PartMut.{putMid}
 use Rattle.entry.specs.Word.{linkOf, link-fits}
 use Rattle.pool.specs.State.{st}
 use Rattle.pool.specs.Refuse.{maxTables}
-use Rattle.pool.specs.Number.{numberOf, Lowest, lowest-found}
+use Rattle.pool.specs.Number.{numberOf, LowestFree, lowest-found}
 use Rattle.pool_table.specs.Table.{rising, length-rising, taken, takeAt, take-none, take-some}
 use Rattle.pool.specs.declared.Found.the-variants.{At}
 use Rattle.pool_table.proofs.Parts.{table-part}
@@ -22,7 +22,7 @@ use Rattle.pool_ledger.proofs.lowest_free.Reads as lowest-free-reads
 use Rattle.pool_take.proofs.fill.Reads as fill-reads
 
 -- the table that was found
-lowest : (c : tie.After-known-told) → Lowest (c .before .before .before .before .before .before .before .args .ledger .now) (c .before .free .given .0 .0)
+lowest : (c : tie.After-known-told) → LowestFree (c .before .before .before .before .before .before .before .args .ledger .now) (c .before .free .given .0 .0)
 lowest c = lowest-found (c .before .before .before .before .before .before .before .args .ledger .now) _ (sym (c .before .before .before .lowest-free .ensures) ∙ c .before .free .given .1)
 
 -- the parts of the new table's number fit

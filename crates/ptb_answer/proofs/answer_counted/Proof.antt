@@ -5,13 +5,13 @@ use Rattle.ptb_answer.proofs.answer_counted.Tie as tie
 use Rattle.ptb_answer.proofs.answer_counted.Reads as reads
 use Rattle.ptb_answer.proofs.answer_counted.Lts as lts
 use Rattle.ptb_answer.proofs.answer_refusal.Reads as answer-refusal-reads
-use Rattle.ptb_answer.proofs.one.Reads as one-reads
+use Rattle.ptb_answer.proofs.answer_one_value.Reads as answer-one-value-reads
 
 enum-known-counted : tie.Need-enum-known-counted
 enum-known-counted c = c .match .keys1
 
-one-requires : tie.Need-one-requires
-one-requires c κs = tt
+answer-one-value-requires : tie.Need-answer-one-value-requires
+answer-one-value-requires c κs = tt
 
 enum-known-counted-2 : tie.Need-enum-known-counted-2
 enum-known-counted-2 c = c .match .keys2
@@ -21,7 +21,7 @@ answer-refusal-requires c κs = tt
 
 returns : tie.Need-returns
 unfolding toldCounted accepted
-returns c = rw (c .before .before .before .counted .given .1) (c .one .ensures)
+returns c = rw (c .before .before .before .counted .given .1) (c .answer-one-value .ensures)
 
 returns-2 : tie.Need-returns-2
 unfolding toldCounted
@@ -32,7 +32,7 @@ answer-counted-spec =
     tie.close
     (tie.spec
     enum-known-counted
-    one-requires
+    answer-one-value-requires
     enum-known-counted-2
     answer-refusal-requires
     returns

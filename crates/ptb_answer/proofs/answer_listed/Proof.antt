@@ -5,13 +5,13 @@ use Rattle.ptb_answer.proofs.answer_listed.Tie as tie
 use Rattle.ptb_answer.proofs.answer_listed.Reads as reads
 use Rattle.ptb_answer.proofs.answer_listed.Lts as lts
 use Rattle.ptb_answer.proofs.answer_refusal.Reads as answer-refusal-reads
-use Rattle.ptb_answer.proofs.one.Reads as one-reads
+use Rattle.ptb_answer.proofs.answer_one_value.Reads as answer-one-value-reads
 
 enum-known-listed : tie.Need-enum-known-listed
 enum-known-listed c = c .match .keys1
 
-one-requires : tie.Need-one-requires
-one-requires c κs = tt
+answer-one-value-requires : tie.Need-answer-one-value-requires
+answer-one-value-requires c κs = tt
 
 enum-known-listed-2 : tie.Need-enum-known-listed-2
 enum-known-listed-2 c = c .match .keys2
@@ -21,7 +21,7 @@ answer-refusal-requires c κs = tt
 
 returns : tie.Need-returns
 unfolding toldListed accepted
-returns c = rw (c .before .before .before .listed .given .1) (c .one .ensures)
+returns c = rw (c .before .before .before .listed .given .1) (c .answer-one-value .ensures)
 
 returns-2 : tie.Need-returns-2
 unfolding toldListed
@@ -32,7 +32,7 @@ answer-listed-spec =
     tie.close
     (tie.spec
     enum-known-listed
-    one-requires
+    answer-one-value-requires
     enum-known-listed-2
     answer-refusal-requires
     returns

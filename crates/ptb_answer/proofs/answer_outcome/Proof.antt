@@ -1,5 +1,5 @@
 -- `answer_outcome` tells an outcome outside. Assumes nothing.
-use Rattle.ptb_answer.specs.Answer.{told, accepted, over}
+use Rattle.ptb_answer.specs.Answer.{told, accepted, overFront}
 use Rattle.ptb_answer.proofs.answer_outcome.Statement.{statement}
 use Rattle.ptb_answer.proofs.answer_outcome.Tie as tie
 use Rattle.ptb_answer.proofs.answer_outcome.Reads as reads
@@ -16,7 +16,7 @@ answer-refusal-requires : tie.Need-answer-refusal-requires
 answer-refusal-requires c κs = tt
 
 returns : tie.Need-returns
-unfolding told accepted over
+unfolding told accepted overFront
 returns c = rw (c .enum-told .given .1)
 
 returns-2 : tie.Need-returns-2

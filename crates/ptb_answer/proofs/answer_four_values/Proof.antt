@@ -1,11 +1,11 @@
--- `four` stores four values over the whole of `answer`. Assumes nothing.
+-- `answer_four_values` stores four values over the whole of `answer`. Assumes nothing.
 use native.Mathlib.Omega.{arith}
 use mathlib.Core.Path.{ap}
 use Rattle.ptb_answer.specs.Answer.{slip, accepted, over-four}
-use Rattle.ptb_answer.proofs.four.Statement.{statement}
-use Rattle.ptb_answer.proofs.four.Tie as tie
-use Rattle.ptb_answer.proofs.four.Reads as reads
-use Rattle.ptb_answer.proofs.four.Lts as lts
+use Rattle.ptb_answer.proofs.answer_four_values.Statement.{statement}
+use Rattle.ptb_answer.proofs.answer_four_values.Tie as tie
+use Rattle.ptb_answer.proofs.answer_four_values.Reads as reads
+use Rattle.ptb_answer.proofs.answer_four_values.Lts as lts
 
 element-write-answer : tie.Need-element-write-answer
 element-write-answer c = omega arith
@@ -23,8 +23,8 @@ returns : tie.Need-returns
 unfolding accepted
 returns c = let a = c .args in ap (slip 0) (over-four (a .answer .now) (a .first) (a .second) (a .third) (a .fourth))
 
-pub four-spec : {M : Type 1} → statement M
-four-spec =
+pub answer-four-values-spec : {M : Type 1} → statement M
+answer-four-values-spec =
     tie.close
     (tie.spec
     element-write-answer

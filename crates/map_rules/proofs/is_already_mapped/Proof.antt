@@ -1,4 +1,4 @@
--- `is_same`: each way through the code by its law. Assumes nothing.
+-- `is_already_mapped`: each way through the code by its law. Assumes nothing.
 use mathlib.Core.Path.{_≡_, sym, ap, ap₂, _∙_}
 use Prim.Native.Nat.{ℕ, _-_, _%_}
 use native.Mathlib.Omega.{arith}
@@ -8,10 +8,10 @@ use Rattle.laws.specs.Size.{sizeAt, size-pos, size-mod}
 use Rattle.entry.specs.Word.{mask-address}
 use Rattle.map_rules.specs.Laws.{same-table, same-flags, same-below, same-place}
 use borrow.Author.Needs.{needs}
-use Rattle.map_rules.proofs.is_same.Statement.{statement}
-use Rattle.map_rules.proofs.is_same.Tie as tie
-use Rattle.map_rules.proofs.is_same.Reads as reads
-use Rattle.map_rules.proofs.is_same.Lts as lts
+use Rattle.map_rules.proofs.is_already_mapped.Statement.{statement}
+use Rattle.map_rules.proofs.is_already_mapped.Tie as tie
+use Rattle.map_rules.proofs.is_already_mapped.Reads as reads
+use Rattle.map_rules.proofs.is_already_mapped.Lts as lts
 use Rattle.address.proofs.granularity_at_level.Reads as granularity-at-level-reads
 use Rattle.entry.proofs.flags.Reads as flags-reads
 
@@ -49,8 +49,8 @@ returns-4 c =
     ap₂ (λ (x y : ℕ). eqb (a .map .frame .0 - x) y) e (mask-address (a .word))
     ∙ same-place (a .level) (a .map) (a .word) (c .before .before .before .before .before .before .before .before .if1 .left) (sym (c .before .before .before .before .before .before .before .flags .ensures) ∙ c .before .before .before .before .before .if2 .left) (omega arith)
 
-pub is-same-spec : {M : Type 1} → statement M
-is-same-spec =
+pub is-already-mapped-spec : {M : Type 1} → statement M
+is-already-mapped-spec =
     tie.close
     (tie.spec
     returns

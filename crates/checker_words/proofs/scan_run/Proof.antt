@@ -1,14 +1,14 @@
--- `scan`: each way through the code by its law. Assumes nothing.
+-- `scan_run`: each way through the code by its law. Assumes nothing.
 use mathlib.Core.Path.{_≡_, refl, sym, ap, _∙_}
 use Prim.Native.Nat.{ℕ}
 use native.Mathlib.Omega.{arith}
 use Rattle.pool.specs.Number.{levelOf}
 use Rattle.checker_words.specs.Words.{runOf, freeRun, pagesRun, linksRun, allowedAt}
 use Rattle.checker_words.specs.Mask.{free-run, pages-run, links-run}
-use Rattle.checker_words.proofs.scan.Statement.{statement}
-use Rattle.checker_words.proofs.scan.Tie as tie
-use Rattle.checker_words.proofs.scan.Reads as reads
-use Rattle.checker_words.proofs.scan.Lts as lts
+use Rattle.checker_words.proofs.scan_run.Statement.{statement}
+use Rattle.checker_words.proofs.scan_run.Tie as tie
+use Rattle.checker_words.proofs.scan_run.Reads as reads
+use Rattle.checker_words.proofs.scan_run.Lts as lts
 use Rattle.checker_words.proofs.allowed_at.Reads as allowed-at-reads
 use Rattle.checker_words.proofs.scan_free.Reads as scan-free-reads
 use Rattle.checker_words.proofs.scan_links.Reads as scan-links-reads
@@ -52,8 +52,8 @@ returns-3 c =
     c .scan-links .ensures ∙ ap (λ (m : ℕ). linksRun m (a .run .now)) (c .before .before .allowed-at .ensures)
     ∙ sym (links-run (a .set) (a .number) level (c .before .before .before .before .before .pre) (omega arith) refl (omega arith) (a .run .now) (λ i h. c .before .before .before .before .shared-slice-known .given i .fits))
 
-pub scan-spec : {M : Type 1} → statement M
-scan-spec =
+pub scan-run-spec : {M : Type 1} → statement M
+scan-run-spec =
     tie.close
     (tie.spec
     scan-free-requires

@@ -1,4 +1,4 @@
--- Rounding up in 64 bits, and a law for each way through `align_up`. Assumes nothing.
+-- Rounding up in 64 bits, and a law for each way through `align_up`.
 use mathlib.Core.Path.{_≡_, sym, ap, _∙_}
 use mathlib.Core.Bool.{cond}
 use Prim.Native.Nat.{ℕ, _+_, _-_, _%_, _^_, _≤_, _<_}

@@ -1,4 +1,4 @@
--- The entry of a level that holds an address, and where a chunk ends. Assumes nothing.
+-- The entry of a level that holds an address, and where a chunk ends.
 use Prim.Native.Nat.{ℕ, _+_, _-_, _/_, _%_, min}
 use Rattle.laws.specs.Size.{sizeAt, down}
 

@@ -1,5 +1,5 @@
 -- The table walk of the Arm Architecture Reference Manual (VMSAv8-64, stage 1, 4 KB granule, 48-bit addresses), over the words of a pool.
--- This is the page to believe: it cites no helper of the code and reads any words, sound or not. Assumes nothing.
+-- This is the page to believe: it cites no helper of the code and reads any words, sound or not.
 use mathlib.Core.Bool.{cond, _&&_, _||_}
 use mathlib.Core.List.{List}
 use Prim.Native.Nat.{ℕ, zero, suc, _+_, _*_, _-_, _/_, _%_, _^_}
@@ -29,7 +29,8 @@ tableAddress w = bits 47 12 w * 2 ^ 12
 unfoldable pub frameOf : ℕ → ℕ → ℕ → ℕ
 frameOf level w va = bits 47 (lowBit level) w * 2 ^ lowBit level + bits (lowBit level - 1) 12 va * 2 ^ 12
 
--- Flags (document 01, "What a word says"): every bit but the address field, bits 47 to 12, and bit 1. The manual's attributes and bit 0; bit 52 is a plain flag.
+-- Flags (document 01, "What a word says"): every bit but the address field, bits 47 to 12, and bit 1. The manual's attributes and bit 0;
+-- bit 52 is a plain flag.
 unfoldable pub flagsIn : ℕ → ℕ
 flagsIn w = w - (bits 47 12 w * 2 ^ 12 + bits 1 1 w * 2)
 
@@ -37,14 +38,14 @@ flagsIn w = w - (bits 47 12 w * 2 ^ 12 + bits 1 1 w * 2)
 unfoldable pub fetch : List ℕ → ℕ → ℕ → ℕ → ℕ
 fetch words va k level = getD words (512 * k + index level va) 0
 
--- Where the lookups end: at a descriptor of a level that is no Table descriptor, or away from the pool, where a Table descriptor on the path refers
--- to a table that the pool doesn't have.
+-- Where the lookups end: at a descriptor of a level that is no Table descriptor, or away from the pool, where a Table descriptor on the
+-- path refers to a table that the pool doesn't have.
 pub data Reached : Type 0 where
   at : (level word : ℕ) → Reached
   away : Reached
 
--- On from table k, with so many levels below its own. Level 3 holds no Table descriptors; at levels 0 to 2 bits[1:0] = 0b11 is one, and leads on to the
--- table at its address. The pool has n tables, table k at physical address base + 4096·k (document 01, "Pool and ledger").
+-- On from table k, with so many levels below its own. Level 3 holds no Table descriptors; at levels 0 to 2 bits[1:0] = 0b11 is one, and
+-- leads on to the table at its address. The pool has n tables, table k at physical address base + 4096·k (document 01, "Pool and ledger").
 module _ (base n : ℕ) (words : List ℕ) (va : ℕ) where
   unfoldable pub reachFrom : ℕ → ℕ → Reached
   reachFrom zero k = at 3 (fetch words va k 3)
@@ -65,8 +66,8 @@ pub data Walked : Type 0 where
   page : (level flags frame : ℕ) → Walked
   outside : Walked
 
--- By its bits[1:0] a descriptor that is no Table descriptor is: 0b11, at level 3, a Page descriptor; 0b01, at levels 1 and 2, a Block descriptor;
--- 0b01 at levels 0 and 3 reserved, and like 0bx0 invalid: a translation fault, our hole.
+-- By its bits[1:0] a descriptor that is no Table descriptor is: 0b11, at level 3, a Page descriptor; 0b01, at levels 1 and 2, a Block
+-- descriptor; 0b01 at levels 0 and 3 reserved, and like 0bx0 invalid: a translation fault, our hole.
 unfoldable pub says : ℕ → Reached → Walked
 says va (at level w) =
     cond (eqb (bits 1 0 w) 3) (page level (flagsIn w) (frameOf level w va))

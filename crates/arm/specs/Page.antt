@@ -1,5 +1,5 @@
--- Laws of the Arm walk: it ends within the levels; all addresses of the entry that it ends in reach that entry, with frames that differ as their pages do;
--- an address's page decides its answer. Leans on `Arm`, `Walk`. Assumes nothing.
+-- Laws of the Arm walk: it ends within the levels; all addresses of the entry that it ends in reach that entry, with frames that differ as
+-- their pages do; an address's page decides its answer. Leans on `Arm`, `Walk`.
 use mathlib.Core.Path.{_≡_, refl, sym, ap, _∙_}
 use mathlib.Core.Bool.{Bool, true, false, cond, _&&_}
 use mathlib.Core.List.{List}
@@ -15,7 +15,8 @@ use Rattle.laws.specs.Test.{eqb-cases}
 use Rattle.entry.specs.Word.{kindOf, Says, kind-says}
 use Rattle.entry.specs.declared.Kind.{Kind}
 use Rattle.entry.specs.declared.Kind.the-variants.{Table as table′, Block as block′, Page as page′, Hole as hole′}
-use Rattle.arm.specs.Arm.{bits, lowBit, tableAddress, frameOf, Reached, at, away, fetch, reachFrom, reach, Walked, hole, block, page, outside, says, walk}
+use Rattle.arm.specs.Arm.{bits, lowBit, tableAddress, frameOf, Reached, at, away, fetch, reachFrom, reach, Walked, hole, block, page}
+use Rattle.arm.specs.Arm.{outside, says, walk}
 use Rattle.arm.specs.Walk.{index-is, low-bits, frame-is, says-hole, says-block, says-page}
 
 -- ---- within the levels
@@ -31,7 +32,8 @@ module _ (base n : ℕ) (words : List ℕ) (va : ℕ) where
   unfolding reachFrom
   reach-ended zero k {level} h e = let q : 3 ≡ level = cc in record { below = omega arith; above = omega arith; leaf = λ z. omega arith }
   reach-ended (suc depth) k {level} {w} h e =
-      go (eqb-cases (bits 1 0 x) 3) (leb base (tableAddress x) && ltb (tableAddress x) (base + 4096 * n)) (reach-ended depth ((tableAddress x - base) / 4096) (omega arith)) e
+      go (eqb-cases (bits 1 0 x) 3) (leb base (tableAddress x) && ltb (tableAddress x) (base + 4096 * n))
+      (reach-ended depth ((tableAddress x - base) / 4096) (omega arith)) e
     where
       x : ℕ
       x = fetch words va k (2 - depth)
@@ -40,7 +42,8 @@ module _ (base n : ℕ) (words : List ℕ) (va : ℕ) where
       next = reachFrom base n words va depth ((tableAddress x - base) / 4096)
 
       -- the test's value is put in before the case is taken
-      ends : (b c : Bool) → (next ≡ at level w → Ended (3 - depth) level w) → (b ≡ false → bits 1 0 x ≢ 3) → cond b (cond c next away) (at (2 - depth) x) ≡ at level w
+      ends : (b c : Bool) → (next ≡ at level w → Ended (3 - depth) level w) → (b ≡ false → bits 1 0 x ≢ 3)
+          → cond b (cond c next away) (at (2 - depth) x) ≡ at level w
           → Ended (3 - suc depth) level w
       ends true true ih low q = let r = ih q in record { below = omega (arith, r .below); above = r .above; leaf = r .leaf }
       ends true false ih low q = absurd (let z : _≡_ {A = ℕ} 0 1 = cc in omega arith)
@@ -50,9 +53,12 @@ module _ (base n : ℕ) (words : List ℕ) (va : ℕ) where
           record { below = omega arith; above = omega arith; leaf = λ z. absurd (low refl (ap (bits 1 0) o ∙ z)) }
 
       go : ((bits 1 0 x ≡ 3) × (eqb (bits 1 0 x) 3 ≡ true)) ⊎ ((bits 1 0 x ≢ 3) × (eqb (bits 1 0 x) 3 ≡ false))
-          → (c : Bool) → (next ≡ at level w → Ended (3 - depth) level w) → cond (eqb (bits 1 0 x) 3) (cond c next away) (at (2 - depth) x) ≡ at level w
+          → (c : Bool) → (next ≡ at level w → Ended (3 - depth) level w)
+          → cond (eqb (bits 1 0 x) 3) (cond c next away) (at (2 - depth) x) ≡ at level w
           → Ended (3 - suc depth) level w
-      go (inl t) c ih q = ends true c ih (λ f. absurd (let z : _≡_ {A = Bool} true false = f in let y : _≡_ {A = ℕ} 0 1 = cc in omega arith)) (rw (t .1) at q)
+      go (inl t) c ih q =
+          ends true c ih (λ f. absurd (let z : _≡_ {A = Bool} true false = f in let y : _≡_ {A = ℕ} 0 1 = cc in omega arith))
+          (rw (t .1) at q)
       go (inr t) c ih q = ends false c ih (λ f. t .0) (rw (t .1) at q)
 
   -- level 3 leads nowhere
@@ -87,7 +93,8 @@ larger above level h l =
     ap (λ (k : ℕ). 2 ^ k) p ∙ pow-add 2 (12 + 9 * (3 - level)) (9 * (level - above))
 
 -- the addresses of one entry lie in one entry of each level above
-pub same-above : (va vb above level : ℕ) → above ≤ level → level ≤ 3 → va / sizeAt level ≡ vb / sizeAt level → va / sizeAt above ≡ vb / sizeAt above
+pub same-above : (va vb above level : ℕ) → above ≤ level → level ≤ 3 → va / sizeAt level ≡ vb / sizeAt level
+    → va / sizeAt above ≡ vb / sizeAt above
 same-above va vb above level h l e =
     let entries = 2 ^ (9 * (level - above)) in
     ap (λ (s : ℕ). va / s) (larger above level h l) ∙ sym (div-div-eq-div-mul va (sizeAt level) entries) ∙ ap (λ (q : ℕ). q / entries) e
@@ -97,11 +104,13 @@ pub same-fetch : (words : List ℕ) (va vb above k level : ℕ) → above ≤ le
     → fetch words va k above ≡ fetch words vb k above
 unfolding fetch
 same-fetch words va vb above k level h l e =
-    ap (λ (i : ℕ). getD words (512 * k + i) 0) (index-is above va ∙ ap (λ (q : ℕ). q % 512) (same-above va vb above level h l e) ∙ sym (index-is above vb))
+    ap (λ (i : ℕ). getD words (512 * k + i) 0)
+    (index-is above va ∙ ap (λ (q : ℕ). q % 512) (same-above va vb above level h l e) ∙ sym (index-is above vb))
 
 -- what one address of an entry reaches, each does
 module _ (base n : ℕ) (words : List ℕ) (va vb : ℕ) where
-  pub reach-same : (depth k : ℕ) {level w : ℕ} → depth ≤ 3 → va / sizeAt level ≡ vb / sizeAt level → reachFrom base n words va depth k ≡ at level w
+  pub reach-same : (depth k : ℕ) {level w : ℕ} → depth ≤ 3 → va / sizeAt level ≡ vb / sizeAt level
+      → reachFrom base n words va depth k ≡ at level w
       → reachFrom base n words vb depth k ≡ at level w
   unfolding reachFrom
   reach-same zero k {level} {w} h e q =
@@ -110,17 +119,23 @@ module _ (base n : ℕ) (words : List ℕ) (va vb : ℕ) where
   reach-same (suc depth) k {level} {w} h e q =
       let d = reach-ended base n words va (suc depth) k h q in
       let same = same-fetch words va vb (2 - depth) k level (omega (arith, d .below)) (d .above) e in
-      sym (ap on same) ∙ go (eqb (bits 1 0 x) 3) (leb base (tableAddress x) && ltb (tableAddress x) (base + 4096 * n)) (reach-same depth ((tableAddress x - base) / 4096) (omega arith) e) q
+      sym (ap on same)
+      ∙ go (eqb (bits 1 0 x) 3) (leb base (tableAddress x) && ltb (tableAddress x) (base + 4096 * n))
+      (reach-same depth ((tableAddress x - base) / 4096) (omega arith) e) q
     where
       x : ℕ
       x = fetch words va k (2 - depth)
 
       on : ℕ → Reached
       on y =
-          cond (eqb (bits 1 0 y) 3) (cond (leb base (tableAddress y) && ltb (tableAddress y) (base + 4096 * n)) (reachFrom base n words vb depth ((tableAddress y - base) / 4096)) away)
+          cond (eqb (bits 1 0 y) 3)
+          (cond (leb base (tableAddress y) && ltb (tableAddress y) (base + 4096 * n))
+          (reachFrom base n words vb depth ((tableAddress y - base) / 4096)) away)
           (at (2 - depth) y)
 
-      go : (b c : Bool) → (reachFrom base n words va depth ((tableAddress x - base) / 4096) ≡ at level w → reachFrom base n words vb depth ((tableAddress x - base) / 4096) ≡ at level w)
+      go : (b c : Bool)
+          → (reachFrom base n words va depth ((tableAddress x - base) / 4096) ≡ at level w
+          → reachFrom base n words vb depth ((tableAddress x - base) / 4096) ≡ at level w)
           → cond b (cond c (reachFrom base n words va depth ((tableAddress x - base) / 4096)) away) (at (2 - depth) x) ≡ at level w
           → cond b (cond c (reachFrom base n words vb depth ((tableAddress x - base) / 4096)) away) (at (2 - depth) x) ≡ at level w
       go true true ih r = ih r
@@ -137,7 +152,8 @@ page-place level va =
     omega arith
 
 -- frames differ as the pages do
-pub frame-moves : (level w va vb : ℕ) → va / sizeAt level ≡ vb / sizeAt level → frameOf level w va + down vb 4096 ≡ frameOf level w vb + down va 4096
+pub frame-moves : (level w va vb : ℕ) → va / sizeAt level ≡ vb / sizeAt level
+    → frameOf level w va + down vb 4096 ≡ frameOf level w vb + down va 4096
 unfolding down
 frame-moves level w va vb e =
     let a = frame-is level w va in
@@ -180,9 +196,11 @@ module _ (base n : ℕ) (words : List ℕ) (root : ℕ) where
       in-entry : (x y level : ℕ) → level ≤ 3 → x / 4096 ≡ y / 4096 → x / sizeAt level ≡ y / sizeAt level
       in-entry x y level h q = same-above x y level 3 h (omega arith) q
 
-      carries : (x y : ℕ) {level w : ℕ} → x / 4096 ≡ y / 4096 → reachFrom base n words x (3 - root) 0 ≡ at level w → reachFrom base n words y (3 - root) 0 ≡ at level w
+      carries : (x y : ℕ) {level w : ℕ} → x / 4096 ≡ y / 4096 → reachFrom base n words x (3 - root) 0 ≡ at level w
+          → reachFrom base n words y (3 - root) 0 ≡ at level w
       carries x y {level} q r =
-          reach-same base n words x y (3 - root) 0 (omega arith) (in-entry x y level (reach-ended base n words x (3 - root) 0 (omega arith) r .above) q) r
+          reach-same base n words x y (3 - root) 0 (omega arith)
+          (in-entry x y level (reach-ended base n words x (3 - root) 0 (omega arith) r .above) q) r
 
       same : (r t : Reached) → reachFrom base n words va (3 - root) 0 ≡ r → reachFrom base n words vb (3 - root) 0 ≡ t
           → reachFrom base n words va (3 - root) 0 ≡ reachFrom base n words vb (3 - root) 0

@@ -1,4 +1,4 @@
--- The Arm walk in the terms of the code: a law for each way on from a table, by `subOf` and `kindOf`. Leans on `Arm`. Assumes nothing.
+-- The Arm walk in the terms of the code: a law for each way on from a table, by `subOf` and `kindOf`. Leans on `Arm`.
 use mathlib.Core.Path.{_≡_, refl, sym, ap, ap₂, _∙_}
 use mathlib.Core.Bool.{cond, _&&_}
 use mathlib.Core.List.{List, [], _∷_}
@@ -16,7 +16,8 @@ use Rattle.entry.specs.Sub.{subOf, sub-leaf, sub-low, sub-high, sub-in}
 use Rattle.entry.specs.declared.Kind.the-variants.{Block as block′, Hole as hole′}
 use Rattle.entry.specs.declared.Sub.{Sub}
 use Rattle.entry.specs.declared.Sub.the-variants.{Table, Outside, Leaf}
-use Rattle.arm.specs.Arm.{bits, lowBit, index, tableAddress, frameOf, flagsIn, hole, block, page, Reached, at, away, says, fetch, reachFrom}
+use Rattle.arm.specs.Arm.{bits, lowBit, index, tableAddress, frameOf, flagsIn, hole, block, page, Reached, at, away, says, fetch}
+use Rattle.arm.specs.Arm.{reachFrom}
 
 -- the slots of an address, by level
 unfoldable pub slotsOf : ℕ → List ℕ
@@ -66,7 +67,10 @@ table-address w = refl
 -- flags, without bit 1
 pub flags-is : (w : ℕ) → flagsOf w / 4 * 4 + flagsOf w % 2 ≡ flagsIn w
 unfolding flagsIn bits tableAddress
-flags-is w = sym (less (addressOf w) (flagsOf w) w (address-and-flags w) (bit-one (addressOf w) (flagsOf w) w (address-and-flags w) (address-pages w)) (table-address w))
+flags-is w =
+    sym
+    (less (addressOf w) (flagsOf w) w (address-and-flags w)
+    (bit-one (addressOf w) (flagsOf w) w (address-and-flags w) (address-pages w)) (table-address w))
   where
     -- bit 1 is a flag's
     bit-one : (a f w : ℕ) → a + f ≡ w → a % 4096 ≡ 0 → w / 2 % 2 ≡ f / 2 % 2
@@ -81,7 +85,8 @@ unfolding frameOf bits lowBit addressOf down sizeAt
 frame-is zero w va = omega arith
 frame-is (suc zero) w va = omega arith
 frame-is (suc (suc zero)) w va = omega arith
-frame-is (suc (suc (suc level))) w va = in-pages ∙ ap (λ (size : ℕ). down (addressOf w) size + down (va % size) 4096) (sym (size-page (suc (suc (suc level))) (omega arith)))
+frame-is (suc (suc (suc level))) w va =
+    in-pages ∙ ap (λ (size : ℕ). down (addressOf w) size + down (va % size) 4096) (sym (size-page (suc (suc (suc level))) (omega arith)))
   where
     in-pages : frameOf (suc (suc (suc level))) w va ≡ down (addressOf w) 4096 + down (va % 4096) 4096
     in-pages = omega arith
@@ -94,7 +99,9 @@ frame-masks level w va =
     ∙ (let a = down-rest (addressOf w) (sizeAt level) in
     let v = down-rest (va % sizeAt level) 4096 in
     let o = size-offset level va in
-    let e : addressOf w - addressOf w % sizeAt level + (va % sizeAt level - va % 4096) ≡ down (addressOf w) (sizeAt level) + down (va % sizeAt level) 4096 = omega arith in
+    let e : addressOf w - addressOf w % sizeAt level + (va % sizeAt level - va % 4096)
+    ≡ down (addressOf w) (sizeAt level) + down (va % sizeAt level) 4096 =
+    omega arith in
     e)
     ∙ sym (frame-is level w va)
 
@@ -133,7 +140,8 @@ module _ (base n : ℕ) (words : List ℕ) (va k level : ℕ) (here : level ≤ 
   -- above the last level
   reach-open : level < 3 → let w = fetch words va k level in let a = addressOf w in
       reachFrom base n words va (3 - level) k
-      ≡ cond (eqb (w % 4) 3) (cond (leb base a && ltb a (base + 4096 * n)) (reachFrom base n words va (3 - (level + 1)) ((a - base) / 4096)) away) (at level w)
+      ≡ cond (eqb (w % 4) 3)
+      (cond (leb base a && ltb a (base + 4096 * n)) (reachFrom base n words va (3 - (level + 1)) ((a - base) / 4096)) away) (at level w)
   unfolding reachFrom
   reach-open h =
       let up : 3 - level ≡ suc (3 - (level + 1)) = omega arith in
@@ -154,23 +162,29 @@ module _ (base n : ℕ) (words : List ℕ) (va k level : ℕ) (here : level ≤ 
       a : ℕ
       a = addressOf w
 
-      go : (level ≡ 3) ⊎ (level ≢ 3) → (w % 4 ≡ 3) ⊎ (w % 4 ≢ 3) → (base ≤ a) ⊎ (a < base) → (n ≤ (a - base) / 4096) ⊎ ((a - base) / 4096 < n)
+      go : (level ≡ 3) ⊎ (level ≢ 3) → (w % 4 ≡ 3) ⊎ (w % 4 ≢ 3) → (base ≤ a) ⊎ (a < base)
+          → (n ≤ (a - base) / 4096) ⊎ ((a - base) / 4096 < n)
           → reachFrom base n words va (3 - level) k ≡ follow (subOf base n level w)
       go (inl e) low from to = reach-last e ∙ ap follow (sub-leaf base n level w (λ p. omega (arith, p .0)))
-      go (inr m) (inr low) from to = reach-open (omega arith) ∙ rw (ne-eqb (w % 4) 3 low) (ap follow (sub-leaf base n level w (λ p. low (p .1))))
-      go (inr m) (inl low) (inr from) to = reach-open (omega arith) ∙ rw (low, lt-leb base a from) (ap follow (sub-low base n level w (omega arith) low from))
+      go (inr m) (inr low) from to =
+          reach-open (omega arith) ∙ rw (ne-eqb (w % 4) 3 low) (ap follow (sub-leaf base n level w (λ p. low (p .1))))
+      go (inr m) (inl low) (inr from) to =
+          reach-open (omega arith) ∙ rw (low, lt-leb base a from) (ap follow (sub-low base n level w (omega arith) low from))
       go (inr m) (inl low) (inl from) (inl to) =
           reach-open (omega arith)
-          ∙ rw (low, le-leb base a from, le-ltb a (base + 4096 * n) (omega arith)) (ap follow (sub-high base n level w (omega arith) low from to))
+          ∙ rw (low, le-leb base a from, le-ltb a (base + 4096 * n) (omega arith))
+          (ap follow (sub-high base n level w (omega arith) low from to))
       go (inr m) (inl low) (inl from) (inr to) =
           reach-open (omega arith)
-          ∙ rw (low, le-leb base a from, lt-ltb a (base + 4096 * n) (omega arith)) (ap follow (sub-in base n level w (omega arith) low from to))
+          ∙ rw (low, le-leb base a from, lt-ltb a (base + 4096 * n) (omega arith))
+          (ap follow (sub-in base n level w (omega arith) low from to))
 
   module _ {w : ℕ} (is : w ≡ fetch words va k level) where
     chosen : (x : Sub) → subOf base n level w ≡ x → reachFrom base n words va (3 - level) k ≡ follow x
     chosen x e = reach-sub ∙ ap follow (ap (subOf base n level) (sym is) ∙ e)
 
-    pub reach-table : (j : ℕ) → subOf base n level w ≡ Table j → reachFrom base n words va (3 - level) k ≡ reachFrom base n words va (3 - (level + 1)) j
+    pub reach-table : (j : ℕ) → subOf base n level w ≡ Table j
+        → reachFrom base n words va (3 - level) k ≡ reachFrom base n words va (3 - (level + 1)) j
     unfolding follow
     reach-table j e = chosen (Table j) e
 

@@ -1,4 +1,4 @@
--- The pool check as a whole: answer for every input, refusals first and in their order. It only reads. Assumes nothing.
+-- The pool check as a whole: answer for every input, refusals first and in their order. It only reads.
 use mathlib.Core.Path.{_≡_, refl, sym, _∙_}
 use mathlib.Core.Bool.{true, false, cond}
 use Prim.Native.Nat.{ℕ}
@@ -37,7 +37,12 @@ module _ (h : Handle) (s : St) where
   -- read back
   module _ {x : Found} (is : x ≡ soundCount h s) where
     pub count-unsound : x ≡ Nothing → soundb h s ≡ false
-    count-unsound e = byBool (soundb h s) (λ holds. absurd (let q : At (used (s .ledger)) ≡ Nothing = count-some refl holds ∙ sym is ∙ e in let z : _≡_ {A = ℕ} 0 1 = cc in omega arith)) (λ fails. fails)
+    count-unsound e =
+        byBool (soundb h s)
+        (λ holds. absurd
+        (let q : At (used (s .ledger)) ≡ Nothing = count-some refl holds ∙ sym is ∙ e in let z : _≡_ {A = ℕ} 0 1 = cc in
+        omega arith))
+        (λ fails. fails)
 
     pub count-sound : (n : ℕ) → x ≡ At n → (soundb h s ≡ true) × (n ≡ used (s .ledger))
     count-sound n e =

@@ -1,6 +1,6 @@
--- The soundness test as the check runs it says what the soundness test says: in a shaped pool whose used tables all hang, as many slots are named by
--- ledger numbers as there are used tables but the root, and each of them holds a table word; so counting the table words finds whether there are others.
--- Assumes nothing.
+-- The soundness test as the check runs it says what the soundness test says: in a shaped pool whose used tables all hang, as many slots are
+-- named by ledger numbers as there are used tables but the root, and each of them holds a table word; so counting the table words finds
+-- whether there are others.
 use mathlib.Core.Path.{_≡_, refl, sym, ap, _∙_, subst, subst⁻¹}
 use mathlib.Core.Bool.{Bool, _&&_}
 use mathlib.Core.Logic.{_⊎_, inl, inr, _≢_}
@@ -20,7 +20,8 @@ use Rattle.checker_words.specs.Answer.{count-most}
 use Rattle.checker_pass.specs.Stream.{runPasses, tablePasses, tableLinks}
 use Rattle.checker.specs.Row.{wordIn, linkIn, passIn, used-sum, all-links, runs-to, runs-of}
 use Rattle.checker_ledger.specs.Hang.{Named, Hangs, hangs-to}
-use Rattle.checker.specs.Named.{slot-passes, slot-links, slot-of, count-one, place, named-in, links-to, links-of, namedAt, named-yes, named-says, named-no}
+use Rattle.checker.specs.Named.{slot-passes, slot-links, slot-of, count-one, place, named-in, links-to, links-of, namedAt, named-yes}
+use Rattle.checker.specs.Named.{named-says, named-no}
 use Rattle.pool.specs.declared.Handle.{Handle}
 
 -- every table passes, and there are as many links as used tables but the root
@@ -87,7 +88,8 @@ module _ (h : Handle) (s : St) (some : 1 ≤ tables s) (words : length (s .words
     named-most : (x : ℕ) → sum (tables s) (namedAt s x) ≤ linkIn s x
     named-most x = go (sum-some (tables s) (namedAt s x))
       where
-        go : (sum (tables s) (namedAt s x) ≡ 0) ⊎ ((k : ℕ) × (k < tables s) × (0 < namedAt s x k)) → sum (tables s) (namedAt s x) ≤ linkIn s x
+        go : (sum (tables s) (namedAt s x) ≡ 0) ⊎ ((k : ℕ) × (k < tables s) × (0 < namedAt s x k))
+            → sum (tables s) (namedAt s x) ≤ linkIn s x
         go (inl e) = omega arith
         go (inr (k, l, p)) =
             let n = named-says s x k p in
@@ -103,11 +105,14 @@ module _ (h : Handle) (s : St) (some : 1 ≤ tables s) (words : length (s .words
       where
         yes : Named s k → sum (512 * tables s) (λ x. namedAt s x k) ≡ tally (namesb (numberAt s k))
         yes t =
-            sum-one (512 * tables s) (λ x. namedAt s x k) (place s k) (place-in k t) (named-yes s (place s k) k t refl) (λ x ne. named-no s x k (λ m. ne (sym (m .1))))
+            sum-one (512 * tables s) (λ x. namedAt s x k) (place s k) (place-in k t) (named-yes s (place s k) k t refl)
+            (λ x ne. named-no s x k (λ m. ne (sym (m .1))))
             ∙ sym (tally-yes (namesb (numberAt s k)) t)
 
         no : ¬ (Named s k) → sum (512 * tables s) (λ x. namedAt s x k) ≡ tally (namesb (numberAt s k))
-        no n = sum-none (512 * tables s) (λ x. namedAt s x k) (λ x l. named-no s x k (λ m. n (m .0))) ∙ sym (tally-no (namesb (numberAt s k)) n)
+        no n =
+            sum-none (512 * tables s) (λ x. namedAt s x k) (λ x l. named-no s x k (λ m. n (m .0)))
+            ∙ sym (tally-no (namesb (numberAt s k)) n)
 
     used-names : (k : ℕ) → k < tables s → tally (ltb 0 (numberAt s k)) ≡ tally (namesb (numberAt s k)) + tally (eqb k 0)
     used-names zero l =
@@ -136,11 +141,14 @@ module _ (h : Handle) (s : St) (some : 1 ≤ tables s) (words : length (s .words
     named-total : sum (512 * tables s) (λ x. sum (tables s) (namedAt s x)) + 1 ≡ used (s .ledger)
     named-total =
         let swap = sum-swap (512 * tables s) (tables s) (namedAt s) in
-        let each = sum-ext (tables s) (λ k. sum (512 * tables s) (λ x. namedAt s x k)) (λ k. tally (namesb (numberAt s k))) (λ k l. table-names k) in
+        let each = sum-ext (tables s) (λ k. sum (512 * tables s) (λ x. namedAt s x k)) (λ k. tally (namesb (numberAt s k)))
+        (λ k l. table-names k) in
         let all = used-sum (s .ledger) in
-        let split = sum-ext (tables s) (λ k. tally (ltb 0 (numberAt s k))) (λ k. tally (namesb (numberAt s k)) + tally (eqb k 0)) used-names in
+        let split = sum-ext (tables s) (λ k. tally (ltb 0 (numberAt s k)))
+        (λ k. tally (namesb (numberAt s k)) + tally (eqb k 0)) used-names in
         let both = sum-add (tables s) (λ k. tally (namesb (numberAt s k))) (λ k. tally (eqb k 0)) in
-        let first = sum-one (tables s) (λ k. tally (eqb k 0)) 0 some (tally-yes (eqb 0 0) tt) (λ i ne. tally-no (eqb i 0) (λ t. ne (eqb→eq i 0 t))) in
+        let first = sum-one (tables s) (λ k. tally (eqb k 0)) 0 some (tally-yes (eqb 0 0) tt)
+        (λ i ne. tally-no (eqb i 0) (λ t. ne (eqb→eq i 0 t))) in
         omega arith
 
     -- ---- all table words are links exactly when there are as many as used tables but the root
@@ -151,7 +159,8 @@ module _ (h : Handle) (s : St) (some : 1 ≤ tables s) (words : length (s .words
         let same = sum-tight (512 * tables s) (λ y. sum (tables s) (namedAt s y)) (linkIn s) (λ y m. named-most y) (omega arith) x l in
         go (omega arith) (sum-some (tables s) (namedAt s x))
       where
-        go : 0 < sum (tables s) (namedAt s x) → (sum (tables s) (namedAt s x) ≡ 0) ⊎ ((k : ℕ) × (k < tables s) × (0 < namedAt s x k)) → T (linkAt x)
+        go : 0 < sum (tables s) (namedAt s x) → (sum (tables s) (namedAt s x) ≡ 0) ⊎ ((k : ℕ) × (k < tables s) × (0 < namedAt s x k))
+            → T (linkAt x)
         go q (inl e) = absurd (omega arith)
         go q (inr (k, m, r)) = let n = named-says s x k r in place-link x k (n .0) (n .1)
 
@@ -159,7 +168,8 @@ module _ (h : Handle) (s : St) (some : 1 ≤ tables s) (words : length (s .words
     unfolding linkAt linkIn
     links-counted t =
         let total = named-total in
-        let same = sum-ext (512 * tables s) (λ y. sum (tables s) (namedAt s y)) (linkIn s) (λ x l. le-antisymm (named-most x) (go x l (eq-or (linkIn s x) 0))) in
+        let same = sum-ext (512 * tables s) (λ y. sum (tables s) (namedAt s y)) (linkIn s)
+        (λ x l. le-antisymm (named-most x) (go x l (eq-or (linkIn s x) 0))) in
         omega arith
       where
         go : (x : ℕ) → x < 512 * tables s → (linkIn s x ≡ 0) ⊎ (linkIn s x ≢ 0) → linkIn s x ≤ sum (tables s) (namedAt s x)
@@ -192,12 +202,15 @@ module _ (h : Handle) (s : St) (some : 1 ≤ tables s) (words : length (s .words
           omega arith
 
       slot : (x : ℕ) → x < 512 * tables s → T (slotb h s (x / 512) (x % 512) (wordIn s x))
-      slot x l = slot-of h s (x / 512) (x % 512) (wordIn s x) (runs-to s words h (λ k m. and-r (tableb h s k) _ (each k m)) x l) (counted-links pass count x l)
+      slot x l =
+          slot-of h s (x / 512) (x % 512) (wordIn s x) (runs-to s words h (λ k m. and-r (tableb h s k) _ (each k m)) x l)
+          (counted-links pass count x l)
 
   stream-of : T (soundb h s) → T (streamb h s)
   unfolding streamb soundb tablePasses passIn linkIn linkAt
   stream-of t =
-      and-i (allBelow (tables s) (tablePasses h s)) _ (all-of (tables s) (tablePasses h s) (λ k l. and-i (tableb h s k) _ (pass k l) (runs k l)))
+      and-i (allBelow (tables s) (tablePasses h s)) _
+      (all-of (tables s) (tablePasses h s) (λ k l. and-i (tableb h s k) _ (pass k l) (runs k l)))
       (eq→eqb (sum (tables s) (tableLinks s) + 1) (used (s .ledger)) (let c = count in let f = all-links s words in omega arith))
     where
       pass : (k : ℕ) → k < tables s → T (tableb h s k)
@@ -205,7 +218,8 @@ module _ (h : Handle) (s : St) (some : 1 ≤ tables s) (words : length (s .words
 
       slot : (x : ℕ) → x < 512 * tables s → T (slotb h s (x / 512) (x % 512) (wordIn s x))
       slot x l =
-          rw (zero-add x) at (from-to 0 (s .words) (λ x w. slotb h s (x / 512) (x % 512) w) (and-r (allBelow (tables s) (tableb h s)) _ t) x (omega arith))
+          rw (zero-add x) at
+          (from-to 0 (s .words) (λ x w. slotb h s (x / 512) (x % 512) w) (and-r (allBelow (tables s) (tableb h s)) _ t) x (omega arith))
 
       runs : (k : ℕ) → k < tables s → T (allBelow 4 (runPasses h s k))
       runs = runs-of s words h (λ x l. slot-passes h s (x / 512) (x % 512) (wordIn s x) (slot x l))

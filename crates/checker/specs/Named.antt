@@ -1,5 +1,5 @@
--- What the soundness test says of one slot and of one table: a word that passes, a table that hangs, a link, and the slot that a table's number names.
--- Assumes nothing.
+-- What the soundness test says of one slot and of one table: a word that passes, a table that hangs, a link, and the slot that a table's
+-- number names.
 use mathlib.Core.Path.{_≡_}
 use mathlib.Core.Bool.{Bool, true, false, cond, _&&_}
 use mathlib.Core.Logic.{_⊎_, inl, inr, _≢_}
@@ -40,7 +40,8 @@ module _ (h : Handle) (s : St) (k i w : ℕ) where
       go false true t l = t
       go false false t l = absurd (omega arith)
 
-  pub slot-of : T (passesb (flagSet h) (numberAt s k) w) → (0 < linkCount (numberAt s k) w → T (linkb (h .base .0) s k i w)) → T (slotb h s k i w)
+  pub slot-of : T (passesb (flagSet h) (numberAt s k) w) → (0 < linkCount (numberAt s k) w → T (linkb (h .base .0) s k i w))
+      → T (slotb h s k i w)
   unfolding slotb passesb linkCount
   slot-of t f = go (eqb (numberAt s k) 0) (refersb (numberAt s k) w) t f
     where
@@ -80,10 +81,17 @@ links-to base s p i w t =
     let from = eqb (parentOf z) p in
     let slot = eqb (slotOf z) i in
     let u = and-r (eqb w (linkOf base k)) (namesb z && (from && slot)) t in
-    let v = and-r (namesb z) (from && slot) u in
-    (k, record { named = and-l (namesb z) (from && slot) u; from = eqb→eq (parentOf z) p (and-l from slot v); slot = eqb→eq (slotOf z) i (and-r from slot v) })
+    let v = and-r (namesb z) (from && slot) u in (
+      k,
+      record {
+        named = and-l (namesb z) (from && slot) u;
+        from = eqb→eq (parentOf z) p (and-l from slot v);
+        slot = eqb→eq (slotOf z) i (and-r from slot v);
+      },
+    )
 
-pub links-of : (base : ℕ) (s : St) (p i k : ℕ) → (addressOf (linkOf base k) - base) / 4096 ≡ k → Links s p i k → T (linkb base s p i (linkOf base k))
+pub links-of : (base : ℕ) (s : St) (p i k : ℕ) → (addressOf (linkOf base k) - base) / 4096 ≡ k → Links s p i k
+    → T (linkb base s p i (linkOf base k))
 unfolding linkb
 links-of base s p i k back l =
     let z = numberAt s k in
@@ -100,7 +108,8 @@ namedAt s x k = tally (namesb (numberAt s k) && eqb (place s k) x)
 module _ (s : St) (x k : ℕ) where
   pub named-yes : Named s k → place s k ≡ x → namedAt s x k ≡ 1
   unfolding namedAt
-  named-yes t e = tally-yes (namesb (numberAt s k) && eqb (place s k) x) (and-i (namesb (numberAt s k)) (eqb (place s k) x) t (eq→eqb (place s k) x e))
+  named-yes t e =
+      tally-yes (namesb (numberAt s k) && eqb (place s k) x) (and-i (namesb (numberAt s k)) (eqb (place s k) x) t (eq→eqb (place s k) x e))
 
   pub named-says : 0 < namedAt s x k → Named s k × (place s k ≡ x)
   unfolding namedAt

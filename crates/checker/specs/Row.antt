@@ -1,5 +1,5 @@
--- The check's runs index by index, and all of them as one row of words: the tables' links summed over the row, the tables' runs passed word by word.
--- Assumes nothing.
+-- The check's runs index by index, and all of them as one row of words: the tables' links summed over the row, the tables' runs passed word
+-- by word.
 use mathlib.Core.Path.{_≡_, refl, sym, ap, _∙_, subst, subst⁻¹}
 use mathlib.Core.Bool.{Bool}
 use mathlib.Core.List.{List, [], _∷_}
@@ -30,7 +30,8 @@ pass-all-to set y (w ∷ ws) t (suc i) h = pass-all-to set y ws (and-r (passesb 
 pub pass-all-of : (set y : ℕ) (ws : List ℕ) → ((i : ℕ) → i < length ws → T (passesb set y (getD ws i 0))) → T (passAll set y ws)
 unfolding passAll
 pass-all-of set y [] h = tt
-pass-all-of set y (w ∷ ws) h = and-i (passesb set y w) (passAll set y ws) (h 0 (omega arith)) (pass-all-of set y ws (λ i l. h (suc i) (omega arith)))
+pass-all-of set y (w ∷ ws) h =
+    and-i (passesb set y w) (passAll set y ws) (h 0 (omega arith)) (pass-all-of set y ws (λ i l. h (suc i) (omega arith)))
 
 pub count-all : (y : ℕ) (ws : List ℕ) → countAll y ws ≡ sum (length ws) (λ i. linkCount y (getD ws i 0))
 unfolding countAll sum
@@ -86,7 +87,8 @@ module _ (s : St) (sized : length (s .words) ≡ 512 * tables s) where
   run-links : (k r : ℕ) → k < tables s → r < 4 → runLinks s k r ≡ sum 128 (λ i. linkIn s (512 * k + (128 * r + i)))
   unfolding runLinks linkIn
   run-links k r h l =
-      count-all (numberAt s k) (runWords s k r) ∙ ap (λ (m : ℕ). sum m (λ i. linkCount (numberAt s k) (getD (runWords s k r) i 0))) (run-length k r h l)
+      count-all (numberAt s k) (runWords s k r)
+      ∙ ap (λ (m : ℕ). sum m (λ i. linkCount (numberAt s k) (getD (runWords s k r) i 0))) (run-length k r h l)
       ∙ sum-ext 128 (λ i. linkCount (numberAt s k) (getD (runWords s k r) i 0)) (λ i. linkIn s (512 * k + (128 * r + i)))
       (λ i m. rw (run-word k r i m, run-number k r i l m))
 
@@ -97,11 +99,14 @@ module _ (s : St) (sized : length (s .words) ≡ 512 * tables s) where
       ∙ sym (sum-pieces 4 128 (λ i. linkIn s (512 * k + i)))
 
   pub all-links : sum (tables s) (tableLinks s) ≡ sum (512 * tables s) (linkIn s)
-  all-links = sum-ext (tables s) (tableLinks s) (λ k. sum 512 (λ i. linkIn s (512 * k + i))) table-links ∙ sym (sum-pieces (tables s) 512 (linkIn s))
+  all-links =
+      sum-ext (tables s) (tableLinks s) (λ k. sum 512 (λ i. linkIn s (512 * k + i))) table-links
+      ∙ sym (sum-pieces (tables s) 512 (linkIn s))
 
   -- every run of every table passes exactly when every word does
   module _ (h : Handle) where
-    run-pass : (k r i : ℕ) → r < 4 → i < 128 → passesb (flagSet h) (numberAt s k) (getD (runWords s k r) i 0) ≡ passIn h s (512 * k + (128 * r + i))
+    run-pass : (k r i : ℕ) → r < 4 → i < 128
+        → passesb (flagSet h) (numberAt s k) (getD (runWords s k r) i 0) ≡ passIn h s (512 * k + (128 * r + i))
     unfolding passIn
     run-pass k r i l m = rw (run-word k r i m, run-number k r i l m)
 
@@ -116,10 +121,12 @@ module _ (s : St) (sized : length (s .words) ≡ 512 * tables s) where
         let b : k < tables s = omega arith in
         let e : 512 * k + (128 * r + i) ≡ x = omega arith in
         subst (λ (y : ℕ). T (passIn h s y)) e (subst T (run-pass k r i l m)
-        (pass-all-to (flagSet h) (numberAt s k) (runWords s k r) (all-to 4 (runPasses h s k) (t k b) r l) i (omega (arith, run-length k r b l))))
+        (pass-all-to (flagSet h) (numberAt s k) (runWords s k r) (all-to 4 (runPasses h s k) (t k b) r l) i
+        (omega (arith, run-length k r b l))))
 
     pub runs-of : ((x : ℕ) → x < 512 * tables s → T (passIn h s x)) → (k : ℕ) → k < tables s → T (allBelow 4 (runPasses h s k))
     unfolding runPasses
     runs-of t k b =
         all-of 4 (runPasses h s k) (λ r l. pass-all-of (flagSet h) (numberAt s k) (runWords s k r)
-        (λ i m. let q : i < 128 = omega (arith, run-length k r b l) in subst⁻¹ T (run-pass k r i l q) (t (512 * k + (128 * r + i)) (omega arith))))
+        (λ i m. let q : i < 128 = omega (arith, run-length k r b l) in
+        subst⁻¹ T (run-pass k r i l q) (t (512 * k + (128 * r + i)) (omega arith))))

@@ -1,4 +1,4 @@
--- From the pass to soundness. Leans on `Counted`. Assumes nothing.
+-- From the pass to soundness. Leans on `Counted`.
 use mathlib.Core.Path.{_≡_, sym, ap, _∙_}
 use mathlib.Core.Bool.{true, false}
 use Prim.Native.Nat.{ℕ, _+_, _*_, _≤_, _<_}

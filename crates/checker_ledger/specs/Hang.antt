@@ -1,4 +1,4 @@
--- What the test of a hanging table says, part by part. Assumes nothing.
+-- What the test of a hanging table says, part by part.
 use mathlib.Core.Path.{_≡_}
 use mathlib.Core.Bool.{_&&_}
 use Prim.Native.Nat.{ℕ, suc, _<_}

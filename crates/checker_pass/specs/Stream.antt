@@ -1,4 +1,4 @@
--- The pass of the pool check: every table's number, then its words in four runs. Assumes nothing.
+-- The pass of the pool check: every table's number, then its words in four runs.
 use mathlib.Core.Bool.{Bool, cond, _&&_}
 use mathlib.Core.List.{List}
 use Prim.Native.Nat.{ℕ, _+_, _*_}

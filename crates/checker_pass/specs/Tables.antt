@@ -1,4 +1,4 @@
--- Laws that the pass cites: one for each way through a table and all tables. Leans on `Stream`. Assumes nothing.
+-- Laws that the pass cites: one for each way through a table and all tables. Leans on `Stream`.
 use mathlib.Core.Path.{_≡_, ap}
 use mathlib.Core.Bool.{true, false, _&&_}
 use Prim.Native.Nat.{ℕ, _<_}
@@ -11,7 +11,8 @@ use Rattle.checker_pass.specs.Stream.{runPasses, tablePasses, tableLinks
 use Rattle.pool.specs.declared.Handle.{Handle}
 use Rattle.checker_words.specs.declared.Run.the-variants.{Passed, Failed}
 
-pub tables-passed : (h : Handle) (s : St) (links : ℕ) → T (allBelow (tables s) (tablePasses h s)) → links ≡ sum (tables s) (tableLinks s) → Passed links ≡ tablesRun h s
+pub tables-passed : (h : Handle) (s : St) (links : ℕ) → T (allBelow (tables s) (tablePasses h s)) → links ≡ sum (tables s) (tableLinks s)
+    → Passed links ≡ tablesRun h s
 unfolding tablesRun
 tables-passed h s links t e = rw (is-true (allBelow (tables s) (tablePasses h s)) t) (ap Passed e)
 
@@ -26,7 +27,9 @@ number-fails h s k e = rw e
 
 pub run-fails : (h : Handle) (s : St) (k r : ℕ) → r < 4 → runPasses h s k r ≡ false → tablePasses h s k ≡ false
 unfolding tablePasses
-run-fails h s k r l e = is-false (tableb h s k && allBelow 4 (runPasses h s k)) (λ t. rw (all-fails 4 (runPasses h s k) r l e) at (and-r (tableb h s k) (allBelow 4 (runPasses h s k)) t))
+run-fails h s k r l e =
+    is-false (tableb h s k && allBelow 4 (runPasses h s k))
+    (λ t. rw (all-fails 4 (runPasses h s k) r l e) at (and-r (tableb h s k) (allBelow 4 (runPasses h s k)) t))
 
 pub table-passes : (h : Handle) (s : St) (k : ℕ) → tableb h s k ≡ true → T (allBelow 4 (runPasses h s k)) → T (tablePasses h s k)
 unfolding tablePasses

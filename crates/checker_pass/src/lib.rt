@@ -6,7 +6,8 @@ ghost use Rattle.pool.specs.State.{st};
 ghost use Rattle.pool.specs.Refuse.{Shaped};
 ghost use Rattle.checker_pass.specs.Stream.{tablesRun};
 
-// The links of all tables, if every number is right and every run passes. A table is read in four runs of 128 words; a run that fails ends both loops.
+// The links of all tables, if every number is right and every run passes. A table is read in four runs of 128 words; a run that fails ends
+// both loops.
 pub fn scan_tables(words: &[u64], ledger: &[u32], handle: Handle) -> Run
     requires { ⌜ Shaped handle (st (now words) (now ledger)) ⌝ }
     ensures { λ r. ⌜ r ≡ tablesRun handle (st (now (words .entry)) (now (ledger .entry))) ⌝ }

@@ -1,4 +1,4 @@
--- What a run's answer says: its test, and a count of links that is at most its length. Assumes nothing.
+-- What a run's answer says: its test, and a count of links that is at most its length.
 use mathlib.Core.Path.{_≡_, refl, sym, _∙_}
 use mathlib.Core.Bool.{Bool, true, false, cond}
 use mathlib.Core.List.{List, [], _∷_}

@@ -1,5 +1,5 @@
 -- A run of words judged by unions: one word against the bits that its level allows, unions of words, and from them a whole run.
--- Leans on `Words`. Assumes nothing.
+-- Leans on `Words`.
 use mathlib.Core.Path.{_≡_, refl, sym, ap, ap₂, _∙_}
 use mathlib.Core.Bool.{Bool, true, false, not, cond, _&&_}
 use mathlib.Core.List.{List, [], _∷_}
@@ -122,14 +122,16 @@ module _ (set w : ℕ) (plain : PlainSet set) (word : w < 2 ^ 64) where
       let bit = and-high w 1 1 in
       omega arith
 
-  block-word : (level : ℕ) → only (set + (2 ^ 48 - sizeAt level)) w ≡ only set (plainFlags w) && (ltb (w % 4) 2 && eqb (addressOf w % sizeAt level) 0)
+  block-word : (level : ℕ)
+      → only (set + (2 ^ 48 - sizeAt level)) w ≡ only set (plainFlags w) && (ltb (w % 4) 2 && eqb (addressOf w % sizeAt level) 0)
   unfolding only
   block-word level =
       let sum = and-sizes level in
       let parts = word-parts w in
       let flags = and-le-l (plainFlags w) set in
       let rest = down-rest (addressOf w) (sizeAt level) in
-      eqb-three (bitAnd w (set + (2 ^ 48 - sizeAt level))) w (bitAnd (plainFlags w) set) (plainFlags w) (addressOf w % sizeAt level) 0 (ltb (w % 4) 2)
+      eqb-three (bitAnd w (set + (2 ^ 48 - sizeAt level))) w (bitAnd (plainFlags w) set) (plainFlags w) (addressOf w % sizeAt level) 0
+      (ltb (w % 4) 2)
       (λ e. (omega arith, lt→ltb (w % 4) 2 (omega arith), omega arith))
       (λ e t z. let l = ltb→lt (w % 4) 2 t in omega arith)
 
@@ -245,7 +247,8 @@ module _ (set y : ℕ) (plain : PlainSet set) (some : 0 < y) (at : levelOf y ≡
   pages-count [] = refl
   pages-count (w ∷ ws) = rw (ne-eqb y 0 (λ e. omega arith), at) (zero-add (countAll y ws) ∙ pages-count ws)
 
-  pub pages-run : (ws : List ℕ) → Words ws → runOf set y ws ≡ cond (only (allowedAt set 3) (union ws) && eqb (strays ws % 2) 0) (Passed 0) Failed
+  pub pages-run : (ws : List ℕ) → Words ws
+      → runOf set y ws ≡ cond (only (allowedAt set 3) (union ws) && eqb (strays ws % 2) 0) (Passed 0) Failed
   unfolding runOf
   pages-run ws words = ap₂ (λ (b : Bool) (n : ℕ). cond b (Passed n) Failed) (pages-pass ws words) (pages-count ws)
 
@@ -318,11 +321,13 @@ module _ (ws : List ℕ) (i : ℕ) (h : i < length ws) where
 
   pub strays-more : strays (take (i + 1) ws) ≡ bitOr (strays (take i ws)) (bitAnd (getD ws i 0) (2 ^ 64 - 1 - getD ws i 0 / 2))
   unfolding strays
-  strays-more = rw add-one (total-more bitOr 0 (λ w. bitAnd w (2 ^ 64 - 1 - w / 2)) strays or-assoc (λ a. refl) or-zero-r refl (λ w ws. refl) ws i h)
+  strays-more =
+      rw add-one (total-more bitOr 0 (λ w. bitAnd w (2 ^ 64 - 1 - w / 2)) strays or-assoc (λ a. refl) or-zero-r refl (λ w ws. refl) ws i h)
 
   pub leaves-more : leaves (take (i + 1) ws) ≡ bitOr (leaves (take i ws)) (cond (eqb (getD ws i 0 % 4) 3) 0 (getD ws i 0))
   unfolding leaves
-  leaves-more = rw add-one (total-more bitOr 0 (λ w. cond (eqb (w % 4) 3) 0 w) leaves or-assoc (λ a. refl) or-zero-r refl (λ w ws. refl) ws i h)
+  leaves-more =
+      rw add-one (total-more bitOr 0 (λ w. cond (eqb (w % 4) 3) 0 w) leaves or-assoc (λ a. refl) or-zero-r refl (λ w ws. refl) ws i h)
 
   pub links-more : links (take (i + 1) ws) ≡ links (take i ws) + cond (eqb (getD ws i 0 % 4) 3) 1 0
   unfolding links

@@ -1,5 +1,5 @@
--- A run of words of a table: what the soundness test asks of it word by word, and the same by the union of its words and a count of its links.
--- Assumes nothing.
+-- A run of words of a table: what the soundness test asks of it word by word, and the same by the union of its words and a count of its
+-- links.
 use mathlib.Core.Bool.{Bool, true, cond, _&&_}
 use mathlib.Core.List.{List, [], _∷_}
 use Prim.Native.Nat.{ℕ, zero, suc, _+_, _-_, _/_, _%_, _^_}

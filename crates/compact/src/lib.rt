@@ -20,7 +20,8 @@ pub fn compact_subtables(
     level: usize,
 )
     requires { ⌜ (length (now words) ≡ 512 * length (now ledger)) × (k < length (now ledger)) × (level ≤ 3) ⌝ }
-    ensures { λ _. ⌜ st (now (words .exit)) (now (ledger .exit)) ≡ compactTable (3 - level) handle k (st (now (words .entry)) (now (ledger .entry))) ⌝ }
+    ensures { λ _. ⌜ st (now (words .exit)) (now (ledger .exit))
+        ≡ compactTable (3 - level) handle k (st (now (words .entry)) (now (ledger .entry))) ⌝ }
 {
     if address::LEAF_LEVEL <= level {
         return;
@@ -40,7 +41,8 @@ pub fn compact_subtables(
 
 // Compacts the pool: no table but the root stays that is all zero.
 pub fn compact(words: &mut [u64], ledger: &mut [u32], handle: Handle) -> Counted
-    ensures { λ r. ⌜ out r (st (now (words .exit)) (now (ledger .exit))) ≡ compactCall handle (st (now (words .entry)) (now (ledger .entry))) ⌝ }
+    ensures { λ r. ⌜ out r (st (now (words .exit)) (now (ledger .exit)))
+        ≡ compactCall handle (st (now (words .entry)) (now (ledger .entry))) ⌝ }
 {
     if !pool_handle::is_shaped(words, ledger, handle) {
         return Counted::Refused(Refusal::Shape);

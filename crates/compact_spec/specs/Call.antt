@@ -1,5 +1,5 @@
--- The whole call (document 01, "The refusal slip"): answer and state for every input. Refusals 1 and 8 in their order; a refusal leaves the state as it was.
--- Assumes nothing.
+-- The whole call (document 01, "The refusal slip"): answer and state for every input. Refusals 1 and 8 in their order; a refusal leaves the
+-- state as it was.
 use mathlib.Core.Path.{_≡_, ap}
 use mathlib.Core.Bool.{true, false, cond}
 use Prim.Native.Nat.{ℕ, _-_}

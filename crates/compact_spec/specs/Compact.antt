@@ -1,5 +1,6 @@
--- Document 01, "Putting down a map", Compact: "from the leaves up: it frees each table other than the root whose words are all zero, zeroes its slot, and so
--- also frees a table that this empties". One entry is done when its subtree is, and its table is freed if that leaves it empty. Assumes nothing.
+-- Document 01, "Putting down a map", Compact: "from the leaves up: it frees each table other than the root whose words are all zero, zeroes
+-- its slot, and so also frees a table that this empties". One entry is done when its subtree is, and its table is freed if that leaves it
+-- empty.
 use mathlib.Core.Path.{_≡_, sym, ap, _∙_}
 use mathlib.Core.Bool.{Bool, true, false, cond, _&&_}
 use mathlib.Core.List.{List, [], _∷_}
@@ -69,7 +70,8 @@ module _ (k i j : ℕ) (s : St) where
   unfolding releaseEmpty
   release-freed e = rw e
 
-module _ (rec : ℕ → St → St) (h : Handle) (k level i : ℕ) (s : St) {x : Sub} (is : x ≡ subOf (h .base .0) (tables s) level (wordAt s k i)) where
+module _ (rec : ℕ → St → St) (h : Handle) (k level i : ℕ) (s : St) {x : Sub}
+    (is : x ≡ subOf (h .base .0) (tables s) level (wordAt s k i)) where
   chosen : (y : Sub) → x ≡ y → compactSub rec k i y s ≡ compactEntry rec h k level i s
   unfolding compactEntry
   chosen y e = ap (λ (z : Sub). compactSub rec k i z s) (sym e ∙ is)

@@ -1,4 +1,4 @@
--- A match on `Sub` that takes the other arms: what stands there is no table. Assumes nothing.
+-- A match on `Sub` that takes the other arms: what stands there is no table.
 use mathlib.Core.Logic.{_⊎_, inl, inr}
 use mathlib.Core.Path.{_≡_, refl}
 use native.Mathlib.Omega.{arith}

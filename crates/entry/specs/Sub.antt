@@ -1,5 +1,4 @@
 -- Where an entry leads: the table that its word refers to, if its kind is a table and its address is one of the pool's. Leans on `Word`.
--- Assumes nothing.
 use mathlib.Core.Path.{_≡_, refl, sym, ap, _∙_}
 use mathlib.Core.Bool.{cond}
 use mathlib.Core.Logic.{_⊎_, inl, inr}
@@ -73,8 +72,12 @@ in-pool base n a k e = go (le-or base a) (le-or n ((a - base) / 4096))
         let same : _≡_ {A = Sub} (Table ((a - base) / 4096)) (Table k) = rw (le-leb base a l, lt-ltb ((a - base) / 4096) n m) at e in
         let is : (a - base) / 4096 ≡ k = cc in
         (omega arith, l, is)
-    go (inl l) (inl m) = absurd (let same : _≡_ {A = Sub} Outside (Table k) = rw (le-leb base a l, le-ltb ((a - base) / 4096) n m) at e in let z : _≡_ {A = ℕ} 0 1 = cc in omega arith)
-    go (inr l) m = absurd (let same : _≡_ {A = Sub} Outside (Table k) = rw (lt-leb base a l) at e in let z : _≡_ {A = ℕ} 0 1 = cc in omega arith)
+    go (inl l) (inl m) =
+        absurd
+        (let same : _≡_ {A = Sub} Outside (Table k) = rw (le-leb base a l, le-ltb ((a - base) / 4096) n m) at e in
+        let z : _≡_ {A = ℕ} 0 1 = cc in omega arith)
+    go (inr l) m =
+        absurd (let same : _≡_ {A = Sub} Outside (Table k) = rw (lt-leb base a l) at e in let z : _≡_ {A = ℕ} 0 1 = cc in omega arith)
 
 pub record Found (base n level w k : ℕ) : Type 0 where
   pub high : level < 3
@@ -102,7 +105,8 @@ pub sub-below : (base n level w k : ℕ) → subOf base n level w ≡ Table k �
 sub-below base n level w k e = sub-found base n level w k e .below
 
 -- the link of a table of the pool leads to it
-pub sub-link : (base n k level : ℕ) → level < 3 → base % 4096 ≡ 0 → base + 4096 * n ≤ 2 ^ 48 → k < n → subOf base n level (linkOf base k) ≡ Table k
+pub sub-link : (base n k level : ℕ) → level < 3 → base % 4096 ≡ 0 → base + 4096 * n ≤ 2 ^ 48 → k < n
+    → subOf base n level (linkOf base k) ≡ Table k
 unfolding linkOf
 sub-link base n k level h pages below l =
     let a = link-address base k pages (omega arith) in

@@ -1,6 +1,5 @@
--- What a word says (document 01, "What a word says"): its fields, its kind at its level, the word that refers to a table; the word that a map writes and
--- the one that an edit leaves.
--- Assumes nothing.
+-- What a word says (document 01, "What a word says"): its fields, its kind at its level, the word that refers to a table; the word that a
+-- map writes and the one that an edit leaves.
 use mathlib.Core.Path.{_≡_, refl, ap, _∙_}
 use mathlib.Core.Bool.{Bool, true, false, cond, _||_}
 use mathlib.Core.Logic.{_⊎_, inl, inr, _≢_}
@@ -23,8 +22,8 @@ addressOf w = w / 4096 % 2 ^ 36 * 4096
 unfoldable pub flagsOf : ℕ → ℕ
 flagsOf w = w % 4096 + w / 2 ^ 48 * 2 ^ 48
 
--- decided by its level and its two low bits: both set is a table at levels 0 to 2 and a page at level 3; 1 is a block at levels 1 and 2 and a hole at 0 and 3;
--- bit 0 clear is a hole
+-- decided by its level and its two low bits: both set is a table at levels 0 to 2 and a page at level 3; 1 is a block at levels 1 and 2 and
+-- a hole at 0 and 3; bit 0 clear is a hole
 unfoldable pub kindOf : ℕ → ℕ → Kind
 kindOf level w =
     cond (eqb (w % 4) 3) (cond (leb 3 level) Page Table)
@@ -43,7 +42,8 @@ plainFlags w = w % 2 + w / 4 % 1024 * 4 + w / 2 ^ 48 * 2 ^ 48
 unfoldable pub linkOf : ℕ → ℕ → ℕ
 linkOf base k = base + 4096 * k + 3
 
--- document 01, "Putting down a map": "a VALID map writes frame + flags + 2" at level 3, above it the block without bit 1; "otherwise the flags alone"
+-- document 01, "Putting down a map": "a VALID map writes frame + flags + 2" at level 3, above it the block without bit 1; "otherwise the
+-- flags alone"
 unfoldable pub leafWord : ℕ → ℕ → ℕ → ℕ
 leafWord level frame flags = cond (valid flags) (cond (leb 3 level) (frame + flags + 2) (frame + flags)) flags
 

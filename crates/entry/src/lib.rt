@@ -1,4 +1,5 @@
-// What a word says at its level: address, flags, kind, and the table that it refers to. Port of Descriptor of descriptor.rs (aarch64-paging 0.12.3).
+// What a word says at its level: address, flags, kind, and the table that it refers to. Port of Descriptor of descriptor.rs (aarch64-paging
+// 0.12.3).
 use address::PhysicalAddress;
 ghost use mathlib.Core.Path.{_≡_};
 ghost use Prim.Native.Nat.{_%_, _^_};

@@ -1,4 +1,4 @@
--- Page image, the whole call: one table's 512 words, little-endian, into 4096 bytes. Refusals 1 (a table number not below n counts), 11. Assumes nothing.
+-- Page image, the whole call: one table's 512 words, little-endian, into 4096 bytes. Refusals 1 (a table number not below n counts), 11.
 use mathlib.Core.Path.{_≡_}
 use mathlib.Core.Bool.{true, false, cond}
 use mathlib.Core.List.{List}

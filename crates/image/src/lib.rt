@@ -14,7 +14,8 @@ pub fn page_image(
     k: usize,
     page: &mut [u8],
 ) -> Outcome
-    ensures { λ r. ⌜ imaged r (now (page .exit)) ≡ imageCall handle (st (now (words .entry)) (now (ledger .entry))) k (now (page .entry)) ⌝ }
+    ensures { λ r. ⌜ imaged r (now (page .exit))
+        ≡ imageCall handle (st (now (words .entry)) (now (ledger .entry))) k (now (page .entry)) ⌝ }
 {
     if !pool_handle::is_shaped(words, ledger, handle) {
         return Outcome::Refused(Refusal::Shape);

@@ -1,4 +1,4 @@
--- A table's words as bytes, little-endian (document 01, "page image"), and the laws that the loops cite. Assumes nothing.
+-- A table's words as bytes, little-endian (document 01, "page image"), and the laws that the loops cite.
 use mathlib.Core.Path.{_≡_, refl, sym, ap, ap₂, _∙_}
 use mathlib.Core.List.{List, [], _∷_, _++_, append-assoc, append-nil}
 use Prim.Native.Nat.{ℕ, zero, suc, _+_, _*_, _/_, _%_, _<_}
@@ -47,12 +47,16 @@ bytes-at (suc n) w (suc i) h = bytes-at n (w / 256) i (omega arith) ∙ ap (λ (
 pub length-image : (ws : List ℕ) → length (imageOf ws) ≡ 8 * length ws
 unfolding imageOf
 length-image [] = refl
-length-image (w ∷ ws) = length-append (bytesOf 8 w) (imageOf ws) ∙ (let e = length-bytes 8 w in let r = length-image ws in let s : length (bytesOf 8 w) + length (imageOf ws) ≡ 8 * suc (length ws) = omega arith in s)
+length-image (w ∷ ws) =
+    length-append (bytesOf 8 w) (imageOf ws)
+    ∙ (let e = length-bytes 8 w in let r = length-image ws in
+    let s : length (bytesOf 8 w) + length (imageOf ws) ≡ 8 * suc (length ws) = omega arith in s)
 
 image-append : (us ws : List ℕ) → imageOf (us ++ ws) ≡ imageOf us ++ imageOf ws
 unfolding imageOf
 image-append [] ws = refl
-image-append (u ∷ us) ws = ap (λ (l : List ℕ). bytesOf 8 u ++ l) (image-append us ws) ∙ sym (append-assoc (bytesOf 8 u) (imageOf us) (imageOf ws))
+image-append (u ∷ us) ws =
+    ap (λ (l : List ℕ). bytesOf 8 u ++ l) (image-append us ws) ∙ sym (append-assoc (bytesOf 8 u) (imageOf us) (imageOf ws))
 
 image-one : (w : ℕ) → imageOf (w ∷ []) ≡ bytesOf 8 w
 unfolding imageOf

@@ -1,4 +1,4 @@
--- A part of a list that was lent and has come back: what a callee says of the part, said of the whole. Assumes nothing.
+-- A part of a list that was lent and has come back: what a callee says of the part, said of the whole.
 use mathlib.Core.Path.{_≡_, refl, sym, ap, _∙_}
 use mathlib.Core.List.{List, [], _∷_, _++_, append-nil}
 use Prim.Native.Nat.{ℕ, zero, suc, _+_, _-_, _≤_, _<_}
@@ -36,16 +36,19 @@ part-length a e l h = mid-len a e l h
 
 pub put-before {ℓ} : {A : Type ℓ} (a : ℕ) (p l : List A) (j : ℕ) (d : A) → a ≤ length l → j < a → getD (putPart a p l) j d ≡ getD l j d
 unfolding putPart
-put-before a p l j d h k = List·getD-append (take a l) (p ++ drop (a + length p) l) d j (let q = length-take-le a l h in omega arith) ∙ getD-take a l j d k
+put-before a p l j d h k =
+    List·getD-append (take a l) (p ++ drop (a + length p) l) d j (let q = length-take-le a l h in omega arith) ∙ getD-take a l j d k
 
-pub put-inside {ℓ} : {A : Type ℓ} (a : ℕ) (p l : List A) (i : ℕ) (d : A) → a ≤ length l → i < length p → getD (putPart a p l) (a + i) d ≡ getD p i d
+pub put-inside {ℓ} : {A : Type ℓ} (a : ℕ) (p l : List A) (i : ℕ) (d : A) → a ≤ length l → i < length p
+    → getD (putPart a p l) (a + i) d ≡ getD p i d
 unfolding putPart
 put-inside a p l i d h k =
     ap (λ (x : ℕ). getD (take a l ++ (p ++ drop (a + length p) l)) (x + i) d) (sym (length-take-le a l h))
     ∙ getD-append-add (take a l) (p ++ drop (a + length p) l) i d
     ∙ List·getD-append p (drop (a + length p) l) d i k
 
-pub put-after {ℓ} : {A : Type ℓ} (a : ℕ) (p l : List A) (j : ℕ) (d : A) → a ≤ length l → a + length p ≤ j → getD (putPart a p l) j d ≡ getD l j d
+pub put-after {ℓ} : {A : Type ℓ} (a : ℕ) (p l : List A) (j : ℕ) (d : A) → a ≤ length l → a + length p ≤ j
+    → getD (putPart a p l) j d ≡ getD l j d
 unfolding putPart
 put-after a p l j d h k =
     let m : ℕ = j - (a + length p) in
@@ -59,7 +62,8 @@ put-after a p l j d h k =
 
 -- ---- a loop that writes a list from the front, one store a turn: after i turns it is `take i s ++ drop i d`
 
-write-suc {ℓ} : {A : Type ℓ} (d s : List A) (i : ℕ) (z : A) → i < length d → i < length s → set (take i s ++ drop i d) i (getD s i z) ≡ take (suc i) s ++ drop (suc i) d
+write-suc {ℓ} : {A : Type ℓ} (d s : List A) (i : ℕ) (z : A) → i < length d → i < length s
+    → set (take i s ++ drop i d) i (getD s i z) ≡ take (suc i) s ++ drop (suc i) d
 write-suc [] s i z h k = absurd (omega arith)
 write-suc (x ∷ d) [] i z h k = absurd (omega arith)
 write-suc (x ∷ d) (y ∷ s) zero z h k = refl

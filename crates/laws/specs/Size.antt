@@ -1,9 +1,9 @@
 -- Entry sizes, once over the level: 2^39, 2^30, 2^21 and 2^12 at levels 0 to 3, and 2^12 past them. Rounding to a multiple.
--- Assumes nothing.
 use mathlib.Core.Path.{_≡_, sym, ap, _∙_}
 use mathlib.Core.Bool.{_&&_}
 use Prim.Native.Nat.{ℕ, _+_, _*_, _-_, _/_, _%_, _^_, _≤_, _<_}
-use native.Mathlib.Nat.{add-mul, mul-assoc, mul-mod-left, mul-le-mul-right, div-add-mod', mod-lt, mod-eq-of-lt, zero-mod, mod-mod-of-dvd, dvd-mul-left, add-mul-mod-self-right, div-eq-of-lt-le, div-lt-iff-lt-mul}
+use native.Mathlib.Nat.{add-mul, mul-assoc, mul-mod-left, mul-le-mul-right, div-add-mod', mod-lt, mod-eq-of-lt, zero-mod, mod-mod-of-dvd}
+use native.Mathlib.Nat.{dvd-mul-left, add-mul-mod-self-right, div-eq-of-lt-le, div-lt-iff-lt-mul}
 use native.Mathlib.Omega.{arith}
 use lib.Bits.{bitAnd, bitOr, and-mask}
 use lib.Dec.{eqb}
@@ -33,7 +33,8 @@ size-page level h = let e : 12 + 9 * (3 - level) ≡ 12 = omega arith in ap (λ 
 -- every size is a multiple of the page
 pub size-pages : (level : ℕ) → sizeAt level ≡ 2 ^ (9 * (3 - level)) * 4096
 unfolding sizeAt
-size-pages level = let e : 12 + 9 * (3 - level) ≡ 9 * (3 - level) + 12 = omega arith in ap (λ (k : ℕ). 2 ^ k) e ∙ pow-add 2 (9 * (3 - level)) 12
+size-pages level =
+    let e : 12 + 9 * (3 - level) ≡ 9 * (3 - level) + 12 = omega arith in ap (λ (k : ℕ). 2 ^ k) e ∙ pow-add 2 (9 * (3 - level)) 12
 
 pub size-low : (level : ℕ) → 4096 ≤ sizeAt level
 unfolding sizeAt
@@ -137,7 +138,8 @@ pub size-room : (level a : ℕ) → a < 2 ^ 48 → down a (sizeAt level) + sizeA
 unfolding sizeAt
 size-room level a h =
     let e : 48 ≡ (36 - 9 * (3 - level)) + (12 + 9 * (3 - level)) = omega arith in
-    let w : 2 ^ 48 ≡ 2 ^ (36 - 9 * (3 - level)) * 2 ^ (12 + 9 * (3 - level)) = ap (λ (k : ℕ). 2 ^ k) e ∙ pow-add 2 (36 - 9 * (3 - level)) (12 + 9 * (3 - level)) in
+    let w : 2 ^ 48 ≡ 2 ^ (36 - 9 * (3 - level)) * 2 ^ (12 + 9 * (3 - level)) =
+    ap (λ (k : ℕ). 2 ^ k) e ∙ pow-add 2 (36 - 9 * (3 - level)) (12 + 9 * (3 - level)) in
     let r = down-room (2 ^ (36 - 9 * (3 - level))) a (2 ^ (12 + 9 * (3 - level))) (pow-pos (12 + 9 * (3 - level))) (omega arith) in
     omega arith
 

@@ -1,4 +1,4 @@
--- A loop over slots as a fold: `iter f n s` is f at 0, then at 1, .., then at n - 1. Assumes nothing.
+-- A loop over slots as a fold: `iter f n s` is f at 0, then at 1, .., then at n - 1.
 use mathlib.Core.Path.{_≡_, refl, sym, ap, _∙_}
 use Prim.Native.Nat.{ℕ, zero, suc, _+_}
 use native.Mathlib.Numerals.{add-one}

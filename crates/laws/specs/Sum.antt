@@ -1,4 +1,4 @@
--- Sums over the numbers below n: of slots, of tables. Assumes nothing.
+-- Sums over the numbers below n: of slots, of tables.
 use mathlib.Core.Path.{_≡_, refl, sym, ap, _∙_}
 use mathlib.Core.Bool.{Bool, true, false}
 use mathlib.Core.Logic.{_⊎_, inl, inr, _≢_}

@@ -1,5 +1,4 @@
 -- Tests that compute, and what they say: a case split on a test, `T b` through `&&`, `||` and a choice, "for all below n", "for all words".
--- Assumes nothing.
 use mathlib.Core.Path.{_≡_, refl, sym, subst}
 use mathlib.Core.Bool.{Bool, true, false, cond, _&&_, _||_, true≢false}
 use mathlib.Core.List.{List, [], _∷_}

@@ -1,4 +1,4 @@
--- The call list: refusals 1, 2, 5, 6, 8, 11 in this order, else the lines. Leans on `Lines`. Assumes nothing.
+-- The call list: refusals 1, 2, 5, 6, 8, 11 in this order, else the lines. Leans on `Lines`.
 use mathlib.Core.Path.{_≡_, sym, ap, _∙_}
 use mathlib.Core.Bool.{true, false, cond}
 use mathlib.Core.List.{List, _++_}
@@ -43,7 +43,8 @@ put ls list = numbers ls ++ drop (4 * length ls) list
 
 -- refusal 11
 unfoldable pub listLines : List Line → List ℕ → Listing
-listLines ls list = cond (leb (4 * length ls) (length list)) (listing (Lines (length ls)) (put ls list)) (listing (refused (Short (4 * length ls))) list)
+listLines ls list =
+    cond (leb (4 * length ls) (length list)) (listing (Lines (length ls)) (put ls list)) (listing (refused (Short (4 * length ls))) list)
 
 -- refusal 8
 unfoldable pub listSound : Handle → St → MemoryRegion → List ℕ → Listing
@@ -54,7 +55,8 @@ listVerified h s r list (Refused x) = listing (refused x) list
 listVerified h s r list Accepted = listSound h s r list
 
 unfoldable pub listCall : Handle → St → ℕ → ℕ → List ℕ → Listing
-listCall h s start end list = cond (shaped h s) (listVerified h s (rounded start end) list (verifyEnds h start end)) (listing (refused Shape) list)
+listCall h s start end list =
+    cond (shaped h s) (listVerified h s (rounded start end) list (verifyEnds h start end)) (listing (refused Shape) list)
 
 -- ---- laws: one for each way through the code
 
@@ -93,15 +95,18 @@ module _ (h : Handle) (start end : ℕ) where
   unfolding verifyEnds
   ends-fit e q = rw (e, q)
 
-pub list-short : (ls : List Line) (list : List ℕ) → length list < 4 * length ls → listing (refused (Short (4 * length ls))) list ≡ listLines ls list
+pub list-short : (ls : List Line) (list : List ℕ) → length list < 4 * length ls
+    → listing (refused (Short (4 * length ls))) list ≡ listLines ls list
 unfolding listLines
 list-short ls list l = rw (lt-leb (4 * length ls) (length list) l)
 
-pub list-written : (ls : List Line) (list : List ℕ) → 4 * length ls ≤ length list → listing (Lines (length ls)) (putPart 0 (numbers ls) list) ≡ listLines ls list
+pub list-written : (ls : List Line) (list : List ℕ) → 4 * length ls ≤ length list
+    → listing (Lines (length ls)) (putPart 0 (numbers ls) list) ≡ listLines ls list
 unfolding listLines put putPart
 list-written ls list l =
     rw (le-leb (4 * length ls) (length list) l)
-    (ap (λ (x : ℕ). listing (Lines (length ls)) (numbers ls ++ drop x list)) (let e = length-numbers ls in let q : 0 + length (numbers ls) ≡ 4 * length ls = omega arith in q))
+    (ap (λ (x : ℕ). listing (Lines (length ls)) (numbers ls ++ drop x list))
+    (let e = length-numbers ls in let q : 0 + length (numbers ls) ≡ 4 * length ls = omega arith in q))
 
 -- ---- a region that was verified is no longer than the largest span
 
@@ -109,7 +114,10 @@ pub ends-verified : (h : Handle) (start end : ℕ) → verifyEnds h start end �
 unfolding verifyEnds
 ends-verified h start end e = byBool (endFits end) (λ f. rw f at e) (λ f. absurd (refused-never (rw f at e)))
 
-pub verified-length : (h : Handle) (start end : ℕ) → verifyEnds h start end ≡ Accepted → {r : MemoryRegion} → r ≡ rounded start end → r .end .0 - r .start .0 ≤ 2 ^ 48
+pub verified-length : (h : Handle) (start end : ℕ) → verifyEnds h start end ≡ Accepted → {r : MemoryRegion} → r ≡ rounded start end
+    → r .end .0 - r .start .0 ≤ 2 ^ 48
 unfolding rounded
 verified-length h start end e q =
-    rw q (span-length (h .range) (h .level) (rounded start end) (verified-span h (rounded start end) (ends-verified h start end e)) (up-below end 4096))
+    rw q
+    (span-length (h .range) (h .level) (rounded start end) (verified-span h (rounded start end) (ends-verified h start end e))
+    (up-below end 4096))

@@ -36,7 +36,8 @@ fn list_lines(
     list: &mut [u64],
 ) -> Listed
     requires { ⌜ (length (now words) ≡ 512 * tables) × (1 ≤ tables) × (handle .level ≤ 3) × (region .end .0 - region .start .0 ≤ 2 ^ 48) ⌝ }
-    ensures { λ r. ⌜ listing r (now (list .exit)) ≡ listLines (linesFrom (handle .base .0) tables (now (words .entry)) (3 - handle .level) 0 region) (now (list .entry)) ⌝ }
+    ensures { λ r. ⌜ listing r (now (list .exit))
+        ≡ listLines (linesFrom (handle .base .0) tables (now (words .entry)) (3 - handle .level) 0 region) (now (list .entry)) ⌝ }
 {
     let count = list_lines::count_lines(words, tables, handle, 0, handle.level, region);
     if list.len() / 4 < count {
@@ -55,7 +56,8 @@ pub fn list(
     end: VirtualAddress,
     list: &mut [u64],
 ) -> Listed
-    ensures { λ r. ⌜ listing r (now (list .exit)) ≡ listCall handle (st (now (words .entry)) (now (ledger .entry))) (start .0) (end .0) (now (list .entry)) ⌝ }
+    ensures { λ r. ⌜ listing r (now (list .exit))
+        ≡ listCall handle (st (now (words .entry)) (now (ledger .entry))) (start .0) (end .0) (now (list .entry)) ⌝ }
 {
     if !pool_handle::is_shaped(words, ledger, handle) {
         return Listed::Refused(Refusal::Shape);

@@ -1,5 +1,5 @@
--- The lines of a region are the walk: ascending, end to end from the region's start to its end, none empty; a line lies in one entry, and at every address of
--- it the walk ends in the line's word, at its level. Leans on `Lines`, `Page`. Assumes nothing.
+-- The lines of a region are the walk: ascending, end to end from the region's start to its end, none empty; a line lies in one entry, and
+-- at every address of it the walk ends in the line's word, at its level. Leans on `Lines`, `Page`.
 use mathlib.Core.Path.{_≡_, refl, sym, _∙_}
 use mathlib.Core.List.{List, [], _∷_, _++_}
 use mathlib.Core.Logic.{_⊎_, inl, inr, _≢_}
@@ -33,13 +33,15 @@ covers-append h (done q) d = rw q d
 covers-append h (next a b c p t) d = next a b (omega arith) p (covers-append h t d)
 
 -- what follows of each line between s and e
-pub covers-map : {P Q : Line → Type 0} {e s from : ℕ} {ls : List Line} → from ≤ s → ((l : Line) → from ≤ l .start → l .end ≤ e → P l → Q l) → Covers P e s ls → Covers Q e s ls
+pub covers-map : {P Q : Line → Type 0} {e s from : ℕ} {ls : List Line} → from ≤ s → ((l : Line) → from ≤ l .start → l .end ≤ e → P l → Q l)
+    → Covers P e s ls → Covers Q e s ls
 covers-map h f (done q) = done q
 covers-map h f (next {l = l} a b c p t) = next a b c (f l (omega arith) c p) (covers-map (omega arith) f t)
 
 -- one chunk after the other
 each-covers : {P : Line → Type 0} {level e s : ℕ} {rs : List MemoryRegion} (f : MemoryRegion → List Line)
-    → ((r : MemoryRegion) → r .start .0 < r .end .0 → r .end .0 ≤ entryLast level (r .start .0) + 1 → Covers P (r .end .0) (r .start .0) (f r))
+    → ((r : MemoryRegion) → r .start .0 < r .end .0 → r .end .0 ≤ entryLast level (r .start .0) + 1
+    → Covers P (r .end .0) (r .start .0) (f r))
     → s ≤ e → Tiles level e s rs → Covers P e s (each f rs)
 unfolding each
 each-covers f h q (none l) = done (le-antisymm q l)
@@ -58,7 +60,8 @@ module _ (base n : ℕ) (words : List ℕ) where
   -- the line lies in one entry of its level, and at every address of it the walk ends in its word, at its level, unless it leaves the pool
   pub record Meets (depth k : ℕ) (l : Line) : Type 0 where
     pub entry : (a : ℕ) → l .start ≤ a → a < l .end → a / sizeAt (l .level) ≡ l .start / sizeAt (l .level)
-    pub meets : (a : ℕ) → l .start ≤ a → a < l .end → reachFrom base n words a depth k ≢ away → reachFrom base n words a depth k ≡ at (l .level) (l .word)
+    pub meets : (a : ℕ) → l .start ≤ a → a < l .end → reachFrom base n words a depth k ≢ away
+        → reachFrom base n words a depth k ≡ at (l .level) (l .word)
 
   -- one chunk of table k
   module _ (k level : ℕ) (here : level ≤ 3)
@@ -71,11 +74,13 @@ module _ (base n : ℕ) (words : List ℕ) where
     same : (a : ℕ) → r .start .0 ≤ a → a < r .end .0 → w ≡ fetch words a k level
     same a l u = same-fetch words (r .start .0) a level k level (omega arith) here (sym (in-entry level (r .start .0) a l (omega arith)))
 
-    one : ((a : ℕ) → r .start .0 ≤ a → a < r .end .0 → reachFrom base n words a (3 - level) k ≢ away → reachFrom base n words a (3 - level) k ≡ at level w)
+    one : ((a : ℕ) → r .start .0 ≤ a → a < r .end .0 → reachFrom base n words a (3 - level) k ≢ away
+        → reachFrom base n words a (3 - level) k ≡ at level w)
         → Covers (Meets (3 - level) k) (r .end .0) (r .start .0) (line r w level ∷ [])
     one h = next refl some (omega arith) (record { entry = λ a l u. in-entry level (r .start .0) a l (omega arith); meets = h }) (done refl)
 
-    chunk-covers : (x : Sub) → subOf base n level w ≡ x → Covers (Meets (3 - level) k) (r .end .0) (r .start .0) (linesAt base n words k level r)
+    chunk-covers : (x : Sub) → subOf base n level w ≡ x
+        → Covers (Meets (3 - level) k) (r .end .0) (r .start .0) (linesAt base n words k level r)
     chunk-covers (Table j) e =
         rw (lines-table base n words k level r refl refl j e)
         (covers-map {from = r .start .0} (omega arith) (λ l from to p. record {
@@ -95,11 +100,13 @@ module _ (base n : ℕ) (words : List ℕ) where
   region-covers : (k level : ℕ) (here : level ≤ 3)
       → ((j : ℕ) (r : MemoryRegion) → level < 3 → r .start .0 ≤ r .end .0
       → Covers (Meets (3 - (level + 1)) j) (r .end .0) (r .start .0) (linesFrom base n words (3 - (level + 1)) j r))
-      → (r : MemoryRegion) → r .start .0 ≤ r .end .0 → Covers (Meets (3 - level) k) (r .end .0) (r .start .0) (linesFrom base n words (3 - level) k r)
+      → (r : MemoryRegion) → r .start .0 ≤ r .end .0
+      → Covers (Meets (3 - level) k) (r .end .0) (r .start .0) (linesFrom base n words (3 - level) k r)
   region-covers k level here below r l =
       rw (lines-each base n words k level r here)
       (each-covers (linesAt base n words k level)
-      (λ q some within. chunk-covers k level here below q some within (subOf base n level (fetch words (q .start .0) k level)) refl) l (chunks-tile level (r .start .0) (r .end .0)))
+      (λ q some within. chunk-covers k level here below q some within (subOf base n level (fetch words (q .start .0) k level)) refl) l
+      (chunks-tile level (r .start .0) (r .end .0)))
 
   -- the lines of a region in table k, for any words
   pub lines-cover : (depth k : ℕ) (r : MemoryRegion) → depth ≤ 3 → r .start .0 ≤ r .end .0
@@ -122,12 +129,14 @@ abbrev pub nthLine : List Line → ℕ → Line
 nthLine ls i = getD ls i (record { start = 0; end = 0; word = 0; level = 0 })
 
 -- ascending and disjoint: a line ends where a later one begins, or before
-pub inside : {P : Line → Type 0} {e s : ℕ} {ls : List Line} → Covers P e s ls → (i : ℕ) → i < length ls → (s ≤ nthLine ls i .start) × (nthLine ls i .start < nthLine ls i .end) × (nthLine ls i .end ≤ e)
+pub inside : {P : Line → Type 0} {e s : ℕ} {ls : List Line} → Covers P e s ls → (i : ℕ) → i < length ls
+    → (s ≤ nthLine ls i .start) × (nthLine ls i .start < nthLine ls i .end) × (nthLine ls i .end ≤ e)
 inside (done q) i h = absurd (omega arith)
 inside (next a b c p t) zero h = (omega arith, omega arith, c)
 inside (next a b c p t) (suc i) h = let r = inside t i (omega arith) in (omega (arith, r .0), r .1, r .2)
 
-pub ascending : {P : Line → Type 0} {e s : ℕ} {ls : List Line} → Covers P e s ls → (i j : ℕ) → i < j → j < length ls → nthLine ls i .end ≤ nthLine ls j .start
+pub ascending : {P : Line → Type 0} {e s : ℕ} {ls : List Line} → Covers P e s ls → (i j : ℕ) → i < j → j < length ls
+    → nthLine ls i .end ≤ nthLine ls j .start
 ascending (done q) i j k h = absurd (omega arith)
 ascending (next a b c p t) i zero k h = absurd (omega arith)
 ascending (next a b c p t) zero (suc j) k h = inside t j (omega arith) .0
@@ -151,5 +160,7 @@ covered (done q) a l u = absurd (omega arith)
 covered {P = P} (next {s = s} {l = x} {ls = ls} b c d p t) a l u = go (le-or (x .end) a) (λ h. covered t a h u)
   where
     go : (x .end ≤ a) ⊎ (a < x .end) → (x .end ≤ a → InLine P ls a) → InLine P (x ∷ ls) a
-    go (inl h) ih = let o = ih h in record { place = suc (o .place); known = omega (arith, o .known); from = o .from; below = o .below; holds = o .holds }
+    go (inl h) ih =
+        let o = ih h in
+        record { place = suc (o .place); known = omega (arith, o .known); from = o .from; below = o .below; holds = o .holds }
     go (inr h) ih = record { place = 0; known = omega arith; from = omega arith; below = h; holds = p }

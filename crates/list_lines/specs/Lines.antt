@@ -1,4 +1,4 @@
--- The lines of a list: every entry that a region meets (`visit_range` of the crate), and a law for each way through the code. Assumes nothing.
+-- The lines of a list: every entry that a region meets (`visit_range` of the crate), and a law for each way through the code.
 use mathlib.Core.Path.{_≡_, refl, sym, ap, ap₂, _∙_}
 use mathlib.Core.List.{List, [], _∷_, _++_, append-assoc}
 use mathlib.Core.Logic.{_⊎_, inl, inr, _≢_}
@@ -10,7 +10,8 @@ use Rattle.laws.specs.Part.{putPart}
 use Rattle.laws.specs.Test.{eq-or, le-or}
 use Rattle.address_slot.specs.Slot.{chunkEnd}
 use Rattle.region.specs.Region.{region, nextChunk}
-use Rattle.region.specs.Chunks.{chunks, chunksOf, next-gives, met, met-none, met-step, chunks-none, chunks-step, Tiles, none, more, chunks-tile}
+use Rattle.region.specs.Chunks.{chunks, chunksOf, next-gives, met, met-none, met-step, chunks-none, chunks-step, Tiles, none, more}
+use Rattle.region.specs.Chunks.{chunks-tile}
 use Rattle.region.specs.declared.MemoryRegion.{MemoryRegion}
 use Rattle.region.specs.declared.ChunkedIterator.{ChunkedIterator}
 use Rattle.region.specs.declared.NextChunk.{NextChunk}
@@ -71,7 +72,8 @@ module _ (base n : ℕ) (words : List ℕ) where
   unfoldable pub linesAt : ℕ → ℕ → MemoryRegion → List Line
   linesAt k level r = chunkLines (λ j q. linesFrom (3 - (level + 1)) j q) k level r
 
-  module _ (k level : ℕ) (r : MemoryRegion) {w : ℕ} (is : w ≡ fetch words (r .start .0) k level) {x : Sub} (sub : x ≡ subOf base n level w) where
+  module _ (k level : ℕ) (r : MemoryRegion) {w : ℕ} (is : w ≡ fetch words (r .start .0) k level) {x : Sub}
+      (sub : x ≡ subOf base n level w) where
     found : (y : Sub) → x ≡ y → linesAt k level r ≡ subLines y (λ j. linesFrom (3 - (level + 1)) j r) (line r w level)
     unfolding linesAt chunkLines
     found y e = rw (← is, ← sub, e)
@@ -86,12 +88,17 @@ module _ (base n : ℕ) (words : List ℕ) where
     lines-other (inr e) = found Leaf e
 
   -- the whole region: the lines of its chunks
-  pub lines-each : (k level : ℕ) (r : MemoryRegion) → level ≤ 3 → linesFrom (3 - level) k r ≡ each (linesAt k level) (chunks level (r .start .0) (r .end .0))
+  pub lines-each : (k level : ℕ) (r : MemoryRegion) → level ≤ 3
+      → linesFrom (3 - level) k r ≡ each (linesAt k level) (chunks level (r .start .0) (r .end .0))
   unfolding linesFrom linesAt
   lines-each k level r h = go (eq-or level 3)
     where
       go : (level ≡ 3) ⊎ (level ≢ 3) → linesFrom (3 - level) k r ≡ each (linesAt k level) (chunks level (r .start .0) (r .end .0))
-      go (inl e) = rw e (each-same _ _ (λ q. sym (lines-other k 3 q refl (sub-leaf base n 3 (fetch words (q .start .0) k 3) (λ p. omega (arith, p .0))) (inr refl))) _)
+      go (inl e) =
+          rw e
+          (each-same _ _
+          (λ q. sym
+          (lines-other k 3 q refl (sub-leaf base n 3 (fetch words (q .start .0) k 3) (λ p. omega (arith, p .0))) (inr refl))) _)
       go (inr m) =
           let up : 3 - level ≡ suc (3 - (level + 1)) = omega arith in
           let same : 2 - (3 - (level + 1)) ≡ level = omega arith in
@@ -103,7 +110,8 @@ linesOf h s r = linesFrom (h .base .0) (tables s) (s .words) (3 - h .level) 0 r
 
 -- ---- chunk by chunk
 
-pub next-chunk : (c : ChunkedIterator) {x : NextChunk} (r : MemoryRegion) (a : ChunkedIterator) → x ≡ nextChunk c → x ≡ Chunk r a → chunksOf c ≡ r ∷ chunksOf a
+pub next-chunk : (c : ChunkedIterator) {x : NextChunk} (r : MemoryRegion) (a : ChunkedIterator) → x ≡ nextChunk c → x ≡ Chunk r a
+    → chunksOf c ≡ r ∷ chunksOf a
 next-chunk c r a e q = rw (sym e ∙ q) at (next-gives c)
 
 pub next-none : (c : ChunkedIterator) {x : NextChunk} → x ≡ nextChunk c → x ≡ Done → chunksOf c ≡ []
@@ -154,19 +162,23 @@ put-four l to a b c d h =
     rw (one, two, three) (four l to a b c d h)
 
 -- lines after lines
-put-append : (from : ℕ) (p q l : List ℕ) → from + length p + length q ≤ length l → putPart (from + length p) q (putPart from p l) ≡ putPart from (p ++ q) l
+put-append : (from : ℕ) (p q l : List ℕ) → from + length p + length q ≤ length l
+    → putPart (from + length p) q (putPart from p l) ≡ putPart from (p ++ q) l
 unfolding putPart
 put-append from p q l h =
-    let long : length (take from l ++ p) ≡ from + length p = length-append (take from l) p ∙ ap (λ (x : ℕ). x + length p) (length-take-le from l (omega arith)) in
+    let long : length (take from l ++ p) ≡ from + length p =
+    length-append (take from l) p ∙ ap (λ (x : ℕ). x + length p) (length-take-le from l (omega arith)) in
     let front = take from l ++ p in
     let back = drop (from + length p) l in
     ap (λ (t : List ℕ). take (from + length p) t ++ (q ++ drop (from + length p + length q) t)) (sym (append-assoc (take from l) p back))
     ∙ ap₂ (λ (a b : List ℕ). a ++ (q ++ b)) (take-at front back (from + length p) long)
-    (ap (λ (x : ℕ). drop (x + length q) (front ++ back)) (sym long) ∙ drop-append-add front back (length q) ∙ drop-drop (length q) (from + length p) l)
+    (ap (λ (x : ℕ). drop (x + length q) (front ++ back)) (sym long) ∙ drop-append-add front back (length q)
+    ∙ drop-drop (length q) (from + length p) l)
     ∙ append-assoc (take from l) p (q ++ drop (from + length p + length q) l)
     ∙ ap (λ (t : List ℕ). take from l ++ t) (sym (append-assoc p q (drop (from + length p + length q) l)))
     ∙ ap (λ (x : ℕ). take from l ++ ((p ++ q) ++ drop x l))
-    (let e : from + length p + length q ≡ from + (length p + length q) = omega arith in e ∙ ap (λ (x : ℕ). from + x) (sym (length-append p q)))
+    (let e : from + length p + length q ≡ from + (length p + length q) = omega arith in
+    e ∙ ap (λ (x : ℕ). from + x) (sym (length-append p q)))
 
 -- nothing is written
 put-none : (to : ℕ) (l : List ℕ) → putPart to [] l ≡ l
@@ -175,7 +187,8 @@ put-none to l = let e : to + 0 ≡ to = omega arith in rw e (take-append-drop to
 
 -- ---- a loop over chunks: what was done, and what remains
 
-module _ (f : MemoryRegion → List Line) {rs rest : List MemoryRegion} {r : MemoryRegion} (ls : List Line) (cut : rs ≡ r ∷ rest) (lines : f r ≡ ls) where
+module _ (f : MemoryRegion → List Line) {rs rest : List MemoryRegion} {r : MemoryRegion} (ls : List Line) (cut : rs ≡ r ∷ rest)
+    (lines : f r ≡ ls) where
   each-step : each f rs ≡ ls ++ each f rest
   unfolding each
   each-step = rw (cut, lines)
@@ -183,7 +196,8 @@ module _ (f : MemoryRegion → List Line) {rs rest : List MemoryRegion} {r : Mem
   pub count-step : length (each f rs) ≡ length ls + length (each f rest)
   count-step = ap length each-step ∙ length-append ls (each f rest)
 
-  pub write-step : (to : ℕ) (list : List ℕ) {next : ℕ} {after : List ℕ} → to + 4 * length (each f rs) ≤ length list → next ≡ to + 4 * length ls
+  pub write-step : (to : ℕ) (list : List ℕ) {next : ℕ} {after : List ℕ} → to + 4 * length (each f rs) ≤ length list
+      → next ≡ to + 4 * length ls
       → after ≡ putPart to (numbers ls) list → putPart next (numbers (each f rest)) after ≡ putPart to (numbers (each f rs)) list
   write-step to list h q e =
       let long = length-numbers ls in
@@ -197,7 +211,8 @@ pub each-none : (f : MemoryRegion → List Line) {rs : List MemoryRegion} → rs
 unfolding each
 each-none f e = rw e
 
-pub write-done : (f : MemoryRegion → List Line) {rs : List MemoryRegion} (to : ℕ) (list : List ℕ) → rs ≡ [] → putPart to (numbers (each f rs)) list ≡ list
+pub write-done : (f : MemoryRegion → List Line) {rs : List MemoryRegion} (to : ℕ) (list : List ℕ) → rs ≡ []
+    → putPart to (numbers (each f rs)) list ≡ list
 unfolding numbers
 write-done f to list e = rw (each-none f e) (put-none to list)
 
@@ -211,7 +226,8 @@ length-chunks zero level s e q = go (le-or e s)
     go (inr h) = absurd (let k = met-step level s e h in omega arith)
 length-chunks (suc m) level s e q = go (le-or e s) (length-chunks m level (chunkEnd level s e) e)
   where
-    go : (e ≤ s) ⊎ (s < e) → (met level (chunkEnd level s e) e ≡ m → length (chunks level (chunkEnd level s e) e) ≡ m) → length (chunks level s e) ≡ suc m
+    go : (e ≤ s) ⊎ (s < e) → (met level (chunkEnd level s e) e ≡ m → length (chunks level (chunkEnd level s e) e) ≡ m)
+        → length (chunks level s e) ≡ suc m
     go (inl h) ih = absurd (let k = met-none level s e h in omega arith)
     go (inr h) ih = let k = met-step level s e h in rw (chunks-step level s e h) (ap suc (ih (omega arith)))
 
@@ -225,12 +241,16 @@ pub lines-pages : (base n : ℕ) (words : List ℕ) (k level : ℕ) (r : MemoryR
 unfolding linesFrom
 lines-pages base n words k level r h =
     let last : 3 - level ≡ 0 = omega arith in
-    rw last (sym (each-one (λ q. line q (fetch words (q .start .0) k 3) 3) (chunks 3 (r .start .0) (r .end .0)) ∙ length-chunks (met 3 (r .start .0) (r .end .0)) 3 (r .start .0) (r .end .0) refl))
+    rw last
+    (sym
+    (each-one (λ q. line q (fetch words (q .start .0) k 3) 3) (chunks 3 (r .start .0) (r .end .0))
+    ∙ length-chunks (met 3 (r .start .0) (r .end .0)) 3 (r .start .0) (r .end .0) refl))
 
 -- ---- no more lines than bytes
 
 each-bound : {level e s : ℕ} {rs : List MemoryRegion} (f : MemoryRegion → List Line)
-    → ((r : MemoryRegion) → r .start .0 < r .end .0 → length (f r) ≤ r .end .0 - r .start .0) → Tiles level e s rs → length (each f rs) ≤ e - s
+    → ((r : MemoryRegion) → r .start .0 < r .end .0 → length (f r) ≤ r .end .0 - r .start .0) → Tiles level e s rs
+    → length (each f rs) ≤ e - s
 unfolding each
 each-bound f h (none l) = omega arith
 each-bound f h (more {s = s} {m = m} {l = rest} a b c t) =
@@ -239,15 +259,19 @@ each-bound f h (more {s = s} {m = m} {l = rest} a b c t) =
     let both = length-append (f (region s m)) (each f rest) in
     omega arith
 
-pub lines-bound : (base n : ℕ) (words : List ℕ) (depth k : ℕ) (r : MemoryRegion) → length (linesFrom base n words depth k r) ≤ r .end .0 - r .start .0
+pub lines-bound : (base n : ℕ) (words : List ℕ) (depth k : ℕ) (r : MemoryRegion)
+    → length (linesFrom base n words depth k r) ≤ r .end .0 - r .start .0
 unfolding linesFrom chunkLines subLines
 lines-bound base n words zero k r = each-bound _ (λ q h. omega arith) (chunks-tile 3 (r .start .0) (r .end .0))
 lines-bound base n words (suc depth) k r =
     each-bound (chunkLines base n words (λ j q. linesFrom base n words depth j q) k (2 - depth))
-    (λ q h. go q h (subOf base n (2 - depth) (fetch words (q .start .0) k (2 - depth))) (λ j. lines-bound base n words depth j q)) (chunks-tile (2 - depth) (r .start .0) (r .end .0))
+    (λ q h. go q h (subOf base n (2 - depth) (fetch words (q .start .0) k (2 - depth))) (λ j. lines-bound base n words depth j q))
+    (chunks-tile (2 - depth) (r .start .0) (r .end .0))
   where
-    go : (q : MemoryRegion) → q .start .0 < q .end .0 → (x : Sub) → ((j : ℕ) → length (linesFrom base n words depth j q) ≤ q .end .0 - q .start .0)
-        → length (subLines x (λ j. linesFrom base n words depth j q) (line q (fetch words (q .start .0) k (2 - depth)) (2 - depth))) ≤ q .end .0 - q .start .0
+    go : (q : MemoryRegion) → q .start .0 < q .end .0 → (x : Sub)
+        → ((j : ℕ) → length (linesFrom base n words depth j q) ≤ q .end .0 - q .start .0)
+        → length (subLines x (λ j. linesFrom base n words depth j q) (line q (fetch words (q .start .0) k (2 - depth)) (2 - depth)))
+        ≤ q .end .0 - q .start .0
     go q h (Table j) ih = ih j
     go q h Outside ih = omega arith
     go q h Leaf ih = omega arith

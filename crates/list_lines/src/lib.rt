@@ -41,7 +41,8 @@ pub fn count_lines(
     level: usize,
     region: MemoryRegion,
 ) -> usize
-    requires { ⌜ (length (now words) ≡ 512 * tables) × (k < tables) × (level ≤ 3) × (length (linesFrom (handle .base .0) tables (now words) (3 - level) k region) < 2 ^ 64) ⌝ }
+    requires { ⌜ (length (now words) ≡ 512 * tables) × (k < tables) × (level ≤ 3)
+        × (length (linesFrom (handle .base .0) tables (now words) (3 - level) k region) < 2 ^ 64) ⌝ }
     ensures { λ r. ⌜ r ≡ length (linesFrom (handle .base .0) tables (now (words .entry)) (3 - level) k region) ⌝ }
 {
     if address::LEAF_LEVEL <= level {
@@ -87,8 +88,10 @@ pub fn visit_range(
     list: &mut [u64],
     from: usize,
 ) -> usize
-    requires { ⌜ (length (now words) ≡ 512 * tables) × (k < tables) × (level ≤ 3) × (from + 4 * length (linesFrom (handle .base .0) tables (now words) (3 - level) k region) ≤ length (now list)) ⌝ }
-    ensures { λ r. ⌜ written r (now (list .exit)) ≡ writeLines from (linesFrom (handle .base .0) tables (now (words .entry)) (3 - level) k region) (now (list .entry)) ⌝ }
+    requires { ⌜ (length (now words) ≡ 512 * tables) × (k < tables) × (level ≤ 3)
+        × (from + 4 * length (linesFrom (handle .base .0) tables (now words) (3 - level) k region) ≤ length (now list)) ⌝ }
+    ensures { λ r. ⌜ written r (now (list .exit))
+        ≡ writeLines from (linesFrom (handle .base .0) tables (now (words .entry)) (3 - level) k region) (now (list .entry)) ⌝ }
 {
     let mut to = from;
     let mut rest = region.split(level);

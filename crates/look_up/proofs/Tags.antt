@@ -1,4 +1,4 @@
--- A match on `Sub` or `Kind` that takes the last arm: what stands there. Assumes nothing.
+-- A match on `Sub` or `Kind` that takes the last arm: what stands there.
 use mathlib.Core.Logic.{_⊎_, inl, inr}
 use mathlib.Core.Path.{_≡_, refl}
 use native.Mathlib.Omega.{arith}

@@ -1,4 +1,4 @@
--- The call look up: refusals 1, 6, 8 in this order, else what the Arm walk answers. Leans on `Arm`. Assumes nothing.
+-- The call look up: refusals 1, 6, 8 in this order, else what the Arm walk answers. Leans on `Arm`.
 use mathlib.Core.Path.{_≡_, sym, ap, ap₂, _∙_}
 use mathlib.Core.Bool.{Bool, true, false, cond}
 use mathlib.Core.List.{List, [], _∷_}
@@ -54,7 +54,8 @@ module _ (h : Handle) (s : St) (va : ℕ) where
   unfolding lookUpCall
   look-misshaped e = rw e
 
-  pub look-beyond : shaped h s ≡ true → spanned (h .range) (h .level) va ≡ false → Refused (AddressRange (record { 0 = va })) ≡ lookUpCall h s va
+  pub look-beyond : shaped h s ≡ true → spanned (h .range) (h .level) va ≡ false
+      → Refused (AddressRange (record { 0 = va })) ≡ lookUpCall h s va
   unfolding lookUpCall
   look-beyond e f = rw (e, f)
 
@@ -83,10 +84,12 @@ module _ (level w va : ℕ) {flags : ℕ} (flag : flags ≡ flagsIn w) where
   unfolding answer
   leaf-hole e = ap (Hole level) flag ∙ sym (ap answer (says-hole level w va e))
 
-  pub leaf-block : {frame : PhysicalAddress} → frame .0 ≡ frameOf level w va → kindOf level w ≡ block′ → Block level flags frame ≡ answer (says va (at level w))
+  pub leaf-block : {frame : PhysicalAddress} → frame .0 ≡ frameOf level w va → kindOf level w ≡ block′
+      → Block level flags frame ≡ answer (says va (at level w))
   unfolding answer
   leaf-block f e = ap₂ (λ (x y : ℕ). Block level x (record { 0 = y })) flag f ∙ sym (ap answer (says-block level w va e))
 
-  pub leaf-page : {frame : PhysicalAddress} → frame .0 ≡ frameOf level w va → w % 4 ≡ 3 → Page level flags frame ≡ answer (says va (at level w))
+  pub leaf-page : {frame : PhysicalAddress} → frame .0 ≡ frameOf level w va → w % 4 ≡ 3
+      → Page level flags frame ≡ answer (says va (at level w))
   unfolding answer
   leaf-page f e = ap₂ (λ (x y : ℕ). Page level x (record { 0 = y })) flag f ∙ sym (ap answer (says-page level w va e))

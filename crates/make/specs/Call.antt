@@ -1,4 +1,4 @@
--- Make, the whole call: answer and state for every input, the refusal first. Assumes nothing.
+-- Make, the whole call: answer and state for every input, the refusal first.
 use mathlib.Core.Path.{_≡_}
 use mathlib.Core.Bool.{true, false, cond}
 use lib.ListN.{length, set, replicate}

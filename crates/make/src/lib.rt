@@ -9,7 +9,8 @@ ghost use Rattle.make.specs.Call.{makeCall};
 
 // Zeroes all words and the ledger, then enters the root as table 0.
 pub fn make(words: &mut [u64], ledger: &mut [u32], handle: Handle) -> Outcome
-    ensures { λ r. ⌜ out r (st (now (words .exit)) (now (ledger .exit))) ≡ makeCall handle (st (now (words .entry)) (now (ledger .entry))) ⌝ }
+    ensures { λ r. ⌜ out r (st (now (words .exit)) (now (ledger .exit)))
+        ≡ makeCall handle (st (now (words .entry)) (now (ledger .entry))) ⌝ }
 {
     if !pool_handle::is_shaped(words, ledger, handle) {
         return Outcome::Refused(Refusal::Shape);

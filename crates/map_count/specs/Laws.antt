@@ -1,4 +1,4 @@
--- One law for each way through the code. Assumes nothing.
+-- One law for each way through the code.
 use mathlib.Core.Path.{_≡_, refl, sym, ap, _∙_}
 use mathlib.Core.Bool.{cond}
 use mathlib.Core.Logic.{⊎-elim}
@@ -38,7 +38,8 @@ over-some room need h = rw (lt-ltb room need h)
 
 -- read back
 pub over-past : {x : ℕ} (room need : ℕ) → x ≡ over room need → room < x → x ≡ need
-over-past room need e l = ⊎-elim (λ h. let z = over-none room need h in absurd (omega arith)) (λ h. e ∙ sym (over-some room need h)) (le-or need room)
+over-past room need e l =
+    ⊎-elim (λ h. let z = over-none room need h in absurd (omega arith)) (λ h. e ∙ sym (over-some room need h)) (le-or need room)
 
 pub over-within : {x : ℕ} (room need : ℕ) → x ≡ over room need → x ≤ room → need ≤ room
 over-within room need e l = ⊎-elim (λ h. h) (λ h. let z = over-some room need h in absurd (omega arith)) (le-or need room)
@@ -53,16 +54,20 @@ pub closed-done : (h : Handle) (s : St) (k level : ℕ) (m : Map) → 3 ≤ leve
 unfolding closed needTable
 closed-done h s k level m l = let e : 0 ≡ 3 - level = omega arith in ap (λ (x : ℕ). closed x h s k m) e
 
-pub closed-open : (h : Handle) (s : St) (k level : ℕ) (m : Map) → level < 3 → sumChunks level (countAt h s k level) m ≡ closed (3 - level) h s k m
+pub closed-open : (h : Handle) (s : St) (k level : ℕ) (m : Map) → level < 3
+    → sumChunks level (countAt h s k level) m ≡ closed (3 - level) h s k m
 unfolding countAt closed needTable
 closed-open h s k level m l =
     let e : suc (3 - (level + 1)) ≡ 3 - level = omega arith in
     let q : level ≡ 3 - suc (3 - (level + 1)) = omega arith in
     ap (λ (x : ℕ). sumChunks level (needChunk (λ j n. needTable closedLeaf (3 - (level + 1)) h s j n) (closedLeaf x) h s k level) m) (sym e)
-    ∙ ap (λ (x : ℕ). sumChunks x (needChunk (λ j n. needTable closedLeaf (3 - (level + 1)) h s j n) (closedLeaf (suc (3 - (level + 1)))) h s k x) m) q
+    ∙ ap
+    (λ (x : ℕ). sumChunks x
+    (needChunk (λ j n. needTable closedLeaf (3 - (level + 1)) h s j n) (closedLeaf (suc (3 - (level + 1)))) h s k x) m) q
     ∙ ap (λ (x : ℕ). needTable closedLeaf x h s k m) e
 
-pub count-fit : (h : Handle) (s : St) (k level : ℕ) (m : Map) → level < 3 → sumChunks level (countAt h s k level) m ≤ 3 * (endOf m - startOf m)
+pub count-fit : (h : Handle) (s : St) (k level : ℕ) (m : Map) → level < 3
+    → sumChunks level (countAt h s k level) m ≤ 3 * (endOf m - startOf m)
 count-fit h s k level m l =
     let o = closed-open h s k level m l in
     let r = closed-most (3 - level) h s k m (omega arith) in
@@ -86,21 +91,32 @@ down-twice Down n = refl
 module _ (h : Handle) (s : St) (k level : ℕ) (c : Map) {i : ℕ} (index : i ≡ entryIndex level (startOf c)) where
   -- where what the slot leads to is known
   entry-sub : (x : Sub) → x ≡ subOf (h .base .0) (tables s) level (wordAt s k i)
-      → countAt h s k level c ≡ ifDown (ruleOf level c (wordAt s k i)) (needBelow (λ j. closed (3 - (level + 1)) h s j c) (λ w. closedLeaf (3 - level) c w) (wordAt s k i) x)
+      → countAt h s k level c
+      ≡ ifDown (ruleOf level c (wordAt s k i))
+      (needBelow (λ j. closed (3 - (level + 1)) h s j c) (λ w. closedLeaf (3 - level) c w) (wordAt s k i) x)
   unfolding countAt needChunk
   entry-sub x e =
-      ap (λ (y : ℕ). ifDown (ruleOf level c (wordAt s k y)) (needBelow (λ j. closed (3 - (level + 1)) h s j c) (λ w. closedLeaf (3 - level) c w) (wordAt s k y) (subOf (h .base .0) (tables s) level (wordAt s k y)))) (sym index)
-      ∙ ap (λ (y : Sub). ifDown (ruleOf level c (wordAt s k i)) (needBelow (λ j. closed (3 - (level + 1)) h s j c) (λ w. closedLeaf (3 - level) c w) (wordAt s k i) y)) (sym e)
+      ap
+      (λ (y : ℕ). ifDown (ruleOf level c (wordAt s k y))
+      (needBelow (λ j. closed (3 - (level + 1)) h s j c) (λ w. closedLeaf (3 - level) c w) (wordAt s k y)
+      (subOf (h .base .0) (tables s) level (wordAt s k y))))
+      (sym index)
+      ∙ ap
+      (λ (y : Sub). ifDown (ruleOf level c (wordAt s k i))
+      (needBelow (λ j. closed (3 - (level + 1)) h s j c) (λ w. closedLeaf (3 - level) c w) (wordAt s k i) y))
+      (sym e)
 
   pub entry-outside : {x : Sub} → x ≡ subOf (h .base .0) (tables s) level (wordAt s k i) → x ≡ Outside → countAt h s k level c ≡ 0
   unfolding needBelow
   entry-outside e q = entry-sub Outside (sym q ∙ e) ∙ down-none (ruleOf level c (wordAt s k i))
 
-  pub entry-leaf : {x : Sub} → x ≡ subOf (h .base .0) (tables s) level (wordAt s k i) → x ≡ Leaf → level < 3 → countAt h s k level c ≡ closedLeaf (3 - level) c (wordAt s k i)
+  pub entry-leaf : {x : Sub} → x ≡ subOf (h .base .0) (tables s) level (wordAt s k i) → x ≡ Leaf → level < 3
+      → countAt h s k level c ≡ closedLeaf (3 - level) c (wordAt s k i)
   unfolding needBelow
   entry-leaf e q l =
       let o = leaf-open level c (wordAt s k i) l in
-      entry-sub Leaf (sym q ∙ e) ∙ ap (λ (n : ℕ). ifDown (ruleOf level c (wordAt s k i)) n) o ∙ down-twice (ruleOf level c (wordAt s k i)) _ ∙ sym o
+      entry-sub Leaf (sym q ∙ e) ∙ ap (λ (n : ℕ). ifDown (ruleOf level c (wordAt s k i)) n) o ∙ down-twice (ruleOf level c (wordAt s k i)) _
+      ∙ sym o
 
   module _ {x : Sub} (e : x ≡ subOf (h .base .0) (tables s) level (wordAt s k i)) {r : Rule} (is : r ≡ ruleOf level c (wordAt s k i)) where
     pub entry-none : Other r → countAt h s k level c ≡ 0
@@ -115,10 +131,12 @@ module _ (h : Handle) (s : St) (k level : ℕ) (c : Map) {i : ℕ} (index : i �
 
 -- ---- count_last: level 2, where a table has no table below it
 
-module _ (h : Handle) (s : St) (k : ℕ) (c : Map) {i : ℕ} (index : i ≡ entryIndex 2 (startOf c)) {x : Sub} (e : x ≡ subOf (h .base .0) (tables s) 2 (wordAt s k i)) where
+module _ (h : Handle) (s : St) (k : ℕ) (c : Map) {i : ℕ} (index : i ≡ entryIndex 2 (startOf c)) {x : Sub}
+    (e : x ≡ subOf (h .base .0) (tables s) 2 (wordAt s k i)) where
   pub last-table : (x ≡ Leaf → ⊥) → countAt h s k 2 c ≡ 0
   unfolding needBelow closed needTable
-  last-table other = entry-sub h s k 2 c index x e ∙ ap (ifDown (ruleOf 2 c (wordAt s k i))) (none x other) ∙ down-none (ruleOf 2 c (wordAt s k i))
+  last-table other =
+      entry-sub h s k 2 c index x e ∙ ap (ifDown (ruleOf 2 c (wordAt s k i))) (none x other) ∙ down-none (ruleOf 2 c (wordAt s k i))
     where
       none : (y : Sub) → (y ≡ Leaf → ⊥) → needBelow (λ j. closed 0 h s j c) (λ w. closedLeaf 1 c w) (wordAt s k i) y ≡ 0
       none (Table j) n = refl

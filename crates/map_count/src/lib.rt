@@ -91,7 +91,8 @@ fn count_new(words: &[u64], ledger: &[u32], handle: Handle, k: usize, level: usi
     count
 }
 
-// The new tables for a map in the root where they are more than are free, else 0. The tables are looked into only where the entries that the region meets are more.
+// The new tables for a map in the root where they are more than are free, else 0. The tables are looked into only where the entries that
+// the region meets are more.
 pub fn count_over(words: &[u64], ledger: &[u32], handle: Handle, map: Map, free: u64) -> u64
     requires { ⌜ (length (now words) ≡ 512 * length (now ledger)) × (0 < length (now ledger)) × (handle .level ≤ 3) × Fit map ⌝ }
     ensures { λ r. ⌜ r ≡ over free (closed (3 - handle .level) handle (st (now (words .entry)) (now (ledger .entry))) 0 map) ⌝ }

@@ -1,4 +1,4 @@
--- A match on `Rule` that takes the other arms: what stands there makes no table. A match on `Sub` that takes any arm but the last. Assumes nothing.
+-- A match on `Rule` that takes the other arms: what stands there makes no table. A match on `Sub` that takes any arm but the last.
 use mathlib.Core.Logic.{_⊎_, inl, inr}
 use mathlib.Core.Path.{_≡_, refl, ap}
 use native.Mathlib.Omega.{arith}

@@ -87,8 +87,8 @@ pub fn count_rest(level: usize, map: Map) -> u64
     count
 }
 
-// Whether rule 2, where it doesn't fit the chunk, fits no part of it: a hole without address below the chunk's frame, or a block at a multiple of its size.
-// Asked of chunks that begin with an entry of the next level.
+// Whether rule 2, where it doesn't fit the chunk, fits no part of it: a hole without address below the chunk's frame, or a block at a
+// multiple of its size. Asked of chunks that begin with an entry of the next level.
 pub fn is_missed(level: usize, map: Map, word: u64) -> bool
     requires { ⌜ level < 2 ⌝ }
     ensures { λ r. ⌜ r ≡ missedb level map word ⌝ }
@@ -156,8 +156,8 @@ fn count_leaf(level: usize, map: Map, word: u64) -> u64
     1 + count_leaf(level + 1, first, part) + count_rest(level + 1, rest)
 }
 
-// The new tables for a chunk of an entry that is no table: from the chunk's ends at once, where rule 2 fits no part of it. The chunk that is looked into is
-// another record, so that the first is never in memory.
+// The new tables for a chunk of an entry that is no table: from the chunk's ends at once, where rule 2 fits no part of it. The chunk that
+// is looked into is another record, so that the first is never in memory.
 pub fn count_entry(
     level: usize,
     map: Map,
@@ -166,7 +166,8 @@ pub fn count_entry(
     frame: PhysicalAddress,
     word: u64,
 ) -> u64
-    requires { ⌜ Fit (chunkMap map (region (start .0) (end .0)) (frame .0)) × Chunk level (chunkMap map (region (start .0) (end .0)) (frame .0)) × (level < 2) ⌝ }
+    requires { ⌜ Fit (chunkMap map (region (start .0) (end .0)) (frame .0))
+        × Chunk level (chunkMap map (region (start .0) (end .0)) (frame .0)) × (level < 2) ⌝ }
     ensures { λ r. ⌜ r ≡ closedLeaf (3 - level) (chunkMap map (region (start .0) (end .0)) (frame .0)) word ⌝ }
 {
     let chunk = map_rules::chunk_of(map, start, end, frame);

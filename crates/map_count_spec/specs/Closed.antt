@@ -1,5 +1,5 @@
--- Refusal 9's count without a walk of the region: what an entry that is no table needs, from its chunk's two ends. `Count` proves it equal to `Needed`.
--- Assumes nothing.
+-- Refusal 9's count without a walk of the region: what an entry that is no table needs, from its chunk's two ends. `Count` proves it equal
+-- to `Needed`.
 use mathlib.Core.Path.{_≡_, refl, sym, ap, _∙_}
 use mathlib.Core.Bool.{Bool, true, false, not, cond, _&&_}
 use mathlib.Core.Logic.{_⊎_, inl, inr}
@@ -22,7 +22,8 @@ use Rattle.map_rules.specs.declared.Map.{Map}
 use Rattle.map_rules.specs.declared.Rule.{Rule}
 use Rattle.map_rules.specs.declared.Rule.the-variants.{Write, Keep, Drop, Down}
 use Rattle.map_rules.specs.Rules.{ruleOf, chunkMap}
-use Rattle.map_count_spec.specs.Needed.{ifDown, childWord, needBelow, needChunk, needTable, sumChunks, firstChunk, afterFirst, sum-none, sum-first}
+use Rattle.map_count_spec.specs.Needed.{ifDown, childWord, needBelow, needChunk, needTable, sumChunks, firstChunk, afterFirst}
+use Rattle.map_count_spec.specs.Needed.{sum-none, sum-first}
 
 abbrev pub startOf : Map → ℕ
 startOf m = m .region .start .0
@@ -37,10 +38,11 @@ firstFrame m = m .frame .0
 unfoldable pub lastPart : ℕ → ℕ → ℕ → ℕ
 lastPart level s e = cond (ltb s e && not (eqb (e % sizeAt level) 0)) 1 0
 
--- the entries of this level that are split in a region that begins with one, where rule 2 fits nothing: where rule 3 takes the whole ones the part at the end, else
--- all
+-- the entries of this level that are split in a region that begins with one, where rule 2 fits nothing: where rule 3 takes the whole ones
+-- the part at the end, else all
 unfoldable pub restAt : ℕ → Map → ℕ
-restAt level m = cond (m .blocks && eqb (firstFrame m % sizeAt level) 0) (lastPart level (startOf m) (endOf m)) (met level (startOf m) (endOf m))
+restAt level m =
+    cond (m .blocks && eqb (firstFrame m % sizeAt level) 0) (lastPart level (startOf m) (endOf m)) (met level (startOf m) (endOf m))
 
 -- .. of all levels from the one with `depth` levels below on
 unfoldable pub rests : ℕ → Map → ℕ
@@ -120,7 +122,8 @@ rest-met level m = go (m .blocks && eqb (firstFrame m % sizeAt level) 0)
     go false = omega arith
 
 -- where rule 3 fits none is split
-pub rest-blocks : (level : ℕ) (m : Map) → m .blocks ≡ true → firstFrame m % sizeAt level ≡ 0 → endOf m % sizeAt level ≡ 0 → restAt level m ≡ 0
+pub rest-blocks : (level : ℕ) (m : Map) → m .blocks ≡ true → firstFrame m % sizeAt level ≡ 0 → endOf m % sizeAt level ≡ 0
+    → restAt level m ≡ 0
 unfolding restAt
 rest-blocks level m b p e = rw (b, eq-eqb (firstFrame m % sizeAt level) 0 p) (part-whole level (startOf m) (endOf m) e)
 
@@ -192,7 +195,8 @@ unfolding rests
 rests-none zero m h = refl
 rests-none (suc depth) m h = let a = rest-none (3 - suc depth) m h in let b = rests-none depth m h in omega arith
 
-pub rests-blocks : (depth : ℕ) (m : Map) → depth ≤ 3 → m .blocks ≡ true → firstFrame m % sizeAt (3 - depth) ≡ 0 → endOf m % sizeAt (3 - depth) ≡ 0 → rests depth m ≡ 0
+pub rests-blocks : (depth : ℕ) (m : Map) → depth ≤ 3 → m .blocks ≡ true → firstFrame m % sizeAt (3 - depth) ≡ 0
+    → endOf m % sizeAt (3 - depth) ≡ 0 → rests depth m ≡ 0
 unfolding rests
 rests-blocks zero m l b p e = refl
 rests-blocks (suc depth) m l b p e =
@@ -221,9 +225,11 @@ mets-none zero s e h = refl
 mets-none (suc depth) s e h = let a = met-none (3 - suc depth) s e h in let b = mets-none depth s e h in omega arith
 
 -- cut where the region ends, or where an entry begins
-mets-cut : (depth s x e : ℕ) → depth ≤ 3 → s < x → (x ≡ e) ⊎ ((x < e) × (x % sizeAt (3 - depth) ≡ 0)) → mets depth s e ≡ mets depth s x + mets depth x e
+mets-cut : (depth s x e : ℕ) → depth ≤ 3 → s < x → (x ≡ e) ⊎ ((x < e) × (x % sizeAt (3 - depth) ≡ 0))
+    → mets depth s e ≡ mets depth s x + mets depth x e
 unfolding mets
-mets-cut depth s x e l h (inl q) = let z = mets-none depth x e (omega arith) in let r : mets depth s x ≡ mets depth s e = ap (λ (y : ℕ). mets depth s y) q in omega arith
+mets-cut depth s x e l h (inl q) =
+    let z = mets-none depth x e (omega arith) in let r : mets depth s x ≡ mets depth s e = ap (λ (y : ℕ). mets depth s y) q in omega arith
 mets-cut zero s x e l h (inr c) = refl
 mets-cut (suc depth) s x e l h (inr c) =
     let a = met-split (3 - suc depth) s x e h (c .0) (c .1) in
@@ -234,7 +240,8 @@ mets-cut (suc depth) s x e l h (inr c) =
 pub mets-most : (depth s e : ℕ) → mets depth s e ≤ depth * (e - s)
 unfolding mets
 mets-most zero s e = omega arith
-mets-most (suc depth) s e = let a = met-most (3 - suc depth) s e in let b = mets-most depth s e in let c = suc-mul depth (e - s) in omega arith
+mets-most (suc depth) s e =
+    let a = met-most (3 - suc depth) s e in let b = mets-most depth s e in let c = suc-mul depth (e - s) in omega arith
 
 rests-met : (depth : ℕ) (m : Map) → rests depth m ≤ mets depth (startOf m) (endOf m)
 unfolding rests mets
@@ -260,7 +267,9 @@ leaf-met (suc depth) m w l h =
     let a = leaf-met depth (firstChunk (3 - depth) m) (childWord (3 - suc depth) w (startOf m)) (omega arith) (f .0) in
     let b = rests-met depth (afterFirst (3 - depth) m) in
     let t = mets-cut depth (startOf m) stop (endOf m) (omega arith) (f .0) (chunk-stops (3 - depth) (startOf m) (endOf m)) in
-    let d = down-most (ruleOf (3 - suc depth) m w) (1 + closedLeaf depth (firstChunk (3 - depth) m) (childWord (3 - suc depth) w (startOf m)) + rests depth (afterFirst (3 - depth) m)) in
+    let d = down-most (ruleOf (3 - suc depth) m w)
+    (1 + closedLeaf depth (firstChunk (3 - depth) m) (childWord (3 - suc depth) w (startOf m))
+    + rests depth (afterFirst (3 - depth) m)) in
     let c = met-step (3 - suc depth) (startOf m) (endOf m) h in
     omega arith
 
@@ -284,7 +293,8 @@ sum-met depth f l each m = go (met (3 - depth) (startOf m) (endOf m)) m refl
     go (suc n) m e = more (le-or (endOf m) (startOf m)) (go n (afterFirst (3 - depth) m))
       where
         more : (endOf m ≤ startOf m) ⊎ (startOf m < endOf m)
-            → (met (3 - depth) (startOf (afterFirst (3 - depth) m)) (endOf m) ≡ n → sumChunks (3 - depth) f (afterFirst (3 - depth) m) ≤ mets depth (startOf (afterFirst (3 - depth) m)) (endOf m))
+            → (met (3 - depth) (startOf (afterFirst (3 - depth) m)) (endOf m) ≡ n
+            → sumChunks (3 - depth) f (afterFirst (3 - depth) m) ≤ mets depth (startOf (afterFirst (3 - depth) m)) (endOf m))
             → sumChunks (3 - depth) f m ≤ mets depth (startOf m) (endOf m)
         more (inl h) ih = none m h
         more (inr h) ih =
@@ -319,7 +329,8 @@ closed-met zero h s k m l = omega arith
 closed-met (suc depth) h s k m l =
     sum-met (suc depth) (λ c. needChunk (λ j n. needTable closedLeaf depth h s j n) (closedLeaf (suc depth)) h s k (3 - suc depth) c) l
     (λ c some.
-    chunk-met (mets (suc depth) (startOf c) (endOf c)) (λ j n. needTable closedLeaf depth h s j n) (closedLeaf (suc depth)) h s k (3 - suc depth) c
+    chunk-met (mets (suc depth) (startOf c) (endOf c)) (λ j n. needTable closedLeaf depth h s j n) (closedLeaf (suc depth)) h s k
+    (3 - suc depth) c
     (λ j. let r = closed-met depth h s j c (omega arith) in omega arith) (λ w. leaf-met (suc depth) c w l some)) m
 
 pub closed-most : (depth : ℕ) (h : Handle) (s : St) (k : ℕ) (m : Map) → depth ≤ 3 → closed depth h s k m ≤ depth * (endOf m - startOf m)

@@ -1,4 +1,4 @@
--- The closed form from a chunk's two ends: one law for each way through the code of `map_count_leaf` and `map_count`. Assumes nothing.
+-- The closed form from a chunk's two ends: one law for each way through the code of `map_count_leaf` and `map_count`.
 use mathlib.Core.Path.{_≡_, refl, sym, ap, _∙_}
 use mathlib.Core.Bool.{Bool, true, false, cond, _&&_}
 use mathlib.Core.Logic.{⊎-elim}
@@ -16,7 +16,8 @@ use Rattle.map_rules.specs.declared.Rule.the-variants.{Write, Keep, Drop, Down}
 use Rattle.map_rules.specs.Rules.{ruleOf}
 use Rattle.map_rules.specs.Fit.{Fit, chunk-fit}
 use Rattle.map_count_spec.specs.Needed.{ifDown, childWord, firstChunk, afterFirst}
-use Rattle.map_count_spec.specs.Closed.{startOf, endOf, firstFrame, lastPart, restAt, rests, closedLeaf, mets, leaf-most, rests-most, mets-most}
+use Rattle.map_count_spec.specs.Closed.{startOf, endOf, firstFrame, lastPart, restAt, rests, closedLeaf, mets, leaf-most, rests-most}
+use Rattle.map_count_spec.specs.Closed.{mets-most}
 
 -- ---- entries_met
 
@@ -34,11 +35,13 @@ pub rest-off : (level : ℕ) (m : Map) → (firstFrame m % sizeAt level ≡ 0 �
 unfolding restAt
 rest-off level m n = rw (ne-eqb (firstFrame m % sizeAt level) 0 n) (both (m .blocks))
   where
-    both : (b : Bool) → met level (startOf m) (endOf m) ≡ cond (b && false) (lastPart level (startOf m) (endOf m)) (met level (startOf m) (endOf m))
+    both : (b : Bool)
+        → met level (startOf m) (endOf m) ≡ cond (b && false) (lastPart level (startOf m) (endOf m)) (met level (startOf m) (endOf m))
     both true = refl
     both false = refl
 
-pub rest-on : (level : ℕ) (m : Map) → m .blocks ≡ true → firstFrame m % sizeAt level ≡ 0 → lastPart level (startOf m) (endOf m) ≡ restAt level m
+pub rest-on : (level : ℕ) (m : Map) → m .blocks ≡ true → firstFrame m % sizeAt level ≡ 0
+    → lastPart level (startOf m) (endOf m) ≡ restAt level m
 unfolding restAt
 rest-on level m b z = rw (b, eq-eqb (firstFrame m % sizeAt level) 0 z)
 
@@ -92,15 +95,23 @@ leaf-fit level m w h =
 -- the level below a leaf, as the code has it
 pub leaf-open : (level : ℕ) (m : Map) (w : ℕ) → level < 3
     → closedLeaf (3 - level) m w
-    ≡ ifDown (ruleOf level m w) (1 + closedLeaf (3 - (level + 1)) (firstChunk (level + 1) m) (childWord level w (startOf m)) + rests (3 - (level + 1)) (afterFirst (level + 1) m))
+    ≡ ifDown (ruleOf level m w)
+    (1 + closedLeaf (3 - (level + 1)) (firstChunk (level + 1) m) (childWord level w (startOf m))
+    + rests (3 - (level + 1)) (afterFirst (level + 1) m))
 unfolding closedLeaf
 leaf-open level m w h =
     let e : 3 - level ≡ suc (3 - (level + 1)) = omega arith in
     let q : 3 - suc (3 - (level + 1)) ≡ level = omega arith in
     let n : 3 - (3 - (level + 1)) ≡ level + 1 = omega arith in
     ap (λ (l : ℕ). closedLeaf l m w) e
-    ∙ ap (λ (l : ℕ). ifDown (ruleOf l m w) (1 + closedLeaf (3 - (level + 1)) (firstChunk (3 - (3 - (level + 1))) m) (childWord l w (startOf m)) + rests (3 - (level + 1)) (afterFirst (3 - (3 - (level + 1))) m))) q
-    ∙ ap (λ (l : ℕ). ifDown (ruleOf level m w) (1 + closedLeaf (3 - (level + 1)) (firstChunk l m) (childWord level w (startOf m)) + rests (3 - (level + 1)) (afterFirst l m))) n
+    ∙ ap
+    (λ (l : ℕ). ifDown (ruleOf l m w)
+    (1 + closedLeaf (3 - (level + 1)) (firstChunk (3 - (3 - (level + 1))) m) (childWord l w (startOf m))
+    + rests (3 - (level + 1)) (afterFirst (3 - (3 - (level + 1))) m))) q
+    ∙ ap
+    (λ (l : ℕ). ifDown (ruleOf level m w)
+    (1 + closedLeaf (3 - (level + 1)) (firstChunk l m) (childWord level w (startOf m))
+    + rests (3 - (level + 1)) (afterFirst l m))) n
 
 -- no rule but the last makes tables
 pub record Other (r : Rule) : Type 0 where
@@ -133,14 +144,17 @@ module _ (level : ℕ) (m : Map) (w : ℕ) {r : Rule} (is : r ≡ ruleOf level m
       none e n = ap (λ (q : Rule). ifDown q n) e ∙ o .none n
 
   pub leaf-down : r ≡ Down → level < 3
-      → 1 + closedLeaf (3 - (level + 1)) (firstChunk (level + 1) m) (childWord level w (startOf m)) + rests (3 - (level + 1)) (afterFirst (level + 1) m) ≡ closedLeaf (3 - level) m w
+      → 1 + closedLeaf (3 - (level + 1)) (firstChunk (level + 1) m) (childWord level w (startOf m))
+      + rests (3 - (level + 1)) (afterFirst (level + 1) m)
+      ≡ closedLeaf (3 - level) m w
   leaf-down e h = sym (leaf-open level m w h ∙ is-down (ruleOf level m w) _ (sym is ∙ e))
 
   pub leaf-low : r ≡ Down → level < 3 → 2 ≤ level → 1 ≡ closedLeaf (3 - level) m w
   unfolding closedLeaf
   leaf-low e h l =
       let q : 0 ≡ 3 - (level + 1) = omega arith in
-      let a : 0 ≡ closedLeaf (3 - (level + 1)) (firstChunk (level + 1) m) (childWord level w (startOf m)) = ap (λ (l : ℕ). closedLeaf l (firstChunk (level + 1) m) (childWord level w (startOf m))) q in
+      let a : 0 ≡ closedLeaf (3 - (level + 1)) (firstChunk (level + 1) m) (childWord level w (startOf m)) =
+      ap (λ (l : ℕ). closedLeaf l (firstChunk (level + 1) m) (childWord level w (startOf m))) q in
       let b = rests-done (level + 1) (afterFirst (level + 1) m) (omega arith) in
       let d = leaf-down e h in
       omega arith

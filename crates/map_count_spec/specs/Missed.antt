@@ -1,5 +1,5 @@
--- Rules 2 and 3 in numbers, and the chunks of which rule 2 fits no part: a valid entry that misses it misses it in every part, and a part of a hole has address 0.
--- Leans on `Needed`. Assumes nothing.
+-- Rules 2 and 3 in numbers, and the chunks of which rule 2 fits no part: a valid entry that misses it misses it in every part, and a part
+-- of a hole has address 0. Leans on `Needed`.
 use mathlib.Core.Path.{_≡_, refl, sym, ap, _∙_}
 use mathlib.Core.Bool.{Bool, true, false, true≢false, not, cond, _&&_}
 use mathlib.Core.Logic.{_⊎_, inl, inr}
@@ -8,7 +8,8 @@ use native.Mathlib.Nat.{mul-mod-left, mul-le-mul-right}
 use native.Mathlib.Omega.{arith}
 use lib.Dec.{T, eqb, leb, ltb, eqb→eq, leb→le, ltb→lt}
 use borrow.Author.Tests.{eq-eqb, ne-eqb, le-leb, lt-leb, lt-ltb, eqb-false, not-true}
-use Rattle.laws.specs.Size.{sizeAt, size-pos, size-step, size-pages, size-next, size-parts, size-room, down, multiple-of, multiple-is, add-multiple, mod-on, next-multiple}
+use Rattle.laws.specs.Size.{sizeAt, size-pos, size-step, size-pages, size-next, size-parts, size-room, down, multiple-of, multiple-is}
+use Rattle.laws.specs.Size.{add-multiple, mod-on, next-multiple}
 use Rattle.laws.specs.Test.{byBool, eq-or, and-l, and-r, is-true, is-false}
 use Rattle.entry.specs.Word.{addressOf, flagsOf, address-below, address-back, flags-back, valid, flags-low}
 use Rattle.address_slot.specs.Slot.{entryLast, entryIndex}
@@ -52,7 +53,13 @@ says-same level m w p =
     let o = startOf m % sizeAt level in
     let low : o ≤ firstFrame m = omega (arith, p .place) in
     let is : firstFrame m - o ≡ addressOf w = omega (arith, p .place) in
-    rw (ne-eqb (w % 4) 3 (p .plain), eq-eqb (flagsOf w) (m .flags) (p .flags), le-leb o (firstFrame m) low, eq-eqb (firstFrame m - o) (addressOf w) is)
+    rw (
+      ne-eqb (w % 4) 3 (p .plain),
+      eq-eqb (flagsOf w) (m .flags) (p .flags),
+      le-leb o (firstFrame m) low,
+      eq-eqb (firstFrame m - o)
+          (addressOf w) is,
+    )
 
 -- ---- rule 3
 
@@ -67,18 +74,29 @@ abbrev pub Barred : ℕ → Map → Type 0
 Barred level m = (m .blocks ≡ false) ⊎ ((firstFrame m % sizeAt level ≡ 0 → ⊥) ⊎ (endOf m % sizeAt level ≡ 0 → ⊥))
 
 pub blocks-or : (level : ℕ) (m : Map) → Blocks level m ⊎ Barred level m
-blocks-or level m = byBool (m .blocks) (λ b. go b (eq-or (firstFrame m % sizeAt level) 0) (eq-or (endOf m % sizeAt level) 0)) (λ b. inr (inl b))
+blocks-or level m =
+    byBool (m .blocks) (λ b. go b (eq-or (firstFrame m % sizeAt level) 0) (eq-or (endOf m % sizeAt level) 0)) (λ b. inr (inl b))
   where
-    go : m .blocks ≡ true → (firstFrame m % sizeAt level ≡ 0) ⊎ (firstFrame m % sizeAt level ≡ 0 → ⊥) → (endOf m % sizeAt level ≡ 0) ⊎ (endOf m % sizeAt level ≡ 0 → ⊥)
+    go : m .blocks ≡ true → (firstFrame m % sizeAt level ≡ 0) ⊎ (firstFrame m % sizeAt level ≡ 0 → ⊥)
+        → (endOf m % sizeAt level ≡ 0) ⊎ (endOf m % sizeAt level ≡ 0 → ⊥)
         → Blocks level m ⊎ Barred level m
     go b (inl p) (inl e) = inl (record { allowed = b; frame = p; ends = e })
     go b (inl p) (inr e) = inr (inr (inr e))
     go b (inr p) e = inr (inr (inl p))
 
-pub fits-block : (level : ℕ) (m : Map) (w : ℕ) → 0 < level → (w % 4 ≡ 3 → ⊥) → startOf m % sizeAt level ≡ 0 → Blocks level m → rule3 level m w ≡ true
+pub fits-block : (level : ℕ) (m : Map) (w : ℕ) → 0 < level → (w % 4 ≡ 3 → ⊥) → startOf m % sizeAt level ≡ 0 → Blocks level m
+    → rule3 level m w ≡ true
 unfolding rule3 blockable whole tableWord
 fits-block level m w h n s b =
-    rw (eq-eqb (startOf m % sizeAt level) 0 s, eq-eqb (endOf m % sizeAt level) 0 (b .ends), ne-eqb (w % 4) 3 n, eq-eqb (firstFrame m % sizeAt level) 0 (b .frame), b .allowed, lt-ltb 0 level h)
+    rw (
+      eq-eqb (startOf m % sizeAt level) 0 s,
+      eq-eqb (endOf m % sizeAt level) 0 (b .ends),
+      ne-eqb (w % 4) 3 n,
+      eq-eqb
+          (firstFrame m % sizeAt level) 0 (b .frame),
+      b .allowed,
+      lt-ltb 0 level h,
+    )
 
 pub barred-block : (level : ℕ) (m : Map) (w : ℕ) → Barred level m → rule3 level m w ≡ false
 unfolding rule3 blockable whole tableWord
@@ -111,7 +129,8 @@ barred-block level m w why = go why
     go : Barred level m → ((a && b) && (c && (eqb (firstFrame m % sizeAt level) 0 && (m .blocks && ltb 0 level)))) ≡ false
     go (inl n) = rw n (first (a && b) c (eqb (firstFrame m % sizeAt level) 0))
     go (inr (inl n)) = rw (ne-eqb (firstFrame m % sizeAt level) 0 n) (second (a && b) c)
-    go (inr (inr n)) = rw (ne-eqb (endOf m % sizeAt level) 0 n) (third a (c && (eqb (firstFrame m % sizeAt level) 0 && (m .blocks && ltb 0 level))))
+    go (inr (inr n)) =
+        rw (ne-eqb (endOf m % sizeAt level) 0 n) (third a (c && (eqb (firstFrame m % sizeAt level) 0 && (m .blocks && ltb 0 level))))
 
 -- ---- which rule
 
@@ -123,13 +142,17 @@ pub down-misses : (level : ℕ) (m : Map) (w : ℕ) → level < 3 → ruleOf lev
 unfolding ifDown
 down-misses level m w h e =
     byBool (rule2 level m w)
-    (λ fits. absurd (let z = rule-none level m w 1 h fits in let q : ifDown (ruleOf level m w) 1 ≡ 1 = ap (λ (r : Rule). ifDown r 1) e in omega arith)) (λ misses. misses)
+    (λ fits. absurd
+    (let z = rule-none level m w 1 h fits in let q : ifDown (ruleOf level m w) 1 ≡ 1 = ap (λ (r : Rule). ifDown r 1) e in
+    omega arith)) (λ misses. misses)
 
-pub rule-whole : (level : ℕ) (m : Map) (w n : ℕ) → level < 3 → rule2 level m w ≡ false → rule3 level m w ≡ true → ifDown (ruleOf level m w) n ≡ 0
+pub rule-whole : (level : ℕ) (m : Map) (w n : ℕ) → level < 3 → rule2 level m w ≡ false → rule3 level m w ≡ true
+    → ifDown (ruleOf level m w) n ≡ 0
 unfolding ruleOf ifDown
 rule-whole level m w n h e f = rw (lt-leb 3 level h, e, f)
 
-pub rule-down : (level : ℕ) (m : Map) (w n : ℕ) → level < 3 → rule2 level m w ≡ false → rule3 level m w ≡ false → (w % 4 ≡ 3 → ⊥) → ifDown (ruleOf level m w) n ≡ n
+pub rule-down : (level : ℕ) (m : Map) (w n : ℕ) → level < 3 → rule2 level m w ≡ false → rule3 level m w ≡ false → (w % 4 ≡ 3 → ⊥)
+    → ifDown (ruleOf level m w) n ≡ n
 unfolding ruleOf ifDown rule4 tableWord
 rule-down level m w n h e f p = rw (lt-leb 3 level h, e, f, ne-eqb (w % 4) 3 p) (both (whole level (m .region)))
   where
@@ -166,12 +189,19 @@ piece level w a h one z =
     let i = entryIndex (level + 1) a in
     let at = addressOf w + i * size in
     let own = multiple-is (addressOf w) (sizeAt level) z in
-    let word : childWord level w a ≡ at + flagsOf w = child-block level w a h (omega arith) ∙ (let e : down (addressOf w) (sizeAt level) + i * size + flagsOf w ≡ at + flagsOf w = omega arith in e) in
-    let whole : at % size ≡ 0 = add-multiple (addressOf w) (i * size) size (mul-mod-left i size) ∙ size-next level (addressOf w) (omega arith) z in
-    let pages : at % 4096 ≡ 0 = multiple-of (2 ^ (9 * (3 - (level + 1)))) 4096 at (ap (λ (s : ℕ). at % s) (sym (size-pages (level + 1))) ∙ whole) in
+    let word : childWord level w a ≡ at + flagsOf w =
+    child-block level w a h (omega arith)
+    ∙ (let e : down (addressOf w) (sizeAt level) + i * size + flagsOf w ≡ at + flagsOf w = omega arith in e) in
+    let whole : at % size ≡ 0 =
+    add-multiple (addressOf w) (i * size) size (mul-mod-left i size) ∙ size-next level (addressOf w) (omega arith) z in
+    let pages : at % 4096 ≡ 0 =
+    multiple-of (2 ^ (9 * (3 - (level + 1)))) 4096 at (ap (λ (s : ℕ). at % s) (sym (size-pages (level + 1))) ∙ whole) in
     let room = size-room level (addressOf w) (address-below w) in
     let slot : (i + 1) * size ≤ 512 * size = mul-le-mul-right size (omega arith) in
-    let below : at < 2 ^ 48 = let s = size-step level (omega arith) in let n = next-multiple i size in let p = size-pos (level + 1) in omega arith in
+    let below : at < 2 ^ 48 = let s = size-step level (omega arith) in
+    let n = next-multiple i size in
+    let p = size-pos (level + 1) in
+    omega arith in
     let again = flags-again w in
     let address = ap addressOf word ∙ address-back at (flagsOf w) pages below again in
     record {
@@ -201,12 +231,14 @@ child-lawful level w a h p = go (eq-or (w % 2) 1)
 
 pub data Missed (level : ℕ) (m : Map) (w : ℕ) : Type 0 where
   hole : w % 2 ≡ 0 → addressOf w ≡ 0 → startOf m % sizeAt level < firstFrame m → Missed level m w
-  block : w % 4 ≡ 1 → addressOf w % sizeAt level ≡ 0 → (flagsOf w ≡ m .flags → firstFrame m ≡ addressOf w + startOf m % sizeAt level → ⊥) → Missed level m w
+  block : w % 4 ≡ 1 → addressOf w % sizeAt level ≡ 0 → (flagsOf w ≡ m .flags → firstFrame m ≡ addressOf w + startOf m % sizeAt level → ⊥)
+      → Missed level m w
 
 -- as it is tested, where rule 2 doesn't fit the chunk itself and the chunk begins with an entry of the next level
 unfoldable pub missedCase : ℕ → Map → ℕ → Bool
 missedCase level m w =
-    cond (eqb (w % 2) 0) (eqb (addressOf w) 0 && ltb (startOf m % sizeAt level) (firstFrame m)) (not (tableWord w) && eqb (addressOf w % sizeAt level) 0)
+    cond (eqb (w % 2) 0) (eqb (addressOf w) 0 && ltb (startOf m % sizeAt level) (firstFrame m))
+    (not (tableWord w) && eqb (addressOf w % sizeAt level) 0)
 
 unfoldable pub missedb : ℕ → Map → ℕ → Bool
 missedb level m w = eqb (startOf m % sizeAt (level + 1)) 0 && missedCase level m w
@@ -235,14 +267,17 @@ missed-says level m w misses e = byBool (eqb (w % 2) 0) even odd
     even : eqb (w % 2) 0 ≡ true → Missed level m w
     even e =
         let t : T a = tells (sym (ap (λ (x : Bool). cond x a b) e) ∙ holds) in
-        hole (eqb→eq (w % 2) 0 (tells e)) (eqb→eq (addressOf w) 0 (and-l (eqb (addressOf w) 0) (ltb (startOf m % sizeAt level) (firstFrame m)) t))
+        hole (eqb→eq (w % 2) 0 (tells e))
+        (eqb→eq (addressOf w) 0 (and-l (eqb (addressOf w) 0) (ltb (startOf m % sizeAt level) (firstFrame m)) t))
         (ltb→lt (startOf m % sizeAt level) (firstFrame m) (and-r (eqb (addressOf w) 0) (ltb (startOf m % sizeAt level) (firstFrame m)) t))
 
     odd : eqb (w % 2) 0 ≡ false → Missed level m w
     odd e =
         let t : T b = tells (sym (ap (λ (x : Bool). cond x a b) e) ∙ holds) in
         let low = eqb-false (w % 2) 0 e in
-        let plain = eqb-false (w % 4) 3 (not-true (eqb (w % 4) 3) (is-true (not (eqb (w % 4) 3)) (and-l (not (eqb (w % 4) 3)) (eqb (addressOf w % sizeAt level) 0) t))) in
+        let plain = eqb-false (w % 4) 3
+        (not-true (eqb (w % 4) 3)
+        (is-true (not (eqb (w % 4) 3)) (and-l (not (eqb (w % 4) 3)) (eqb (addressOf w % sizeAt level) 0) t))) in
         block (one low plain) (eqb→eq (addressOf w % sizeAt level) 0 (and-r (not (eqb (w % 4) 3)) (eqb (addressOf w % sizeAt level) 0) t))
         (λ f p. let q : true ≡ false = sym (says-same level m w (record { plain = plain; flags = f; place = p })) ∙ misses in true≢false q)
       where
@@ -273,14 +308,17 @@ pub record Part (m c : Map) : Type 0 where
 
 module _ (level : ℕ) (m c : Map) (w : ℕ) (high : level + 1 < 3) (one : endOf m ≤ entryLast level (startOf m) + 1) (p : Part m c) where
   offset : startOf c % sizeAt level ≡ startOf m % sizeAt level + (startOf c - startOf m)
-  offset = mod-on (sizeAt level) (startOf m) (startOf c) (size-pos level) (p .from) (in-entry level (startOf m) (startOf c) (omega (arith, p .below)))
+  offset =
+      mod-on (sizeAt level) (startOf m) (startOf c) (size-pos level) (p .from)
+      (in-entry level (startOf m) (startOf c) (omega (arith, p .below)))
 
   -- the offset of c's start, by its slot below
   slots : startOf c % sizeAt level ≡ entryIndex (level + 1) (startOf c) * sizeAt (level + 1) + startOf c % sizeAt (level + 1)
   unfolding entryIndex
   slots = size-parts level (startOf c) (omega arith)
 
-  pub missed-block : w % 4 ≡ 1 → addressOf w % sizeAt level ≡ 0 → (flagsOf w ≡ m .flags → firstFrame m ≡ addressOf w + startOf m % sizeAt level → ⊥)
+  pub missed-block : w % 4 ≡ 1 → addressOf w % sizeAt level ≡ 0
+      → (flagsOf w ≡ m .flags → firstFrame m ≡ addressOf w + startOf m % sizeAt level → ⊥)
       → Missed (level + 1) c (childWord level w (startOf c))
   missed-block a b n =
       let q = piece level w (startOf c) high a b in
@@ -293,14 +331,16 @@ module _ (level : ℕ) (m c : Map) (w : ℕ) (high : level + 1 < 3) (one : endOf
       let e = child-hole level w (startOf c) (λ z. omega arith) in
       let o = offset in
       let i = slots in
-      hole (ap (λ (x : ℕ). x % 2) e ∙ (let f = flags-low w in omega arith)) (ap addressOf e ∙ flags-alone w) (omega (arith, p .frame, p .from))
+      hole (ap (λ (x : ℕ). x % 2) e ∙ (let f = flags-low w in omega arith)) (ap addressOf e ∙ flags-alone w)
+      (omega (arith, p .frame, p .from))
 
   pub missed-part : Missed level m w → Missed (level + 1) c (childWord level w (startOf c))
   missed-part (hole a b l) = missed-hole a l
   missed-part (block a b n) = missed-block a b n
 
 -- a later part of a hole, from where an entry begins: its frame is above 0
-pub missed-later : (level : ℕ) (c : Map) (w : ℕ) → w % 2 ≡ 0 → startOf c % sizeAt (level + 1) ≡ 0 → 0 < firstFrame c → Missed (level + 1) c (childWord level w (startOf c))
+pub missed-later : (level : ℕ) (c : Map) (w : ℕ) → w % 2 ≡ 0 → startOf c % sizeAt (level + 1) ≡ 0 → 0 < firstFrame c
+    → Missed (level + 1) c (childWord level w (startOf c))
 missed-later level c w a z l =
     let e = child-hole level w (startOf c) (λ z. omega arith) in
     hole (ap (λ (x : ℕ). x % 2) e ∙ (let f = flags-low w in omega arith)) (ap addressOf e ∙ flags-alone w) (omega arith)

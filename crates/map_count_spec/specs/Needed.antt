@@ -1,5 +1,5 @@
--- Refusal 9's count (document 01, "The refusal slip"): the new tables that the rules of "Putting down a map" make, by plain recursion over them.
--- Leans on `Rules`. Assumes nothing.
+-- Refusal 9's count (document 01, "The refusal slip"): the new tables that the rules of "Putting down a map" make, by plain recursion over
+-- them. Leans on `Rules`.
 use mathlib.Core.Path.{_≡_, refl, sym, ap, _∙_}
 use mathlib.Core.List.{List, [], _∷_}
 use mathlib.Core.Logic.{_⊎_, inl, inr}
@@ -45,8 +45,8 @@ sumChunks level f m = sumOf (λ c frame. f (chunkMap m c frame)) (chunks level (
 unfoldable pub childWord : ℕ → ℕ → ℕ → ℕ
 childWord level w a = getD (fillOf level w) (entryIndex (level + 1) a) 0
 
--- for a chunk of an entry that is no table, with the word w and `depth` levels below its table's: none unless rule 5 fits; else the split's table, and what the
--- entries of that table need
+-- for a chunk of an entry that is no table, with the word w and `depth` levels below its table's: none unless rule 5 fits; else the split's
+-- table, and what the entries of that table need
 unfoldable pub neededLeaf : ℕ → Map → ℕ → ℕ
 neededLeaf zero m w = 0
 neededLeaf (suc depth) m w =
@@ -69,7 +69,8 @@ needChunk rec leaf h s k level m =
 -- for a map of table k with `depth` levels below its own, where `leaf` counts for the entries that are no table
 unfoldable pub needTable : (ℕ → Map → ℕ → ℕ) → ℕ → Handle → St → ℕ → Map → ℕ
 needTable leaf zero h s k m = 0
-needTable leaf (suc depth) h s k m = sumChunks (3 - suc depth) (λ c. needChunk (λ j n. needTable leaf depth h s j n) (leaf (suc depth)) h s k (3 - suc depth) c) m
+needTable leaf (suc depth) h s k m =
+    sumChunks (3 - suc depth) (λ c. needChunk (λ j n. needTable leaf depth h s j n) (leaf (suc depth)) h s k (3 - suc depth) c) m
 
 -- "new tables needed"
 unfoldable pub needed : ℕ → Handle → St → ℕ → Map → ℕ
@@ -99,7 +100,8 @@ sum-first level f m h = rw (chunks-step level (m .region .start .0) (m .region .
 -- a sum is g of the whole where g is 0 of nothing and the first chunk's summand with g of what remains; I is what stays true on the way
 pub sum-is : (level : ℕ) (f g : Map → ℕ) (I : Map → Type 0)
     → ((m : Map) → I m → m .region .end .0 ≤ m .region .start .0 → g m ≡ 0)
-    → ((m : Map) → I m → m .region .start .0 < m .region .end .0 → (g m ≡ f (firstChunk level m) + g (afterFirst level m)) × I (afterFirst level m))
+    → ((m : Map) → I m → m .region .start .0 < m .region .end .0
+    → (g m ≡ f (firstChunk level m) + g (afterFirst level m)) × I (afterFirst level m))
     → (m : Map) → I m → sumChunks level f m ≡ g m
 sum-is level f g I none step m i = go (met level (m .region .start .0) (m .region .end .0)) m i refl
   where
@@ -112,7 +114,8 @@ sum-is level f g I none step m i = go (met level (m .region .start .0) (m .regio
     go (suc n) m i q = more (le-or (m .region .end .0) (m .region .start .0)) (go n (afterFirst level m))
       where
         more : (m .region .end .0 ≤ m .region .start .0) ⊎ (m .region .start .0 < m .region .end .0)
-            → (I (afterFirst level m) → met level (afterFirst level m .region .start .0) (m .region .end .0) ≡ n → sumChunks level f (afterFirst level m) ≡ g (afterFirst level m))
+            → (I (afterFirst level m) → met level (afterFirst level m .region .start .0) (m .region .end .0) ≡ n
+            → sumChunks level f (afterFirst level m) ≡ g (afterFirst level m))
             → sumChunks level f m ≡ g m
         more (inl h) ih = sum-none level f m h ∙ sym (none m i h)
         more (inr h) ih =
@@ -132,11 +135,13 @@ pub child-hole : (level w a : ℕ) → (w % 2 ≡ 1 → ⊥) → childWord level
 unfolding childWord
 child-hole level w a n =
     let i = entryIndex (level + 1) a in
-    ap (λ (t : List ℕ). getD t i 0) (sym (fill-hole level w n)) ∙ rising-at 512 (flagsOf w) 0 i (slot-below (level + 1) a) ∙ (let e : flagsOf w + i * 0 ≡ flagsOf w = omega arith in e)
+    ap (λ (t : List ℕ). getD t i 0) (sym (fill-hole level w n)) ∙ rising-at 512 (flagsOf w) 0 i (slot-below (level + 1) a)
+    ∙ (let e : flagsOf w + i * 0 ≡ flagsOf w = omega arith in e)
 
 -- of a valid entry: its parts, one after the other
 pub child-part : (level w a : ℕ) → w % 2 ≡ 1
-    → childWord level w a ≡ leafWord (level + 1) (down (addressOf w) (sizeAt level)) (flagsOf w) + entryIndex (level + 1) a * sizeAt (level + 1)
+    → childWord level w a
+    ≡ leafWord (level + 1) (down (addressOf w) (sizeAt level)) (flagsOf w) + entryIndex (level + 1) a * sizeAt (level + 1)
 unfolding childWord
 child-part level w a e =
     let i = entryIndex (level + 1) a in

@@ -1,4 +1,4 @@
--- In a sound pool every word that is no table is lawful at its level, so that the closed form is the count. Leans on `Count`. Assumes nothing.
+-- In a sound pool every word that is no table is lawful at its level, so that the closed form is the count. Leans on `Count`.
 use mathlib.Core.Path.{_≡_, ap, subst, _∙_}
 use mathlib.Core.Bool.{cond, _&&_}
 use mathlib.Core.Logic.{_⊎_, inl, inr}
@@ -25,19 +25,27 @@ use Rattle.map_count_spec.specs.Count.{LawfulTable, closed-table}
 -- a word that fits its level, and is no table, is lawful there
 pub fits-lawful : (level w : ℕ) → level < 3 → T (fits level w) → Lawful level w
 unfolding fits
-fits-lawful zero w h t = let z = eqb→eq (w % 4) 0 (and-l (eqb (w % 4) 0) (eqb (addressOf w) 0) t) in record { plain = (λ e. omega arith); aligned = (λ e. absurd (omega arith)) }
+fits-lawful zero w h t =
+    let z = eqb→eq (w % 4) 0 (and-l (eqb (w % 4) 0) (eqb (addressOf w) 0) t) in
+    record { plain = (λ e. omega arith); aligned = (λ e. absurd (omega arith)) }
 fits-lawful (suc zero) w h t = low 1 t
   where
     low : (l : ℕ) → T (ltb (w % 4) 2 && eqb (addressOf w % sizeAt l) 0) → Lawful l w
     low l t =
         let a = ltb→lt (w % 4) 2 (and-l (ltb (w % 4) 2) (eqb (addressOf w % sizeAt l) 0) t) in
-        record { plain = (λ e. omega arith); aligned = (λ e. eqb→eq (addressOf w % sizeAt l) 0 (and-r (ltb (w % 4) 2) (eqb (addressOf w % sizeAt l) 0) t)) }
+        record {
+          plain = (λ e. omega arith);
+          aligned = (λ e. eqb→eq (addressOf w % sizeAt l) 0 (and-r (ltb (w % 4) 2) (eqb (addressOf w % sizeAt l) 0) t));
+        }
 fits-lawful (suc (suc zero)) w h t = low 2 t
   where
     low : (l : ℕ) → T (ltb (w % 4) 2 && eqb (addressOf w % sizeAt l) 0) → Lawful l w
     low l t =
         let a = ltb→lt (w % 4) 2 (and-l (ltb (w % 4) 2) (eqb (addressOf w % sizeAt l) 0) t) in
-        record { plain = (λ e. omega arith); aligned = (λ e. eqb→eq (addressOf w % sizeAt l) 0 (and-r (ltb (w % 4) 2) (eqb (addressOf w % sizeAt l) 0) t)) }
+        record {
+          plain = (λ e. omega arith);
+          aligned = (λ e. eqb→eq (addressOf w % sizeAt l) 0 (and-r (ltb (w % 4) 2) (eqb (addressOf w % sizeAt l) 0) t));
+        }
 fits-lawful (suc (suc (suc l))) w h t = absurd (omega arith)
 
 -- table k is in use, and stands at this level
@@ -49,10 +57,13 @@ record UsedAt (s : St) (k level : ℕ) : Type 0 where
 module _ (h : Handle) (s : St) (shape : Shaped h s) (sound : T (soundb h s)) where
   -- the word of a used table, past the test for a free one
   used-slot : (k level i : ℕ) → UsedAt s k level → i < 512
-      → T (cond (refersb (numberAt s k) (wordAt s k i)) (linkb (h .base .0) s k i (wordAt s k i)) (leafb (flagSet h) (levelOf (numberAt s k)) (wordAt s k i)))
+      → T
+      (cond (refersb (numberAt s k) (wordAt s k i)) (linkb (h .base .0) s k i (wordAt s k i))
+      (leafb (flagSet h) (levelOf (numberAt s k)) (wordAt s k i)))
   unfolding slotb
   used-slot k level i u b =
-      cond-false (eqb (numberAt s k) 0) (eqb (wordAt s k i) 0) _ (λ t. u .used (eqb→eq (numberAt s k) 0 t)) (sound-slot h s sound (shape .sized) k i (u .inside) b)
+      cond-false (eqb (numberAt s k) 0) (eqb (wordAt s k i) 0) _ (λ t. u .used (eqb→eq (numberAt s k) 0 t))
+      (sound-slot h s sound (shape .sized) k i (u .inside) b)
 
   -- a leaf is lawful
   leaf-lawful : (k level i : ℕ) → level < 3 → UsedAt s k level → i < 512 → (wordAt s k i % 4 ≡ 3 → ⊥) → Lawful level (wordAt s k i)
@@ -61,7 +72,8 @@ module _ (h : Handle) (s : St) (shape : Shaped h s) (sound : T (soundb h s)) whe
       let w = wordAt s k i in
       let t = cond-false (refersb (numberAt s k) w) (linkb (h .base .0) s k i w) (leafb (flagSet h) (levelOf (numberAt s k)) w)
       (λ r. plain (eqb→eq (w % 4) 3 (and-r (ltb (levelOf (numberAt s k)) 3) (eqb (w % 4) 3) r))) (used-slot k level i u b) in
-      fits-lawful level w l (subst (λ (n : ℕ). T (fits n w)) (u .at) (and-r (only (flagSet h) (plainFlags w)) (fits (levelOf (numberAt s k)) w) t))
+      fits-lawful level w l
+      (subst (λ (n : ℕ). T (fits n w)) (u .at) (and-r (only (flagSet h) (plainFlags w)) (fits (levelOf (numberAt s k)) w) t))
 
   -- a table word names a table whose number names its slot
   record Named (k j : ℕ) : Type 0 where
@@ -81,7 +93,10 @@ module _ (h : Handle) (s : St) (shape : Shaped h s) (sound : T (soundb h s)) whe
       go ((addressOf w - h .base .0) / 4096) (f .place) t
     where
       go : (c : ℕ) → c ≡ j
-          → T (eqb (wordAt s k i) (linkOf (h .base .0) c) && ((leb 4 (numberAt s c % 8) && leb 1 (numberAt s c / 8)) && (eqb (parentOf (numberAt s c)) k && eqb (slotOf (numberAt s c)) i)))
+          → T
+          (eqb (wordAt s k i) (linkOf (h .base .0) c)
+          && ((leb 4 (numberAt s c % 8) && leb 1 (numberAt s c / 8))
+          && (eqb (parentOf (numberAt s c)) k && eqb (slotOf (numberAt s c)) i)))
           → Named k j
       go c q t =
           let z = numberAt s c in
@@ -109,8 +124,14 @@ module _ (h : Handle) (s : St) (shape : Shaped h s) (sound : T (soundb h s)) whe
       go (inl z) = absurd (let e = eqb→eq (numberAt s (suc j)) 0 z in omega (arith, n .low))
       go (inr g) =
           let y = numberAt s (parentOf (numberAt s (suc j))) in
-          let r = and-r (namesb (numberAt s (suc j))) (eqb (levelOf (numberAt s (suc j))) (suc (levelOf y)) && (ltb 0 y && eqb (wordAt s (parentOf (numberAt s (suc j))) (slotOf (numberAt s (suc j)))) (linkOf (h .base .0) (suc j)))) g in
-          let e = eqb→eq (levelOf (numberAt s (suc j))) (suc (levelOf y)) (and-l (eqb (levelOf (numberAt s (suc j))) (suc (levelOf y))) (ltb 0 y && eqb (wordAt s (parentOf (numberAt s (suc j))) (slotOf (numberAt s (suc j)))) (linkOf (h .base .0) (suc j))) r) in
+          let r = and-r (namesb (numberAt s (suc j)))
+          (eqb (levelOf (numberAt s (suc j))) (suc (levelOf y))
+          && (ltb 0 y
+          && eqb (wordAt s (parentOf (numberAt s (suc j))) (slotOf (numberAt s (suc j)))) (linkOf (h .base .0) (suc j)))) g in
+          let e = eqb→eq (levelOf (numberAt s (suc j))) (suc (levelOf y))
+          (and-l (eqb (levelOf (numberAt s (suc j))) (suc (levelOf y)))
+          (ltb 0 y && eqb (wordAt s (parentOf (numberAt s (suc j))) (slotOf (numberAt s (suc j)))) (linkOf (h .base .0) (suc j)))
+          r) in
           let up : levelOf y ≡ level = ap (λ (p : ℕ). levelOf (numberAt s p)) (n .parent) ∙ u .at in
           record { inside = l; used = (λ z. omega (arith, n .low)); at = omega arith }
 
@@ -124,7 +145,9 @@ module _ (h : Handle) (s : St) (shape : Shaped h s) (sound : T (soundb h s)) whe
             let f = sub-found (h .base .0) (tables s) (3 - suc depth) (wordAt s k i) j e in
             let next : 3 - suc depth + 1 ≡ 3 - depth = omega arith in
             lawful-from depth j (omega arith)
-            (subst (λ (n : ℕ). UsedAt s j n) next (named-used k (3 - suc depth) j u (f .below) (link-named k (3 - suc depth) i j u b e) (sound-table h s sound j (f .below))))),
+            (subst (λ (n : ℕ). UsedAt s j n) next
+            (named-used k (3 - suc depth) j u (f .below) (link-named k (3 - suc depth) i j u b e)
+            (sound-table h s sound j (f .below))))),
       )
 
   -- the root and all below it

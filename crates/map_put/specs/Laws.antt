@@ -1,4 +1,4 @@
--- One law for each way through the code. Leans on `Put`. Assumes nothing.
+-- One law for each way through the code. Leans on `Put`.
 use mathlib.Core.Path.{_≡_, refl, sym, ap, _∙_}
 use mathlib.Core.List.{List}
 use Prim.Native.Nat.{ℕ, _+_, _-_, _%_, _<_}
@@ -41,7 +41,8 @@ module _ (rec : ℕ → St → St) (h : Handle) (k level i : ℕ) (s : St) {r : 
   put-drop x e = ruled (Drop x) e
 
 -- whatever would be done below
-pub put-here : (rec other : ℕ → St → St) (h : Handle) (k level i : ℕ) (s : St) (r : Rule) → (r ≡ Down → ⊥) → byRule rec h k level i r s ≡ byRule other h k level i r s
+pub put-here : (rec other : ℕ → St → St) (h : Handle) (k level i : ℕ) (s : St) (r : Rule) → (r ≡ Down → ⊥)
+    → byRule rec h k level i r s ≡ byRule other h k level i r s
 unfolding byRule
 put-here rec other h k level i s (Write x) n = refl
 put-here rec other h k level i s Keep n = refl
@@ -57,19 +58,23 @@ sub-kept h k level i s (Table j) n = refl
 sub-kept h k level i s Outside n = refl
 sub-kept h k level i s Leaf n = absurd (n refl)
 
-pub below-kept : (h : Handle) (k level i : ℕ) (s : St) {f : Found} {t : St} → taken f t ≡ below h k level i s → level < 3 → wordAt s k i % 4 ≡ 3 → t ≡ s
+pub below-kept : (h : Handle) (k level i : ℕ) (s : St) {f : Found} {t : St} → taken f t ≡ below h k level i s → level < 3
+    → wordAt s k i % 4 ≡ 3 → t ≡ s
 unfolding below
 below-kept h k level i s e l w =
     ap (λ (x : Taken). x .state) e
-    ∙ sub-kept h k level i s (subOf (h .base .0) (tables s) level (wordAt s k i)) (sub-some (h .base .0) (tables s) level (wordAt s k i) l w)
+    ∙ sub-kept h k level i s (subOf (h .base .0) (tables s) level (wordAt s k i))
+    (sub-some (h .base .0) (tables s) level (wordAt s k i) l w)
 
 -- nothing taken
-take-nothing : (h : Handle) (p level i : ℕ) (l : List ℕ) (s : St) (f : Found) → takeFound h p level i l s f .table ≡ Nothing → takeFound h p level i l s f .state ≡ s
+take-nothing : (h : Handle) (p level i : ℕ) (l : List ℕ) (s : St) (f : Found) → takeFound h p level i l s f .table ≡ Nothing
+    → takeFound h p level i l s f .state ≡ s
 unfolding takeFound
 take-nothing h p level i l s (At j) e = let z : _≡_ {A = ℕ} 0 1 = cc in absurd (omega arith)
 take-nothing h p level i l s Nothing e = refl
 
-sub-nothing : (h : Handle) (k level i : ℕ) (s : St) (x : Sub) → belowOf h k level i s x .table ≡ Nothing → belowOf h k level i s x .state ≡ s
+sub-nothing : (h : Handle) (k level i : ℕ) (s : St) (x : Sub) → belowOf h k level i s x .table ≡ Nothing
+    → belowOf h k level i s x .state ≡ s
 unfolding belowOf splitEntry takeTable
 sub-nothing h k level i s (Table j) e = refl
 sub-nothing h k level i s Outside e = refl

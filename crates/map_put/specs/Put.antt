@@ -1,4 +1,4 @@
--- Document 01, "Putting down a map": what is done by each rule, the chunks of a table in ascending order, one level after the other. Assumes nothing.
+-- Document 01, "Putting down a map": what is done by each rule, the chunks of a table in ascending order, one level after the other.
 use mathlib.Core.List.{List, [], _∷_}
 use Prim.Native.Nat.{ℕ, zero, suc, _+_, _-_}
 use Rattle.entry.specs.Sub.{subOf}
@@ -37,7 +37,8 @@ eachOf f [] frame s = s
 eachOf f (c ∷ cs) frame s = eachOf f cs (frame + (c .end .0 - c .start .0)) (f c frame s)
 
 unfoldable pub eachChunk : ℕ → (Map → St → St) → Map → St → St
-eachChunk level f m s = eachOf (λ c frame t. f (chunkMap m c frame) t) (chunks level (m .region .start .0) (m .region .end .0)) (m .frame .0) s
+eachChunk level f m s =
+    eachOf (λ c frame t. f (chunkMap m c frame) t) (chunks level (m .region .start .0) (m .region .end .0)) (m .frame .0) s
 
 -- a map of table k with `depth` levels below its own
 unfoldable pub mapRange : ℕ → Handle → ℕ → Map → St → St

@@ -1,4 +1,4 @@
--- The loop over a table's chunks: one step after the other, and what each step needs. Leans on `Put`. Assumes nothing.
+-- The loop over a table's chunks: one step after the other, and what each step needs. Leans on `Put`.
 use mathlib.Core.Path.{_≡_, refl, sym, ap, _∙_}
 use mathlib.Core.Bool.{cond}
 use mathlib.Core.Logic.{_⊎_, ⊎-elim}
@@ -37,17 +37,20 @@ rec-down h j level n t l = rw (lt-ltb level 3 l)
 unfoldable pub mapStep : Handle → ℕ → ℕ → Map → St → St
 mapStep h k level = mapChunk (mapBelow h level) h k level
 
-pub map-open : (h : Handle) (k level : ℕ) (m : Map) (s : St) → level ≤ 3 → eachChunk level (mapStep h k level) m s ≡ mapRange (3 - level) h k m s
+pub map-open : (h : Handle) (k level : ℕ) (m : Map) (s : St) → level ≤ 3
+    → eachChunk level (mapStep h k level) m s ≡ mapRange (3 - level) h k m s
 unfolding mapStep mapBelow mapRange
 map-open h k level m s l = ⊎-elim
     (λ ge.
     let e : 3 ≡ level = omega arith in
-    ap (λ (x : ℕ). eachChunk x (mapChunk (cond (ltb x 3) (λ j n t. mapRange (3 - (x + 1)) h j n t) (λ j n t. t)) h k x) m s) (sym e) ∙ ap (λ (x : ℕ). mapRange (3 - x) h k m s) e)
+    ap (λ (x : ℕ). eachChunk x (mapChunk (cond (ltb x 3) (λ j n t. mapRange (3 - (x + 1)) h j n t) (λ j n t. t)) h k x) m s) (sym e)
+    ∙ ap (λ (x : ℕ). mapRange (3 - x) h k m s) e)
     (λ lt.
     let e : suc (3 - (level + 1)) ≡ 3 - level = omega arith in
     let q : level ≡ 3 - suc (3 - (level + 1)) = omega arith in
     rw (lt-ltb level 3 lt)
-    (ap (λ (x : ℕ). eachChunk x (mapChunk (λ j n t. mapRange (3 - (level + 1)) h j n t) h k x) m s) q ∙ ap (λ (x : ℕ). mapRange x h k m s) e))
+    (ap (λ (x : ℕ). eachChunk x (mapChunk (λ j n t. mapRange (3 - (level + 1)) h j n t) h k x) m s) q
+    ∙ ap (λ (x : ℕ). mapRange x h k m s) e))
     (le-or 3 level)
 
 -- ---- the loop
@@ -59,13 +62,15 @@ module _ (level : ℕ) (f : Map → St → St) (m : Map) (at end frame : ℕ) (s
 
   pub each-step : at < end
       → eachChunk level f (chunkMap m (region at end) frame) s
-      ≡ eachChunk level f (chunkMap m (region (chunkEnd level at end) end) (frame + (chunkEnd level at end - at))) (f (chunkMap m (region at (chunkEnd level at end)) frame) s)
+      ≡ eachChunk level f (chunkMap m (region (chunkEnd level at end) end) (frame + (chunkEnd level at end - at)))
+      (f (chunkMap m (region at (chunkEnd level at end)) frame) s)
   unfolding eachChunk eachOf
   each-step h = rw (chunks-step level at end h)
 
 -- ---- one chunk, by its rule
 
-module _ (h : Handle) (k level : ℕ) (m : Map) (s : St) {i : ℕ} (index : i ≡ entryIndex level (m .region .start .0)) {r : Rule} (is : r ≡ ruleOf level m (wordAt s k i)) where
+module _ (h : Handle) (k level : ℕ) (m : Map) (s : St) {i : ℕ} (index : i ≡ entryIndex level (m .region .start .0)) {r : Rule}
+    (is : r ≡ ruleOf level m (wordAt s k i)) where
   chosen : (q : Rule) → r ≡ q → byRule (λ j t. mapBelow h level j m t) h k level i q s ≡ mapStep h k level m s
   unfolding mapStep mapChunk
   chosen q e =

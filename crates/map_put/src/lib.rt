@@ -14,7 +14,8 @@ ghost use Rattle.map_put.specs.Laws.{Stays};
 // The subtree that a word referred to is freed.
 fn drop_entry(words: &mut [u64], ledger: &mut [u32], handle: Handle, level: usize, word: u64)
     requires { ⌜ (length (now words) ≡ 512 * length (now ledger)) × (level < 3) ⌝ }
-    ensures { λ _. ⌜ st (now (words .exit)) (now (ledger .exit)) ≡ dropEntry handle level word (st (now (words .entry)) (now (ledger .entry))) ⌝ }
+    ensures { λ _. ⌜ st (now (words .exit)) (now (ledger .exit))
+        ≡ dropEntry handle level word (st (now (words .entry)) (now (ledger .entry))) ⌝ }
 {
     let kind = entry::subtable(handle.base, ledger.len(), level, word);
     let Sub::Table(j) = kind else {
@@ -35,7 +36,8 @@ pub fn put_entry(
     changed: bool,
 ) -> bool
     requires { ⌜ Shaped handle (st (now words) (now ledger)) × (k < length (now ledger)) × (i < 512) × Stays level rule ⌝ }
-    ensures { λ r. ⌜ (st (now (words .exit)) (now (ledger .exit)) ≡ byRule (λ j t. t) handle k level i rule (st (now (words .entry)) (now (ledger .entry))))
+    ensures { λ r. ⌜ (st (now (words .exit)) (now (ledger .exit))
+        ≡ byRule (λ j t. t) handle k level i rule (st (now (words .entry)) (now (ledger .entry))))
         × (r ≡ false → (changed ≡ false) × (now (ledger .exit) ≡ now (ledger .entry))) ⌝ }
 {
     match rule {

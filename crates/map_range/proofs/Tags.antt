@@ -1,4 +1,4 @@
--- A match on `Rule` that takes the other arms: what stands there goes no lower. Assumes nothing.
+-- A match on `Rule` that takes the other arms: what stands there goes no lower.
 use mathlib.Core.Logic.{_⊎_, inl, inr}
 use mathlib.Core.Path.{_≡_, ap}
 use native.Mathlib.Omega.{arith}

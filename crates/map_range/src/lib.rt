@@ -24,7 +24,8 @@ pub fn map_range(
     map: Map,
 ) -> bool
     requires { ⌜ Shaped handle (st (now words) (now ledger)) × (k < length (now ledger)) × (level ≤ 3) × Fit map ⌝ }
-    ensures { λ r. ⌜ (st (now (words .exit)) (now (ledger .exit)) ≡ mapRange (3 - level) handle k map (st (now (words .entry)) (now (ledger .entry))))
+    ensures { λ r. ⌜ (st (now (words .exit)) (now (ledger .exit))
+        ≡ mapRange (3 - level) handle k map (st (now (words .entry)) (now (ledger .entry))))
         × (r ≡ false → now (ledger .exit) ≡ now (ledger .entry)) ⌝ }
 {
     let end = map.region.end.0;

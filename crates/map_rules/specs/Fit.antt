@@ -1,5 +1,5 @@
--- What refusals 3, 4, 5 and 7 leave of a map: whole pages, frames below 2^48, flags that share no bit with an address; its chunks are such maps too.
--- Assumes nothing.
+-- What refusals 3, 4, 5 and 7 leave of a map: whole pages, frames below 2^48, flags that share no bit with an address; its chunks are such
+-- maps too.
 use mathlib.Core.Path.{_≡_, ap, _∙_}
 use mathlib.Core.Bool.{Bool, true, false, cond}
 use Prim.Native.Nat.{ℕ, _+_, _*_, _-_, _%_, _^_, _≤_, _<_}
@@ -29,7 +29,8 @@ unfolding flagsOf
 word-fits frame f p h q = omega (arith, q .wide, q .bits, q .clear)
 
 -- and so do the words of a split, in steps that stay below 2^48
-pub steps-fit : (frame f step : ℕ) → frame % 4096 ≡ 0 → frame + 512 * step ≤ 2 ^ 48 → 4096 ≤ step → Plain f → frame + f + 2 + 511 * step < 2 ^ 64
+pub steps-fit : (frame f step : ℕ) → frame % 4096 ≡ 0 → frame + 512 * step ≤ 2 ^ 48 → 4096 ≤ step → Plain f
+    → frame + f + 2 + 511 * step < 2 ^ 64
 unfolding flagsOf
 steps-fit frame f step p h l q = omega (arith, q .wide, q .bits, q .clear)
 
@@ -74,7 +75,14 @@ module _ (level at end frame : ℕ) (m : Map) (fit : Fit m) (low : at < end) (fr
   pub chunk-fit : Fit (chunkMap m (region at (chunkEnd level at end)) frame)
   chunk-fit =
       let c = chunk-fits level at end low in
-      record { from = from; to = chunk-paged level at end to; some = omega (arith, c .0); frame = paged; room = omega (arith, c .0, c .1); flags = fit .flags }
+      record {
+        from = from;
+        to = chunk-paged level at end to;
+        some = omega (arith, c .0);
+        frame = paged;
+        room = omega (arith, c .0, c .1);
+        flags = fit .flags;
+      }
 
   pub rest-paged : (frame + (chunkEnd level at end - at)) % 4096 ≡ 0
   rest-paged = let c = chunk-fits level at end low in let z = chunk-paged level at end to in omega (arith, c .0)

@@ -1,4 +1,4 @@
--- One law for each way through the code. Leans on `Rules`. Assumes nothing.
+-- One law for each way through the code. Leans on `Rules`.
 use mathlib.Core.Path.{_≡_, sym, _∙_}
 use mathlib.Core.Bool.{true, false}
 use Prim.Native.Nat.{ℕ, _+_, _-_, _%_, _≤_, _<_}
@@ -30,12 +30,14 @@ module _ (level : ℕ) (m : Map) (w : ℕ) where
 
     pub same-below : flagsOf w ≡ m .flags → m .frame .0 < m .region .start .0 % sizeAt level → false ≡ rule2 level m w
     unfolding rule2 tableWord
-    same-below e l = rw (ne-eqb (w % 4) 3 plain, eq-eqb (flagsOf w) (m .flags) e, lt-leb (m .region .start .0 % sizeAt level) (m .frame .0) l)
+    same-below e l =
+        rw (ne-eqb (w % 4) 3 plain, eq-eqb (flagsOf w) (m .flags) e, lt-leb (m .region .start .0 % sizeAt level) (m .frame .0) l)
 
     pub same-place : flagsOf w ≡ m .flags → m .region .start .0 % sizeAt level ≤ m .frame .0
         → eqb (m .frame .0 - m .region .start .0 % sizeAt level) (addressOf w) ≡ rule2 level m w
     unfolding rule2 tableWord
-    same-place e l = rw (ne-eqb (w % 4) 3 plain, eq-eqb (flagsOf w) (m .flags) e, le-leb (m .region .start .0 % sizeAt level) (m .frame .0) l)
+    same-place e l =
+        rw (ne-eqb (w % 4) 3 plain, eq-eqb (flagsOf w) (m .flags) e, le-leb (m .region .start .0 % sizeAt level) (m .frame .0) l)
 
 -- ---- the rules in their order
 

@@ -1,4 +1,4 @@
--- Document 01, "Putting down a map": the five rules for one chunk, and what a split fills. Assumes nothing.
+-- Document 01, "Putting down a map": the five rules for one chunk, and what a split fills.
 use mathlib.Core.Bool.{Bool, not, cond, _&&_}
 use mathlib.Core.List.{List}
 use Prim.Native.Nat.{ℕ, _+_, _-_, _%_}
@@ -46,8 +46,9 @@ ruleOf level m w =
     (cond (rule4 level m w) (Drop (m .flags))
     Down)))
 
--- rule 5: a split fills the new table with the old entry: its address, cleared below the entry's size, in steps of the child's size, as blocks or pages;
--- the flags alone if it wasn't valid
+-- rule 5: a split fills the new table with the old entry: its address, cleared below the entry's size, in steps of the child's size, as
+-- blocks or pages; the flags alone if it wasn't valid
 unfoldable pub fillOf : ℕ → ℕ → List ℕ
 fillOf level w =
-    cond (valid w) (rising 512 (leafWord (level + 1) (down (addressOf w) (sizeAt level)) (flagsOf w)) (sizeAt (level + 1))) (rising 512 (flagsOf w) 0)
+    cond (valid w) (rising 512 (leafWord (level + 1) (down (addressOf w) (sizeAt level)) (flagsOf w)) (sizeAt (level + 1)))
+    (rising 512 (flagsOf w) 0)

@@ -1,4 +1,5 @@
-// A map, the tests of its five rules, which of them fits a chunk, and the word that they write: map_range of paging.rs (aarch64-paging 0.12.3).
+// A map, the tests of its five rules, which of them fits a chunk, and the word that they write: map_range of paging.rs (aarch64-paging
+// 0.12.3).
 use address::PhysicalAddress;
 use address::VirtualAddress;
 use region::MemoryRegion;

@@ -1,5 +1,5 @@
--- The whole call (document 01, "Putting down a map" and "The refusal slip"): answer and state for every input. Refusals 1 to 9 in their order; a refusal leaves
--- the state as it was. Assumes nothing.
+-- The whole call (document 01, "Putting down a map" and "The refusal slip"): answer and state for every input. Refusals 1 to 9 in their
+-- order; a refusal leaves the state as it was.
 use mathlib.Core.Path.{_≡_, sym, ap}
 use mathlib.Core.Bool.{true, false, cond}
 use Prim.Native.Nat.{ℕ, _-_, _≤_, _<_}
@@ -53,7 +53,8 @@ module _ (h : Handle) (m : Map) (s : St) where
   unfolding mapSound
   sound-not e = rw e
 
-  module _ (sound : soundb h s ≡ true) {need room : ℕ} (counts : need ≡ needed (3 - h .level) h s 0 m) (spare : room ≡ free (s .ledger)) where
+  module _ (sound : soundb h s ≡ true) {need room : ℕ} (counts : need ≡ needed (3 - h .level) h s 0 m)
+      (spare : room ≡ free (s .ledger)) where
     pub sound-full : room < need → refused (WantOfRoom need room) s ≡ mapSound h m s
     unfolding mapSound
     sound-full l = rw (sound, sym counts, sym spare, lt-ltb room need l)
@@ -62,7 +63,8 @@ module _ (h : Handle) (m : Map) (s : St) where
     unfolding mapSound
     sound-mapped l = rw (sound, sym counts, sym spare, le-ltb room need l)
 
-  pub put-down : {t : St} {count : ℕ} → t ≡ mapRange (3 - h .level) h 0 m s → count ≡ used (t .ledger) → out (counted.Tables count) t ≡ putDown h m s
+  pub put-down : {t : St} {count : ℕ} → t ≡ mapRange (3 - h .level) h 0 m s → count ≡ used (t .ledger)
+      → out (counted.Tables count) t ≡ putDown h m s
   unfolding putDown
   put-down {t} e q = rw q (ap (λ (x : St). out (counted.Tables (used (x .ledger))) x) e)
 

@@ -1,4 +1,4 @@
--- An entry that is no table becomes one (document 01, "Putting down a map", rule 5 and the split). Assumes nothing.
+-- An entry that is no table becomes one (document 01, "Putting down a map", rule 5 and the split).
 use mathlib.Core.Path.{_≡_, refl, sym, ap, _∙_}
 use mathlib.Core.List.{List}
 use Prim.Native.Nat.{ℕ, _+_, _<_}
@@ -37,7 +37,8 @@ into rec t = inFound rec (t .table) (t .state)
 
 -- ---- laws: one for each way through the code
 
-pub split-is : (h : Handle) (k level i : ℕ) (s : St) (t : List ℕ) → t ≡ fillOf level (wordAt s k i) → takeTable h k (level + 1) i t s ≡ splitEntry h k level i s
+pub split-is : (h : Handle) (k level i : ℕ) (s : St) (t : List ℕ) → t ≡ fillOf level (wordAt s k i)
+    → takeTable h k (level + 1) i t s ≡ splitEntry h k level i s
 unfolding splitEntry
 split-is h k level i s t e = ap (λ (l : List ℕ). takeTable h k (level + 1) i l s) e
 
@@ -66,13 +67,16 @@ unfolding takeFound
 take-table h p level i t s (At j) = refl
 take-table h p level i t s Nothing = refl
 
-inside : (h : Handle) (k level i : ℕ) (s : St) (j : ℕ) (x : Sub) → subOf (h .base .0) (tables s) level (wordAt s k i) ≡ x → belowOf h k level i s x .table ≡ At j → j < tables s
+inside : (h : Handle) (k level i : ℕ) (s : St) (j : ℕ) (x : Sub) → subOf (h .base .0) (tables s) level (wordAt s k i) ≡ x
+    → belowOf h k level i s x .table ≡ At j → j < tables s
 unfolding belowOf splitEntry takeTable
 inside h k level i s j (Table y) q e = let same : y ≡ j = cc in sub-below (h .base .0) (tables s) level (wordAt s k i) j (q ∙ ap Table same)
 inside h k level i s j Outside q e = let z : _≡_ {A = ℕ} 0 1 = cc in absurd (omega arith)
 inside h k level i s j Leaf q e =
     lowest-found (s .ledger) j (sym (take-table h k (level + 1) i (fillOf level (wordAt s k i)) s (lowestFree (s .ledger))) ∙ e) .inside
 
-pub below-inside : (h : Handle) (k level i : ℕ) (s : St) (j : ℕ) {f : Found} {t : St} → taken f t ≡ below h k level i s → f ≡ At j → j < tables s
+pub below-inside : (h : Handle) (k level i : ℕ) (s : St) (j : ℕ) {f : Found} {t : St} → taken f t ≡ below h k level i s → f ≡ At j
+    → j < tables s
 unfolding below
-below-inside h k level i s j found e = inside h k level i s j (subOf (h .base .0) (tables s) level (wordAt s k i)) refl (sym (ap (λ (x : Taken). x .table) found) ∙ e)
+below-inside h k level i s j found e =
+    inside h k level i s j (subOf (h .base .0) (tables s) level (wordAt s k i)) refl (sym (ap (λ (x : Taken). x .table) found) ∙ e)

@@ -20,8 +20,10 @@ pub fn split_entry(
     level: usize,
     i: usize,
 ) -> Found
-    requires { ⌜ Shaped handle (st (now words) (now ledger)) × (level < 3) × (k < length (now ledger)) × (i < 512) × (getD (now words) (512 * k + i) 0 % 4 ≡ 3 → ⊥) ⌝ }
-    ensures { λ r. ⌜ taken r (st (now (words .exit)) (now (ledger .exit))) ≡ splitEntry handle k level i (st (now (words .entry)) (now (ledger .entry))) ⌝ }
+    requires { ⌜ Shaped handle (st (now words) (now ledger)) × (level < 3) × (k < length (now ledger)) × (i < 512)
+        × (getD (now words) (512 * k + i) 0 % 4 ≡ 3 → ⊥) ⌝ }
+    ensures { λ r. ⌜ taken r (st (now (words .exit)) (now (ledger .exit)))
+        ≡ splitEntry handle k level i (st (now (words .entry)) (now (ledger .entry))) ⌝ }
 {
     let word = words[512 * k + i];
     let flags = entry::flags(word);
@@ -44,7 +46,8 @@ pub fn descend(
     i: usize,
 ) -> Found
     requires { ⌜ Shaped handle (st (now words) (now ledger)) × (level < 3) × (k < length (now ledger)) × (i < 512) ⌝ }
-    ensures { λ r. ⌜ taken r (st (now (words .exit)) (now (ledger .exit))) ≡ below handle k level i (st (now (words .entry)) (now (ledger .entry))) ⌝ }
+    ensures { λ r. ⌜ taken r (st (now (words .exit)) (now (ledger .exit)))
+        ≡ below handle k level i (st (now (words .entry)) (now (ledger .entry))) ⌝ }
 {
     let word = words[512 * k + i];
     let kind = entry::subtable(handle.base, ledger.len(), level, word);

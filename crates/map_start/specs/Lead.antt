@@ -1,4 +1,4 @@
--- A region that lies in one entry, whose link the map goes down by, is mapped in the table below alone. Assumes nothing.
+-- A region that lies in one entry, whose link the map goes down by, is mapped in the table below alone.
 use mathlib.Core.Path.{_≡_, refl, sym, ap, _∙_}
 use Prim.Native.Nat.{ℕ, _+_, _-_, _≤_, _<_}
 use native.Mathlib.Omega.{arith}
@@ -39,7 +39,8 @@ one-chunk level f m s some one =
     ∙ each-done level f m end end (frame + (end - at)) (f (chunkMap m (region at end) frame) s) (omega arith)
 
 module _ (h : Handle) (k level : ℕ) (m : Map) (s : St) where
-  pub map-below : level < 3 → m .region .start .0 < m .region .end .0 → chunkEnd level (m .region .start .0) (m .region .end .0) ≡ m .region .end .0
+  pub map-below : level < 3 → m .region .start .0 < m .region .end .0
+      → chunkEnd level (m .region .start .0) (m .region .end .0) ≡ m .region .end .0
       → {i : ℕ} → i ≡ entryIndex level (m .region .start .0)
       → {r : Rule} → r ≡ ruleOf level m (wordAt s k i) → r ≡ Down
       → {x : Sub} → x ≡ subOf (h .base .0) (tables s) level (wordAt s k i) → (j : ℕ) → x ≡ Table j

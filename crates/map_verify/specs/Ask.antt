@@ -1,5 +1,5 @@
--- What map asks of its arguments (document 01, "The refusal slip"): refusals 2 to 7 in their order, a law for each way through the code, and what they leave.
--- Leans on `Fit`. Assumes nothing.
+-- What map asks of its arguments (document 01, "The refusal slip"): refusals 2 to 7 in their order, a law for each way through the code,
+-- and what they leave. Leans on `Fit`.
 use mathlib.Core.Path.{_≡_, refl, sym, ap, _∙_}
 use mathlib.Core.Bool.{Bool, true, false, cond, _&&_}
 use mathlib.Core.Logic.{⊎-elim}
@@ -25,13 +25,16 @@ use Rattle.region_verify.specs.Verify.{endFits, verify, refused-never, verified
 use Rattle.map_rules.specs.declared.Map.{Map}
 use Rattle.map_rules.specs.Fit.{Fit}
 
--- the map that a call asks for: "start is rounded down and end up to 4096"; "blocks allowed" is NO_BLOCK_MAPPINGS unset, the constraints' bit 0
+-- the map that a call asks for: "start is rounded down and end up to 4096"; "blocks allowed" is NO_BLOCK_MAPPINGS unset, the constraints'
+-- bit 0
 unfoldable pub askedMap : ℕ → ℕ → ℕ → ℕ → ℕ → Map
-askedMap start end frame flags constraints = record { region = rounded start end; frame = record { 0 = frame }; flags = flags; blocks = eqb (constraints % 2) 0 }
+askedMap start end frame flags constraints =
+    record { region = rounded start end; frame = record { 0 = frame }; flags = flags; blocks = eqb (constraints % 2) 0 }
 
 -- with the region that was rounded for it
 pub asked-is : (start end frame flags constraints : ℕ) {r : MemoryRegion} → r ≡ rounded start end
-    → _≡_ {A = Map} (record { region = r; frame = record { 0 = frame }; flags = flags; blocks = eqb (constraints % 2) 0 }) (askedMap start end frame flags constraints)
+    → _≡_ {A = Map} (record { region = r; frame = record { 0 = frame }; flags = flags; blocks = eqb (constraints % 2) 0 })
+    (askedMap start end frame flags constraints)
 unfolding askedMap
 asked-is start end frame flags constraints e =
     ap (λ (x : MemoryRegion). record { region = x; frame = record { 0 = frame }; flags = flags; blocks = eqb (constraints % 2) 0 }) e
@@ -113,7 +116,8 @@ module _ (h : Handle) (end : ℕ) (m : Map) where
       ask-set e = rw (ends, ne-eqb (m .flags / 2 % 2) 1 plain, e)
 
       module _ (from : only (flagSet h) (m .flags) ≡ true) where
-        by-region : (x : Outcome) → verify h (m .region) ≡ x → first x (frameAsked (m .frame .0) (m .region .end .0 - m .region .start .0)) ≡ verifyMap h end m
+        by-region : (x : Outcome) → verify h (m .region) ≡ x
+            → first x (frameAsked (m .frame .0) (m .region .end .0 - m .region .start .0)) ≡ verifyMap h end m
         unfolding verifyMap
         by-region x e = rw (ends, ne-eqb (m .flags / 2 % 2) 1 plain, from, e)
 
@@ -173,7 +177,8 @@ unfolding alignUp up sizeAt
 up-pages a = byBool (ltb (up a 4096) (2 ^ 64)) (λ e. rw e (down-paged 3 (a + 4095))) (λ e. rw e refl)
 
 -- what is put down is whole pages, with frames below 2^48 and flags that share no bit with them
-pub asked-fit : (h : Handle) (start end frame flags constraints : ℕ) → flags < 2 ^ 64 → let m = askedMap start end frame flags constraints in verifyMap h end m ≡ Accepted → Fit m
+pub asked-fit : (h : Handle) (start end frame flags constraints : ℕ) → flags < 2 ^ 64
+    → let m = askedMap start end frame flags constraints in verifyMap h end m ≡ Accepted → Fit m
 unfolding askedMap rounded sizeAt
 asked-fit h start end frame flags constraints low ok =
     let m = askedMap start end frame flags constraints in

@@ -1,5 +1,5 @@
--- The whole call (document 01, "Putting down a map", Modify, and "The refusal slip"): answer, state and list for every input. Refusals 1 to 6, 8, 9 and, live,
--- 10, 11 in their order; a refusal leaves the state and the list as they were. Assumes nothing.
+-- The whole call (document 01, "Putting down a map", Modify, and "The refusal slip"): answer, state and list for every input. Refusals 1 to
+-- 6, 8, 9 and, live, 10, 11 in their order; a refusal leaves the state and the list as they were.
 use mathlib.Core.Path.{_≡_, sym, ap, _∙_}
 use mathlib.Core.Bool.{Bool, true, false, cond}
 use mathlib.Core.List.{List}
@@ -69,7 +69,8 @@ modifyCall h start end set clear live s list =
 
 -- ---- laws: one for each way through the code
 
-module _ (h : Handle) (e : Edit) (s : St) (list : List ℕ) {t : St} {l : List ℕ} {n : ℕ} (is : work t l n ≡ modifyRange (3 - h .level) h 0 e (work s list 0)) where
+module _ (h : Handle) (e : Edit) (s : St) (list : List ℕ) {t : St} {l : List ℕ} {n : ℕ}
+    (is : work t l n ≡ modifyRange (3 - h .level) h 0 e (work s list 0)) where
   done : (live : Bool) → e .live ≡ live → modifying (answerOf live (work t l n)) t l ≡ editTables h e s list
   unfolding editTables
   done live q = rw (← q) (ap (λ (w : Work). modifying (answerOf (e .live) w) (w .state) (w .list)) is)
@@ -87,7 +88,8 @@ module _ (h : Handle) (e : Edit) (s : St) (list : List ℕ) where
   unfolding modifySound
   sound-not q = rw q
 
-  module _ (sound : soundb h s ≡ true) {room : ℕ} (spare : room ≡ free (s .ledger)) {v : Survey} (found : v ≡ surveyOf h e s) {x : Outcome} (is : x ≡ verifySurvey room (length list) (e .live) v) where
+  module _ (sound : soundb h s ≡ true) {room : ℕ} (spare : room ≡ free (s .ledger)) {v : Survey} (found : v ≡ surveyOf h e s) {x : Outcome}
+      (is : x ≡ verifySurvey room (length list) (e .live) v) where
     surveyed : x ≡ verifySurvey (free (s .ledger)) (length list) (e .live) (surveyOf h e s)
     surveyed = is ∙ rw (spare, found)
 
@@ -109,7 +111,8 @@ module _ (h : Handle) (start end set clear : ℕ) (live : Bool) (s : St) (list :
   call-misshaped q = rw q
 
   module _ (shape : shaped h s ≡ true) {x : Outcome} (is : x ≡ verifyEdit h end (askedEdit start end set clear live)) where
-    by-asked : (y : Outcome) → x ≡ y → orElse y (modifySound h (askedEdit start end set clear live) s list) s list ≡ modifyCall h start end set clear live s list
+    by-asked : (y : Outcome) → x ≡ y
+        → orElse y (modifySound h (askedEdit start end set clear live) s list) s list ≡ modifyCall h start end set clear live s list
     unfolding modifyCall
     by-asked y q = rw (shape, ← is, q)
 

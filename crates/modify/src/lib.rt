@@ -1,4 +1,5 @@
-// Modify: bits set and cleared in the valid blocks and pages of a region. modify_range of paging.rs (aarch64-paging 0.12.3), on a pool of tables.
+// Modify: bits set and cleared in the valid blocks and pages of a region. modify_range of paging.rs (aarch64-paging 0.12.3), on a pool of
+// tables.
 use address::VirtualAddress;
 use modify_entry::Edit;
 use modify_survey::Survey;

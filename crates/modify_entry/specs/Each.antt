@@ -1,4 +1,4 @@
--- The edit of one chunk; something done with each chunk of a region at a level, ascending, and the loop that does it. Assumes nothing.
+-- The edit of one chunk; something done with each chunk of a region at a level, ascending, and the loop that does it.
 use mathlib.Core.Path.{_≡_, sym, ap, _∙_}
 use mathlib.Core.List.{List, [], _∷_}
 use Prim.Native.Nat.{ℕ, _+_, _*_, _-_, _≤_, _<_}
@@ -28,7 +28,8 @@ module _ {ℓ} {S : Type ℓ} (level : ℕ) (f : MemoryRegion → S → S) (at e
   each-done h = rw (chunks-none level at end h)
 
   pub each-step : at < end
-      → eachChunk level f (region at end) s ≡ eachChunk level f (region (chunkEnd level at end) end) (f (region at (chunkEnd level at end)) s)
+      → eachChunk level f (region at end) s
+      ≡ eachChunk level f (region (chunkEnd level at end) end) (f (region at (chunkEnd level at end)) s)
   unfolding eachChunk eachOf
   each-step h = rw (chunks-step level at end h)
 

@@ -1,5 +1,5 @@
--- A table's own entries (document 01, "Putting down a map", Modify): the words that change, and the numbers that are listed. Leans on `Word` and `Each`.
--- Assumes nothing.
+-- A table's own entries (document 01, "Putting down a map", Modify): the words that change, and the numbers that are listed. Leans on
+-- `Word` and `Each`.
 use mathlib.Core.Path.{_≡_, refl, ap}
 use mathlib.Core.Bool.{Bool, true, false, cond, _&&_}
 use mathlib.Core.List.{List}
@@ -23,7 +23,8 @@ numbered n l = record { count = n; list = l }
 
 -- live, a number goes after the others, if the list has room; "not live, the list stays untouched"
 unfoldable pub putNumber : Bool → ℕ → ℕ → List ℕ → Numbered
-putNumber live number count list = cond (live && ltb count (length list)) (numbered (count + 1) (set list count number)) (numbered count list)
+putNumber live number count list =
+    cond (live && ltb count (length list)) (numbered (count + 1) (set list count number)) (numbered count list)
 
 -- the words of a pool with a lent list
 pub record Noted : Type 0 where
@@ -58,7 +59,8 @@ module _ (number count : ℕ) (list : List ℕ) where
   unfolding putNumber
   number-full live e h = rw (e, le-ltb count (length list) h)
 
-  pub number-put : (live : Bool) → live ≡ true → count < length list → numbered (count + 1) (set list count number) ≡ putNumber live number count list
+  pub number-put : (live : Bool) → live ≡ true → count < length list
+      → numbered (count + 1) (set list count number) ≡ putNumber live number count list
   unfolding putNumber
   number-put live e h = rw (e, lt-ltb count (length list) h)
 

@@ -1,4 +1,4 @@
--- One word of an edit (document 01, "Putting down a map", Modify), and a law for each way through the code. Assumes nothing.
+-- One word of an edit (document 01, "Putting down a map", Modify), and a law for each way through the code.
 use mathlib.Core.Path.{_≡_, ap}
 use Prim.Native.Nat.{ℕ, _-_, _^_}
 use lib.Bits.{bitAnd, bitOr}

@@ -68,7 +68,8 @@ pub fn edit_own(
     before: usize,
 ) -> usize
     requires { ⌜ 512 * k + 512 ≤ length (now words) ⌝ }
-    ensures { λ r. ⌜ noted (now (words .exit)) (now (list .exit)) r ≡ ownRange k level edit (noted (now (words .entry)) (now (list .entry)) before) ⌝ }
+    ensures { λ r. ⌜ noted (now (words .exit)) (now (list .exit)) r
+        ≡ ownRange k level edit (noted (now (words .entry)) (now (list .entry)) before) ⌝ }
 {
     let end = edit.region.end.0;
     let mut at = edit.region.start.0;

@@ -1,4 +1,4 @@
--- Modify in a table and those below it (document 01, "Putting down a map", Modify). Leans on `Own` of crates/modify_entry. Assumes nothing.
+-- Modify in a table and those below it (document 01, "Putting down a map", Modify). Leans on `Own` of crates/modify_entry.
 use mathlib.Core.Path.{_≡_, sym, ap, _∙_}
 use mathlib.Core.Bool.{Bool, true, false, not, cond, _&&_}
 use mathlib.Core.List.{List}
@@ -51,8 +51,8 @@ ownWork k level e w =
     let n = ownRange k level e (noted (w .state .words) (w .list) (w .count)) in
     work (st (n .words) (w .state .ledger)) (n .list) (n .count)
 
--- an edit of table k with `depth` levels below its own: "a lower table's numbers when that table is finished, a table's own last", so first the chunks that
--- go down, then the table's own entries
+-- an edit of table k with `depth` levels below its own: "a lower table's numbers when that table is finished, a table's own last", so first
+-- the chunks that go down, then the table's own entries
 unfoldable pub modifyRange : ℕ → Handle → ℕ → Edit → Work → Work
 modifyRange zero h k e w = ownWork k 3 e w
 modifyRange (suc depth) h k e w =
@@ -70,7 +70,8 @@ unfolding own tableWord
 own-leaf level c w n = rw (ne-eqb (w % 4) 3 n)
 
 pub own-done : (k level : ℕ) (e : Edit) (w : Work) {words list : List ℕ} {count : ℕ}
-    → noted words list count ≡ ownRange k level e (noted (w .state .words) (w .list) (w .count)) → work (st words (w .state .ledger)) list count ≡ ownWork k level e w
+    → noted words list count ≡ ownRange k level e (noted (w .state .words) (w .list) (w .count))
+    → work (st words (w .state .ledger)) list count ≡ ownWork k level e w
 unfolding ownWork
 own-done k level e w q = ap (λ (n : Noted). work (st (n .words) (w .state .ledger)) (n .list) (n .count)) q
 
@@ -78,7 +79,8 @@ own-done k level e w q = ap (λ (n : Noted). work (st (n .words) (w .state .ledg
 unfoldable pub downStep : Handle → ℕ → ℕ → Edit → MemoryRegion → Work → Work
 downStep h k level e = downChunk (λ j c. modifyRange (3 - (level + 1)) h j (chunkEdit e c)) h k level
 
-pub modify-pages : (h : Handle) (k level : ℕ) (e : Edit) (w : Work) → level ≤ 3 → 3 ≤ level → ownWork k level e w ≡ modifyRange (3 - level) h k e w
+pub modify-pages : (h : Handle) (k level : ℕ) (e : Edit) (w : Work) → level ≤ 3 → 3 ≤ level
+    → ownWork k level e w ≡ modifyRange (3 - level) h k e w
 unfolding modifyRange
 modify-pages h k level e w l m =
     let q : level ≡ 3 = omega arith in
@@ -103,12 +105,15 @@ module _ (h : Handle) (k level : ℕ) (e : Edit) (c : MemoryRegion) (w : Work) {
     unfolding downStep downChunk
     gone-down =
         rw (← index, q)
-        (ap (λ (x : Taken). onward (λ j. modifyRange (3 - (level + 1)) h j (chunkEdit e c)) (x .table) (work (x .state) (w .list) (w .count))) found)
+        (ap
+        (λ (x : Taken). onward (λ j. modifyRange (3 - (level + 1)) h j (chunkEdit e c)) (x .table)
+        (work (x .state) (w .list) (w .count))) found)
 
     pub step-none : f ≡ Nothing → work t (w .list) (w .count) ≡ downStep h k level e c w
     unfolding onward
     step-none z = rw (← gone-down, z)
 
-    pub step-into : (j : ℕ) → f ≡ At j → modifyRange (3 - (level + 1)) h j (chunkEdit e c) (work t (w .list) (w .count)) ≡ downStep h k level e c w
+    pub step-into : (j : ℕ) → f ≡ At j
+        → modifyRange (3 - (level + 1)) h j (chunkEdit e c) (work t (w .list) (w .count)) ≡ downStep h k level e c w
     unfolding onward
     step-into j z = rw (← gone-down, z)

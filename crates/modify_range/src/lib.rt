@@ -21,7 +21,8 @@ fn is_own(level: usize, region: MemoryRegion, word: u64) -> bool
     region.is_block(level)
 }
 
-// Every chunk of the edit in table k: first what lies in lower tables, then the table's own entries. Answers with how many numbers the list has.
+// Every chunk of the edit in table k: first what lies in lower tables, then the table's own entries. Answers with how many numbers the list
+// has.
 pub fn modify_range(
     words: &mut [u64],
     ledger: &mut [u32],

@@ -1,4 +1,5 @@
--- What an edit would do, entry by entry, ascending (document 01, "Putting down a map", Modify, and refusals 9, 10 and 11). Leans on `House`. Assumes nothing.
+-- What an edit would do, entry by entry, ascending (document 01, "Putting down a map", Modify, and refusals 9, 10 and 11). Leans on
+-- `House`.
 use mathlib.Core.Path.{_≡_, sym, ap, ap₂, _∙_}
 use mathlib.Core.Bool.{true, false, cond}
 use mathlib.Core.Logic.{_⊎_, inl, inr, ⊎-elim}
@@ -24,8 +25,8 @@ use Rattle.modify_entry.specs.Each.{eachChunk, chunkEdit}
 use Rattle.modify_survey.specs.declared.Survey.{Survey}
 use Rattle.modify_survey.specs.House.{mayChange}
 
--- the splits for a chunk of an entry that is no table, with `depth` levels below the entry's: none if it is the whole entry; else the entry's own, and those of
--- the chunks in the new table
+-- the splits for a chunk of an entry that is no table, with `depth` levels below the entry's: none if it is the whole entry; else the
+-- entry's own, and those of the chunks in the new table
 unfoldable pub adding : (MemoryRegion → ℕ) → MemoryRegion → ℕ → ℕ
 adding f c n = n + f c
 
@@ -74,7 +75,8 @@ surveyChunk rec h s k level e c v =
 -- an edit of table k with `depth` levels below its own
 unfoldable pub surveyRange : ℕ → Handle → St → ℕ → Edit → Survey → Survey
 surveyRange zero h s k e v = eachChunk 3 (surveyChunk (λ j n x. x) h s k 3 e) (e .region) v
-surveyRange (suc depth) h s k e v = eachChunk (3 - suc depth) (surveyChunk (λ j n x. surveyRange depth h s j n x) h s k (3 - suc depth) e) (e .region) v
+surveyRange (suc depth) h s k e v =
+    eachChunk (3 - suc depth) (surveyChunk (λ j n x. surveyRange depth h s j n x) h s k (3 - suc depth) e) (e .region) v
 
 -- ---- laws: one for each way through the code
 
@@ -100,7 +102,8 @@ module _ (level : ℕ) (r : MemoryRegion) where
   pub splits-whole : level < 3 → whole level r ≡ true → 0 ≡ splitsIn (3 - level) r
   splits-whole h e = rw (splits-open h, e)
 
-  pub splits-part : level < 3 → whole level r ≡ false → eachChunk (level + 1) (adding (splitsIn (3 - (level + 1)))) r 1 ≡ splitsIn (3 - level) r
+  pub splits-part : level < 3 → whole level r ≡ false
+      → eachChunk (level + 1) (adding (splitsIn (3 - (level + 1)))) r 1 ≡ splitsIn (3 - level) r
   splits-part h e = rw (splits-open h, e)
 
 module _ (w : ℕ) (v : Survey) where
@@ -108,11 +111,13 @@ module _ (w : ℕ) (v : Survey) where
   unfolding breach
   breach-kept e = rw e
 
-  pub breach-first : v .broken ≡ false → _≡_ {A = Survey} (record { splits = v .splits; numbers = v .numbers; broken = true; word = w }) (breach w v)
+  pub breach-first : v .broken ≡ false
+      → _≡_ {A = Survey} (record { splits = v .splits; numbers = v .numbers; broken = true; word = w }) (breach w v)
   unfolding breach
   breach-first e = rw e
 
-module _ (level : ℕ) (r : MemoryRegion) (w : ℕ) (v : Survey) {n : ℕ} (counts : n ≡ splitsIn (3 - level) r) {x : Kind} (is : x ≡ kindOf level w) where
+module _ (level : ℕ) (r : MemoryRegion) (w : ℕ) (v : Survey) {n : ℕ} (counts : n ≡ splitsIn (3 - level) r) {x : Kind}
+    (is : x ≡ kindOf level w) where
   abbrev split : Survey
   split = record { splits = v .splits + n; numbers = v .numbers; broken = v .broken; word = v .word }
 
@@ -166,18 +171,24 @@ unfolding surveyStep surveyBelow surveyRange
 survey-open h s k level e v l = ⊎-elim
     (λ ge.
     let q : 3 ≡ level = omega arith in
-    ap (λ (x : ℕ). eachChunk x (surveyChunk (cond (ltb x 3) (λ j n y. surveyRange (3 - (x + 1)) h s j n y) (λ j n y. y)) h s k x e) (e .region) v) (sym q)
+    ap
+    (λ (x : ℕ). eachChunk x (surveyChunk (cond (ltb x 3) (λ j n y. surveyRange (3 - (x + 1)) h s j n y) (λ j n y. y)) h s k x e)
+    (e .region) v)
+    (sym q)
     ∙ ap (λ (x : ℕ). surveyRange (3 - x) h s k e v) q)
     (λ lt.
     let p : suc (3 - (level + 1)) ≡ 3 - level = omega arith in
     let q : level ≡ 3 - suc (3 - (level + 1)) = omega arith in
     rw (lt-ltb level 3 lt)
-    (ap (λ (x : ℕ). eachChunk x (surveyChunk (λ j n y. surveyRange (3 - (level + 1)) h s j n y) h s k x e) (e .region) v) q ∙ ap (λ (x : ℕ). surveyRange x h s k e v) p))
+    (ap (λ (x : ℕ). eachChunk x (surveyChunk (λ j n y. surveyRange (3 - (level + 1)) h s j n y) h s k x e) (e .region) v) q
+    ∙ ap (λ (x : ℕ). surveyRange x h s k e v) p))
     (le-or 3 level)
 
 module _ (h : Handle) (s : St) (k level : ℕ) (e : Edit) (c : MemoryRegion) (v : Survey) {i : ℕ} (index : i ≡ entryIndex level (c .start .0))
     {x : Sub} (is : x ≡ subOf (h .base .0) (tables s) level (wordAt s k i)) where
-  found : (y : Sub) → x ≡ y → surveySub y (λ j. surveyBelow h s level j (chunkEdit e c) v) (surveyEntry h level (chunkEdit e c) (wordAt s k i) v) v ≡ surveyStep h s k level e c v
+  found : (y : Sub) → x ≡ y
+      → surveySub y (λ j. surveyBelow h s level j (chunkEdit e c) v) (surveyEntry h level (chunkEdit e c) (wordAt s k i) v) v
+      ≡ surveyStep h s k level e c v
   unfolding surveyStep surveyChunk
   found y q = rw (← index, ← is, q)
 

@@ -1,4 +1,4 @@
--- The house rule for live edits of a valid entry (document 01, "Putting down a map", Modify). Assumes nothing.
+-- The house rule for live edits of a valid entry (document 01, "Putting down a map", Modify).
 use mathlib.Core.Path.{_≡_, refl}
 use mathlib.Core.Bool.{Bool}
 use Prim.Native.Nat.{ℕ, _-_}

@@ -1,4 +1,4 @@
--- What is counted fits: no more than three splits, and no more than three numbers, for each byte of the region. Leans on `Find`. Assumes nothing.
+-- What is counted fits: no more than three splits, and no more than three numbers, for each byte of the region. Leans on `Find`.
 use mathlib.Core.Bool.{Bool, true, false, cond}
 use Prim.Native.Nat.{ℕ, zero, suc, _+_, _*_, _-_, _^_, _≤_, _<_}
 use native.Mathlib.Nat.{mul-suc, mul-le-mul-left}
@@ -20,7 +20,8 @@ use Rattle.modify_entry.specs.Word.{editWord}
 use Rattle.modify_entry.specs.Each.{eachChunk, each-most, chunkEdit}
 use Rattle.modify_survey.specs.declared.Survey.{Survey}
 use Rattle.modify_survey.specs.House.{mayChange}
-use Rattle.modify_survey.specs.Find.{adding, splitsIn, breach, ifBlock, surveyPart, surveyWhole, surveyEntry, surveySub, surveyChunk, surveyRange}
+use Rattle.modify_survey.specs.Find.{adding, splitsIn, breach, ifBlock, surveyPart, surveyWhole, surveyEntry, surveySub, surveyChunk}
+use Rattle.modify_survey.specs.Find.{surveyRange}
 
 abbrev pub lengthOf : MemoryRegion → ℕ
 lengthOf r = r .end .0 - r .start .0
@@ -39,7 +40,8 @@ splits-levels : (depth : ℕ) (r : MemoryRegion) → r .start .0 < r .end .0 →
 unfolding splitsIn adding
 splits-levels zero r h = omega arith
 splits-levels (suc depth) r h =
-    let most = each-most (λ (n : ℕ). n) depth (3 - depth) (adding (λ c. splitsIn depth c)) (λ c n l. omega (arith, splits-levels depth c l)) r 1 in
+    let most = each-most (λ (n : ℕ). n) depth (3 - depth) (adding (λ c. splitsIn depth c))
+    (λ c n l. omega (arith, splits-levels depth c l)) r 1 in
     let e = mul-suc (lengthOf r) depth in
     either (whole (3 - suc depth) r) 0 _ _ (omega arith) (omega arith)
 
@@ -84,29 +86,35 @@ part-adds : (level : ℕ) (r : MemoryRegion) (w : ℕ) (v : Survey) → r .start
 unfolding surveyPart
 part-adds level r w v h =
     let n = splits-most level r h in
-    block (kindOf level w) (breached w (record { splits = omega arith; numbers = omega arith })) (record { splits = omega arith; numbers = omega arith })
+    block (kindOf level w) (breached w (record { splits = omega arith; numbers = omega arith }))
+    (record { splits = omega arith; numbers = omega arith })
 
-whole-adds : (h : Handle) (level : ℕ) (e : Edit) (w : ℕ) (v : Survey) → e .region .start .0 < e .region .end .0 → Adds (e .region) v (surveyWhole h level e w v)
+whole-adds : (h : Handle) (level : ℕ) (e : Edit) (w : ℕ) (v : Survey) → e .region .start .0 < e .region .end .0
+    → Adds (e .region) v (surveyWhole h level e w v)
 unfolding surveyWhole
 whole-adds h level e w v l =
     choose (eqb (editWord level e w) w) same
-    (choose (mayChange h w (editWord level e w)) (record { splits = omega arith; numbers = omega arith }) (breached w (record { splits = omega arith; numbers = omega arith })))
+    (choose (mayChange h w (editWord level e w)) (record { splits = omega arith; numbers = omega arith })
+    (breached w (record { splits = omega arith; numbers = omega arith })))
 
 pub same-adds : (r : MemoryRegion) (v : Survey) → Adds r v v
 same-adds r v = same
 
-pub entry-adds : (h : Handle) (level : ℕ) (e : Edit) (w : ℕ) (v : Survey) → e .region .start .0 < e .region .end .0 → Adds (e .region) v (surveyEntry h level e w v)
+pub entry-adds : (h : Handle) (level : ℕ) (e : Edit) (w : ℕ) (v : Survey) → e .region .start .0 < e .region .end .0
+    → Adds (e .region) v (surveyEntry h level e w v)
 unfolding surveyEntry
 entry-adds h level e w v l = choose (whole level (e .region)) (whole-adds h level e w v l) (part-adds level (e .region) w v l)
 
 chunk-adds : (rec : ℕ → Edit → Survey → Survey) → ((j : ℕ) (n : Edit) (x : Survey) → Adds (n .region) x (rec j n x))
-    → (h : Handle) (s : St) (k level : ℕ) (e : Edit) (c : MemoryRegion) (v : Survey) → c .start .0 < c .end .0 → Adds c v (surveyChunk rec h s k level e c v)
+    → (h : Handle) (s : St) (k level : ℕ) (e : Edit) (c : MemoryRegion) (v : Survey) → c .start .0 < c .end .0
+    → Adds c v (surveyChunk rec h s k level e c v)
 unfolding surveyChunk
 chunk-adds rec a h s k level e c v l =
     let w = wordAt s k (entryIndex level (c .start .0)) in
     below (subOf (h .base .0) (tables s) level w) (λ j. a j (chunkEdit e c) v) (entry-adds h level (chunkEdit e c) w v l)
 
-each-adds : (level : ℕ) (f : MemoryRegion → Survey → Survey) → ((c : MemoryRegion) (v : Survey) → c .start .0 < c .end .0 → Adds c v (f c v))
+each-adds : (level : ℕ) (f : MemoryRegion → Survey → Survey)
+    → ((c : MemoryRegion) (v : Survey) → c .start .0 < c .end .0 → Adds c v (f c v))
     → (r : MemoryRegion) (v : Survey) → Adds r v (eachChunk level f r v)
 each-adds level f a r v = record {
   splits = each-most (λ (x : Survey). x .splits) 3 level f (λ c x l. a c x l .splits) r v;
@@ -116,7 +124,8 @@ each-adds level f a r v = record {
 pub range-adds : (depth : ℕ) (h : Handle) (s : St) (k : ℕ) (e : Edit) (v : Survey) → Adds (e .region) v (surveyRange depth h s k e v)
 unfolding surveyRange
 range-adds zero h s k e v = each-adds 3 _ (λ c x l. chunk-adds _ (λ j n y. same) h s k 3 e c x l) (e .region) v
-range-adds (suc depth) h s k e v = each-adds (3 - suc depth) _ (λ c x l. chunk-adds _ (λ j n y. range-adds depth h s j n y) h s k (3 - suc depth) e c x l) (e .region) v
+range-adds (suc depth) h s k e v =
+    each-adds (3 - suc depth) _ (λ c x l. chunk-adds _ (λ j n y. range-adds depth h s j n y) h s k (3 - suc depth) e c x l) (e .region) v
 
 -- ---- room for a chunk, and for what remains after it
 

@@ -1,4 +1,5 @@
-// What an edit would do, found before anything is written: the splits, the first word that breaks the house rule, and how many words change.
+// What an edit would do, found before anything is written: the splits, the first word that breaks the house rule, and how many words
+// change.
 use address::VirtualAddress;
 use entry::Kind;
 use entry::Sub;
@@ -13,7 +14,8 @@ ghost use Rattle.modify_survey.specs.House.{houseRule, mayChange};
 ghost use Rattle.modify_survey.specs.Find.{splitsIn, breach, surveyPart, surveyWhole, surveyEntry, surveyRange};
 ghost use Rattle.modify_survey.specs.Room.{Room};
 
-// What was found: the tables that the splits take, the numbers that a list would get, and whether the house rule is broken, with the first word that does.
+// What was found: the tables that the splits take, the numbers that a list would get, and whether the house rule is broken, with the first
+// word that does.
 pub struct Survey {
     pub splits: u64,
     pub numbers: u64,

@@ -1,5 +1,5 @@
--- What modify asks (document 01, "The refusal slip"): refusals 2 to 6 of its arguments, refusals 9 to 11 of what it would do, and a law for each way through
--- the code. Assumes nothing.
+-- What modify asks (document 01, "The refusal slip"): refusals 2 to 6 of its arguments, refusals 9 to 11 of what it would do, and a law for
+-- each way through the code.
 use mathlib.Core.Path.{_≡_, refl, sym, ap, _∙_}
 use mathlib.Core.Bool.{Bool, true, false, not, cond, _&&_, true≢false}
 use Prim.Native.Nat.{ℕ, _-_, _/_, _%_, _^_, _≤_, _<_}
@@ -98,7 +98,8 @@ module _ (h : Handle) (set clear : ℕ) where
       unfolding verifyBits
       bits-unsettable e = rw (ne-eqb (set / 2 % 2) 1 one, ne-eqb (clear / 2 % 2) 1 two, e)
 
-      pub bits-settable : settable (flagSet h) set clear ≡ true → cond (only (flagSet h) clear) Accepted (Refused (FlagSet clear)) ≡ verifyBits h set clear
+      pub bits-settable : settable (flagSet h) set clear ≡ true
+          → cond (only (flagSet h) clear) Accepted (Refused (FlagSet clear)) ≡ verifyBits h set clear
       unfolding verifyBits
       bits-settable e = rw (ne-eqb (set / 2 % 2) 1 one, ne-eqb (clear / 2 % 2) 1 two, e)
 
@@ -173,9 +174,13 @@ pub asked-span : (h : Handle) (start end set clear : ℕ) (live : Bool) → let 
     verifyEdit h end e ≡ Accepted → e .region .end .0 - e .region .start .0 ≤ 2 ^ 48
 unfolding askedEdit rounded
 asked-span h start end set clear live ok =
-    byBool (endFits end) (λ f. bits f (verifyBits h set clear) refl) (λ f. absurd (refused-never (edit-end h end (askedEdit start end set clear live) f ∙ ok)))
+    byBool (endFits end) (λ f. bits f (verifyBits h set clear) refl)
+    (λ f. absurd (refused-never (edit-end h end (askedEdit start end set clear live) f ∙ ok)))
   where
-    bits : endFits end ≡ true → (x : Outcome) → verifyBits h set clear ≡ x → rounded start end .end .0 - rounded start end .start .0 ≤ 2 ^ 48
+    bits : endFits end ≡ true → (x : Outcome) → verifyBits h set clear ≡ x
+        → rounded start end .end .0 - rounded start end .start .0 ≤ 2 ^ 48
     bits f Accepted q =
-        span-length (h .range) (h .level) (rounded start end) (verified-span h (rounded start end) (edit-region h end (askedEdit start end set clear live) f (sym q) refl ∙ ok)) (up-below end 4096)
+        span-length (h .range) (h .level) (rounded start end)
+        (verified-span h (rounded start end) (edit-region h end (askedEdit start end set clear live) f (sym q) refl ∙ ok))
+        (up-below end 4096)
     bits f (Refused r) q = absurd (refused-never (edit-bits h end (askedEdit start end set clear live) f (sym q) r refl ∙ ok))

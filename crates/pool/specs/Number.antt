@@ -1,4 +1,4 @@
--- Ledger numbers, written and read; the lowest free table; how many are used and free (document 01, "Pool and ledger"). Assumes nothing.
+-- Ledger numbers, written and read; the lowest free table; how many are used and free (document 01, "Pool and ledger").
 use mathlib.Core.Path.{_≡_, refl}
 use mathlib.Core.List.{List, [], _∷_}
 use Prim.Native.Nat.{ℕ, zero, suc, _+_, _*_, _-_, _/_, _%_, _≤_, _<_}
@@ -95,8 +95,11 @@ first-lowest i (zero ∷ l) j e =
     (omega arith, rw z (record { inside = omega arith; free = refl; lower = λ k h. absurd (omega arith) }))
 first-lowest i (suc x ∷ l) j e =
     let r = first-lowest (suc i) l j e in
-    let z : j - i ≡ suc (j - suc i) = omega (arith, r .0) in
-    (omega (arith, r .0), rw z (record { inside = omega (arith, r .1 .inside); free = r .1 .free; lower = below (j - suc i) (r .1 .lower) }))
+    let z : j - i ≡ suc (j - suc i) = omega (arith, r .0) in (
+      omega (arith, r .0),
+      rw z
+          (record { inside = omega (arith, r .1 .inside); free = r .1 .free; lower = below (j - suc i) (r .1 .lower) }),
+    )
   where
     below : (m : ℕ) → ((k : ℕ) → k < m → 0 < getD l k 0) → (k : ℕ) → k < suc m → 0 < getD (suc x ∷ l) k 0
     below m h zero q = omega arith

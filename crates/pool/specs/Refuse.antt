@@ -1,5 +1,4 @@
 -- The refusal slip: each refusal's number and what it carries; refusal 1; an answer together with the state that it leaves.
--- Assumes nothing.
 use mathlib.Core.Bool.{Bool, _&&_}
 use mathlib.Core.List.{List, [], _∷_}
 use mathlib.Core.Path.{_≡_}
@@ -11,7 +10,8 @@ use Rattle.laws.specs.Test.{and-l, and-r, and-i, eq→eqb}
 use Rattle.pool.specs.State.{St, tables}
 use Rattle.pool.specs.declared.Handle.{Handle}
 use Rattle.pool.specs.declared.Refusal.{Refusal}
-use Rattle.pool.specs.declared.Refusal.the-variants.{Shape, End, InvalidFlags, FlagSet, RegionBackwards, AddressRange, Frame, Unsound, WantOfRoom, HouseRule, Short}
+use Rattle.pool.specs.declared.Refusal.the-variants.{Shape, End, InvalidFlags, FlagSet, RegionBackwards, AddressRange, Frame, Unsound}
+use Rattle.pool.specs.declared.Refusal.the-variants.{WantOfRoom, HouseRule, Short}
 use Rattle.pool.specs.declared.Outcome.{Outcome}
 use Rattle.pool.specs.declared.Outcome.the-variants.{Refused}
 
@@ -47,8 +47,8 @@ carried (Short needed) = needed ∷ []
 unfoldable pub maxTables : ℕ
 maxTables = 4096
 
--- refusal 1 is given exactly when this fails: n from 1 to the limit, lengths that agree, a base that is a multiple of 4096 with its end at 2^48 at most,
--- a root level from 0 to 3
+-- refusal 1 is given exactly when this fails: n from 1 to the limit, lengths that agree, a base that is a multiple of 4096 with its end at
+-- 2^48 at most, a root level from 0 to 3
 unfoldable pub shaped : Handle → St → Bool
 shaped h s =
     leb 1 (tables s) && (leb (tables s) maxTables && (eqb (length (s .words)) (512 * tables s)
@@ -94,7 +94,8 @@ says-shaped h s p =
     (and-i (leb n maxTables) _ (le→leb n maxTables (p .limit))
     (and-i (eqb (length (s .words)) (512 * n)) _ (eq→eqb (length (s .words)) (512 * n) (p .sized))
     (and-i (eqb (h .base .0 % 4096) 0) _ (eq→eqb (h .base .0 % 4096) 0 (p .paged))
-    (and-i (leb (h .base .0 + 4096 * n) (2 ^ 48)) (leb (h .level) 3) (le→leb (h .base .0 + 4096 * n) (2 ^ 48) (p .ended)) (le→leb (h .level) 3 (p .level))))))
+    (and-i (leb (h .base .0 + 4096 * n) (2 ^ 48)) (leb (h .level) 3) (le→leb (h .base .0 + 4096 * n) (2 ^ 48) (p .ended))
+    (le→leb (h .level) 3 (p .level))))))
 
 -- an answer and the state that it leaves
 pub record Out (A : Type 0) : Type 0 where

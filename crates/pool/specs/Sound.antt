@@ -1,4 +1,4 @@
--- When a pool is sound (document 01, "Pool and ledger"), as a test that computes on the lists, clause by clause. Assumes nothing.
+-- When a pool is sound (document 01, "Pool and ledger"), as a test that computes on the lists, clause by clause.
 use mathlib.Core.Path.{_≡_, ap, _∙_, subst}
 use mathlib.Core.Bool.{Bool, not, cond, _&&_, _||_}
 use Prim.Native.Nat.{ℕ, zero, suc, _+_, _*_, _-_, _/_, _%_, _<_}
@@ -16,8 +16,8 @@ use Rattle.pool.specs.declared.Handle.{Handle}
 unfoldable pub flagSet : Handle → ℕ
 flagSet h = el1Flags
 
--- what a word that is no table must be at its level: at level 0 it isn't valid, bit 1 is clear and its address is 0; at levels 1 and 2 bit 1 is clear and
--- the address is a multiple of the entry's size; at level 3 a valid word has bit 1
+-- what a word that is no table must be at its level: at level 0 it isn't valid, bit 1 is clear and its address is 0; at levels 1 and 2 bit
+-- 1 is clear and the address is a multiple of the entry's size; at level 3 a valid word has bit 1
 unfoldable pub fits : ℕ → ℕ → Bool
 fits zero w = eqb (w % 4) 0 && eqb (addressOf w) 0
 fits (suc zero) w = ltb (w % 4) 2 && eqb (addressOf w % sizeAt 1) 0
@@ -69,7 +69,11 @@ soundb h s = allBelow (tables s) (tableb h s) && allFrom 0 (s .words) (λ x w. s
 
 pub names-says : (x : ℕ) → T (namesb x) → Names x
 unfolding namesb
-names-says x t = record { kind = leb→le 4 (x % 8) (and-l (leb 4 (x % 8)) (leb 1 (x / 8)) t); some = leb→le 1 (x / 8) (and-r (leb 4 (x % 8)) (leb 1 (x / 8)) t) }
+names-says x t =
+    record {
+      kind = leb→le 4 (x % 8) (and-l (leb 4 (x % 8)) (leb 1 (x / 8)) t);
+      some = leb→le 1 (x / 8) (and-r (leb 4 (x % 8)) (leb 1 (x / 8)) t);
+    }
 
 pub says-names : (x : ℕ) → Names x → T (namesb x)
 unfolding namesb
@@ -92,8 +96,10 @@ module _ (h : Handle) (s : St) where
   unfolding soundb
   sound-table t k below = all-to (tables s) (tableb h s) (and-l (allBelow (tables s) (tableb h s)) (allFrom 0 (s .words) wordb) t) k below
 
-  pub sound-slot : T (soundb h s) → length (s .words) ≡ 512 * tables s → (k i : ℕ) → k < tables s → i < 512 → T (slotb h s k i (wordAt s k i))
+  pub sound-slot : T (soundb h s) → length (s .words) ≡ 512 * tables s → (k i : ℕ) → k < tables s → i < 512
+      → T (slotb h s k i (wordAt s k i))
   unfolding soundb
   sound-slot t sized k i below inside =
       subst T (slot-place k i inside)
-      (from-to 0 (s .words) wordb (and-r (allBelow (tables s) (tableb h s)) (allFrom 0 (s .words) wordb) t) (512 * k + i) (omega (arith, sized)))
+      (from-to 0 (s .words) wordb (and-r (allBelow (tables s) (tableb h s)) (allFrom 0 (s .words) wordb) t) (512 * k + i)
+      (omega (arith, sized)))

@@ -1,4 +1,4 @@
--- The lent pool as one record: 512·n words and n ledger numbers, and what stands in a slot. Assumes nothing.
+-- The lent pool as one record: 512·n words and n ledger numbers, and what stands in a slot.
 use mathlib.Core.List.{List}
 use mathlib.Core.Logic.{_⊎_, inl, inr}
 use Prim.Native.Nat.{ℕ, _+_, _*_, _≤_, _<_}

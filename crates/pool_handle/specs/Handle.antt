@@ -1,4 +1,4 @@
--- A handle made of three numbers. Assumes nothing.
+-- A handle made of three numbers.
 use mathlib.Core.Path.{_≡_}
 use mathlib.Core.Bool.{false, cond}
 use Prim.Native.Nat.{ℕ, _<_}
@@ -33,4 +33,5 @@ past-the-roots level range above = rw (lt-leb range 1 above)
 -- so a range above 1 is refusal 1 of every call
 pub no-range : (base level range : ℕ) (s : St) → 1 < range → shaped (handleOf base level range) s ≡ false
 no-range base level range s above =
-    is-false (shaped (handleOf base level range) s) (λ t. omega (arith, shaped-says (handleOf base level range) s t .level, past-the-roots level range above))
+    is-false (shaped (handleOf base level range) s)
+    (λ t. omega (arith, shaped-says (handleOf base level range) s t .level, past-the-roots level range above))

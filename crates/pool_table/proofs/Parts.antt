@@ -1,4 +1,4 @@
--- One table's words, lent as a part of the pool from its middle, come back. Assumes nothing.
+-- One table's words, lent as a part of the pool from its middle, come back.
 use mathlib.Core.List.{List}
 use mathlib.Core.Path.{_≡_, ap, _∙_}
 use Prim.Native.Nat.{ℕ, _+_, _*_, _-_, _≤_}

@@ -1,4 +1,4 @@
--- One table of the pool: its words replaced as a whole, zeroed, taken, freed. Assumes nothing.
+-- One table of the pool: its words replaced as a whole, zeroed, taken, freed.
 use mathlib.Core.Path.{_≡_, refl, sym, ap, _∙_}
 use mathlib.Core.List.{List, [], _∷_}
 use mathlib.Core.Logic.{_⊎_, inl, inr}
@@ -88,7 +88,8 @@ pub take-some : (h : Handle) (p level i : ℕ) (t : List ℕ) (s : St) {f : Foun
 unfolding takeTable takeFound
 take-some h p level i t s j e q = ap (takeFound h p level i t s) (sym q ∙ e)
 
-module _ (rec : ℕ → St → St) (h : Handle) (k level i : ℕ) (s : St) {x : Sub} (is : x ≡ subOf (h .base .0) (tables s) level (wordAt s k i)) where
+module _ (rec : ℕ → St → St) (h : Handle) (k level i : ℕ) (s : St) {x : Sub}
+    (is : x ≡ subOf (h .base .0) (tables s) level (wordAt s k i)) where
   chosen : (y : Sub) → x ≡ y → freeSub rec y s ≡ freeSlot rec h k level i s
   unfolding freeSlot
   chosen y e = ap (λ (z : Sub). freeSub rec z s) (sym e ∙ is)
@@ -130,7 +131,10 @@ unfolding zeros
 zeros-at i = go (le-or 512 i)
   where
     go : (512 ≤ i) ⊎ (i < 512) → getD zeros i 0 ≡ 0
-    go (inl h) = let e = length-replicate {A = ℕ} 512 0 in let past : length (replicate {A = ℕ} 512 0) ≤ i = omega arith in List·getD-eq-default (replicate 512 0) 0 past
+    go (inl h) =
+        let e = length-replicate {A = ℕ} 512 0 in
+        let past : length (replicate {A = ℕ} 512 0) ≤ i = omega arith in
+        List·getD-eq-default (replicate 512 0) 0 past
     go (inr h) = getD-replicate 512 i 0 0 h
 
 pub length-rising : (n first step : ℕ) → length (rising n first step) ≡ n
@@ -142,7 +146,9 @@ pub rising-at : (n first step i : ℕ) → i < n → getD (rising n first step) 
 unfolding rising
 rising-at zero first step i h = absurd (omega arith)
 rising-at (suc n) first step zero h = omega arith
-rising-at (suc n) first step (suc i) h = rising-at n (first + step) step i (omega arith) ∙ (let e : first + step + i * step ≡ first + suc i * step = omega (arith, suc-mul i step) in e)
+rising-at (suc n) first step (suc i) h =
+    rising-at n (first + step) step i (omega arith)
+    ∙ (let e : first + step + i * step ≡ first + suc i * step = omega (arith, suc-mul i step) in e)
 
 pub length-table : (k : ℕ) (t w : List ℕ) → length t ≡ 512 → 512 * k + 512 ≤ length w → length (putTable k t w) ≡ length w
 unfolding putTable

@@ -21,7 +21,8 @@ pub fn clear_table(words: &mut [u64], ledger: &mut [u32], k: usize)
 // Frees table k, at this level, and every table below it.
 pub fn free(words: &mut [u64], ledger: &mut [u32], handle: Handle, k: usize, level: usize)
     requires { ⌜ (length (now words) ≡ 512 * length (now ledger)) × (k < length (now ledger)) × (level ≤ 3) ⌝ }
-    ensures { λ _. ⌜ st (now (words .exit)) (now (ledger .exit)) ≡ freeTree (3 - level) handle k (st (now (words .entry)) (now (ledger .entry))) ⌝ }
+    ensures { λ _. ⌜ st (now (words .exit)) (now (ledger .exit))
+        ≡ freeTree (3 - level) handle k (st (now (words .entry)) (now (ledger .entry))) ⌝ }
 {
     if address::LEAF_LEVEL <= level {
         clear_table(words, ledger, k);

@@ -34,8 +34,10 @@ pub fn take_table(
     first: u64,
     step: u64,
 ) -> Found
-    requires { ⌜ Shaped handle (st (now words) (now ledger)) × (level ≤ 3) × (p < length (now ledger)) × (i < 512) × (first + 511 * step < 2 ^ 64) ⌝ }
-    ensures { λ r. ⌜ taken r (st (now (words .exit)) (now (ledger .exit))) ≡ takeTable handle p level i (rising 512 first step) (st (now (words .entry)) (now (ledger .entry))) ⌝ }
+    requires { ⌜ Shaped handle (st (now words) (now ledger)) × (level ≤ 3) × (p < length (now ledger)) × (i < 512)
+        × (first + 511 * step < 2 ^ 64) ⌝ }
+    ensures { λ r. ⌜ taken r (st (now (words .exit)) (now (ledger .exit)))
+        ≡ takeTable handle p level i (rising 512 first step) (st (now (words .entry)) (now (ledger .entry))) ⌝ }
 {
     let free = pool_ledger::lowest_free(ledger);
     let Found::At(j) = free else {

@@ -1,4 +1,4 @@
--- A list whose first i numbers are 0, and one more of them. Assumes nothing.
+-- A list whose first i numbers are 0, and one more of them.
 use mathlib.Core.List.{List, _++_}
 use mathlib.Core.Path.{_≡_, refl, ap, _∙_}
 use Prim.Native.Nat.{ℕ, _+_, _≤_, _<_}

@@ -6,7 +6,8 @@ ghost use mathlib.Core.Path.{_≡_};
 ghost use Rattle.pool.specs.State.{st};
 ghost use Rattle.pool.specs.Refuse.{out};
 ghost use Rattle.ptb_answer.specs.Answer.{slip};
-ghost use Rattle.ptb_spec.specs.Face.{makeFace, checkFace, lookUpFace, filled, listFace, mapFace, changed, modifyFace, compactFace, imageFace};
+ghost use Rattle.ptb_spec.specs.Face.{makeFace, checkFace, lookUpFace, filled, listFace, mapFace, changed, modifyFace, compactFace};
+ghost use Rattle.ptb_spec.specs.Face.{imageFace};
 
 // Zeroes all words and the ledger, then enters the root as table 0.
 #[no_mangle]
@@ -36,7 +37,8 @@ pub extern "C" fn ptb_check(
     range: u64,
     answer: &mut [u64; 4],
 ) -> u64
-    ensures { λ r. ⌜ slip r (now (answer .exit)) ≡ checkFace base level range (st (now (words .entry)) (now (ledger .entry))) (now (answer .entry)) ⌝ }
+    ensures { λ r. ⌜ slip r (now (answer .exit))
+        ≡ checkFace base level range (st (now (words .entry)) (now (ledger .entry))) (now (answer .entry)) ⌝ }
 {
     let handle = pool_handle::handle_of(base, level, range);
     let outcome = checker::check(words, ledger, handle);
@@ -54,7 +56,8 @@ pub extern "C" fn ptb_look_up(
     va: u64,
     answer: &mut [u64; 4],
 ) -> u64
-    ensures { λ r. ⌜ slip r (now (answer .exit)) ≡ lookUpFace base level range (st (now (words .entry)) (now (ledger .entry))) va (now (answer .entry)) ⌝ }
+    ensures { λ r. ⌜ slip r (now (answer .exit))
+        ≡ lookUpFace base level range (st (now (words .entry)) (now (ledger .entry))) va (now (answer .entry)) ⌝ }
 {
     let handle = pool_handle::handle_of(base, level, range);
     let looked = look_up::look_up(words, ledger, handle, VirtualAddress(va));
@@ -105,7 +108,8 @@ pub extern "C" fn ptb_map(
     answer: &mut [u64; 4],
 ) -> u64
     ensures { λ r. ⌜ out (slip r (now (answer .exit))) (st (now (words .exit)) (now (ledger .exit)))
-        ≡ mapFace base level range start end frame flags constraints (st (now (words .entry)) (now (ledger .entry))) (now (answer .entry)) ⌝ }
+        ≡ mapFace base level range start end frame flags constraints
+        (st (now (words .entry)) (now (ledger .entry))) (now (answer .entry)) ⌝ }
 {
     let handle = pool_handle::handle_of(base, level, range);
     let counted = map::map(
@@ -138,7 +142,8 @@ pub extern "C" fn ptb_modify(
     answer: &mut [u64; 4],
 ) -> u64
     ensures { λ r. ⌜ changed (slip r (now (answer .exit))) (st (now (words .exit)) (now (ledger .exit))) (now (list .exit))
-        ≡ modifyFace base level range start end set clear live (st (now (words .entry)) (now (ledger .entry))) (now (list .entry)) (now (answer .entry)) ⌝ }
+        ≡ modifyFace base level range start end set clear live
+        (st (now (words .entry)) (now (ledger .entry))) (now (list .entry)) (now (answer .entry)) ⌝ }
 {
     let handle = pool_handle::handle_of(base, level, range);
     let modified = modify::modify(

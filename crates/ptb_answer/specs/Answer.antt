@@ -1,5 +1,4 @@
 -- What a caller outside sees of an answer: the number that is returned, and the four numbers of `answer` after the call.
--- Assumes nothing.
 use mathlib.Core.List.{List, [], _∷_}
 use mathlib.Core.Path.{_≡_, refl}
 use Prim.Native.Nat.{ℕ}

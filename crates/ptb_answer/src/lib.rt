@@ -7,7 +7,8 @@ use pool::Outcome;
 use pool::Refusal;
 ghost use mathlib.Core.Path.{_≡_};
 ghost use mathlib.Core.List.{[], _∷_};
-ghost use Rattle.ptb_answer.specs.Answer.{slip, overFront, accepted, toldRefusal, told, toldCounted, toldLooked, toldListed, toldModified};
+ghost use Rattle.ptb_answer.specs.Answer.{slip, overFront, accepted, toldRefusal, told, toldCounted, toldLooked, toldListed};
+ghost use Rattle.ptb_answer.specs.Answer.{toldModified};
 
 // One value.
 fn answer_one_value(number: u64, first: u64, answer: &mut [u64; 4]) -> u64
@@ -27,7 +28,13 @@ fn answer_two_values(number: u64, first: u64, second: u64, answer: &mut [u64; 4]
 }
 
 // Four values, of a call that is accepted.
-fn answer_four_values(first: u64, second: u64, third: u64, fourth: u64, answer: &mut [u64; 4]) -> u64
+fn answer_four_values(
+    first: u64,
+    second: u64,
+    third: u64,
+    fourth: u64,
+    answer: &mut [u64; 4],
+) -> u64
     ensures { λ r. ⌜ slip r (now (answer .exit)) ≡ accepted (first ∷ second ∷ third ∷ fourth ∷ []) (now (answer .entry)) ⌝ }
 {
     answer[0] = first;
@@ -46,7 +53,12 @@ pub fn answer_refusal(refusal: Refusal, answer: &mut [u64; 4]) -> u64
         Refusal::End(end) => answer_one_value(2, end, answer),
         Refusal::InvalidFlags(flags) => answer_one_value(3, flags, answer),
         Refusal::FlagSet(flags) => answer_one_value(4, flags, answer),
-        Refusal::RegionBackwards(region) => answer_two_values(5, region.start.0, region.end.0, answer),
+        Refusal::RegionBackwards(region) => answer_two_values(
+            5,
+            region.start.0,
+            region.end.0,
+            answer,
+        ),
         Refusal::AddressRange(address) => answer_one_value(6, address.0, answer),
         Refusal::Frame(frame) => answer_one_value(7, frame.0, answer),
         Refusal::Unsound => 8,
@@ -82,8 +94,20 @@ pub fn answer_looked(looked: Looked, answer: &mut [u64; 4]) -> u64
 {
     match looked {
         Looked::Hole(level, flags) => answer_four_values(0, level as u64, flags, 0, answer),
-        Looked::Block(level, flags, frame) => answer_four_values(1, level as u64, flags, frame.0, answer),
-        Looked::Page(level, flags, frame) => answer_four_values(2, level as u64, flags, frame.0, answer),
+        Looked::Block(level, flags, frame) => answer_four_values(
+            1,
+            level as u64,
+            flags,
+            frame.0,
+            answer,
+        ),
+        Looked::Page(level, flags, frame) => answer_four_values(
+            2,
+            level as u64,
+            flags,
+            frame.0,
+            answer,
+        ),
         Looked::Refused(refusal) => answer_refusal(refusal, answer),
     }
 }
@@ -104,7 +128,12 @@ pub fn answer_modified(modified: Modified, answer: &mut [u64; 4]) -> u64
 {
     match modified {
         Modified::Tables(tables) => answer_one_value(0, tables as u64, answer),
-        Modified::Live(tables, numbers) => answer_two_values(0, tables as u64, numbers as u64, answer),
+        Modified::Live(tables, numbers) => answer_two_values(
+            0,
+            tables as u64,
+            numbers as u64,
+            answer,
+        ),
         Modified::Refused(refusal) => answer_refusal(refusal, answer),
     }
 }

@@ -1,5 +1,5 @@
--- The calls with numbers alone: each call's answer and lent state for every input. A call is a definition, the law of its code, and what a range above 1 gives.
--- Assumes nothing.
+-- The calls with numbers alone: each call's answer and lent state for every input. A call is a definition, the law of its code, and what a
+-- range above 1 gives.
 use mathlib.Core.Path.{_≡_, ap, _∙_, sym}
 use mathlib.Core.Bool.{Bool, not}
 use mathlib.Core.List.{List}
@@ -59,7 +59,8 @@ module _ (base level range : ℕ) (s : St) (old : List ℕ) where
 
   pub check-no-range : 1 < range → checkFace base level range s old ≡ toldRefusal Shape old
   unfolding checkFace told
-  check-no-range above = ap (λ (o : Outcome). told o old) (sym (check-misshaped (handleOf base level range) s (no-range base level range s above)))
+  check-no-range above =
+      ap (λ (o : Outcome). told o old) (sym (check-misshaped (handleOf base level range) s (no-range base level range s above)))
 
 -- ---- look up
 
@@ -75,7 +76,8 @@ module _ (base level range : ℕ) (s : St) (va : ℕ) (old : List ℕ) where
 
   pub look-up-no-range : 1 < range → lookUpFace base level range s va old ≡ toldRefusal Shape old
   unfolding lookUpFace toldLooked
-  look-up-no-range above = ap (λ (o : Looked). toldLooked o old) (sym (look-misshaped (handleOf base level range) s va (no-range base level range s above)))
+  look-up-no-range above =
+      ap (λ (o : Looked). toldLooked o old) (sym (look-misshaped (handleOf base level range) s va (no-range base level range s above)))
 
 -- ---- list
 
@@ -96,14 +98,17 @@ listFace base level range s start end lines old =
     toldListing old (listCall (handleOf base level range) s start end lines)
 
 module _ (base level range : ℕ) (s : St) (start end : ℕ) (lines old : List ℕ) where
-  pub list-told : {h : Handle} {o : Listed} {lines′ : List ℕ} {x : Slip} → h ≡ handleOf base level range → listing o lines′ ≡ listCall h s start end lines → x ≡ toldListed o old
+  pub list-told : {h : Handle} {o : Listed} {lines′ : List ℕ} {x : Slip} → h ≡ handleOf base level range
+      → listing o lines′ ≡ listCall h s start end lines → x ≡ toldListed o old
       → filled x lines′ ≡ listFace base level range s start end lines old
   unfolding listFace
-  list-told {lines′ = lines′} e m t = ap (λ (y : Slip). filled y lines′) t ∙ ap (toldListing old) (m ∙ ap (λ (g : Handle). listCall g s start end lines) e)
+  list-told {lines′ = lines′} e m t =
+      ap (λ (y : Slip). filled y lines′) t ∙ ap (toldListing old) (m ∙ ap (λ (g : Handle). listCall g s start end lines) e)
 
   pub list-no-range : 1 < range → listFace base level range s start end lines old ≡ filled (toldRefusal Shape old) lines
   unfolding listFace toldListed
-  list-no-range above = ap (toldListing old) (sym (list-misshaped (handleOf base level range) s start end lines (no-range base level range s above)))
+  list-no-range above =
+      ap (toldListing old) (sym (list-misshaped (handleOf base level range) s start end lines (no-range base level range s above)))
 
 -- ---- map
 
@@ -116,14 +121,18 @@ mapFace base level range start end frame flags constraints s old =
     toldCount old (map.mapCall (handleOf base level range) start end frame flags constraints s)
 
 module _ (base level range start end frame flags constraints : ℕ) (s : St) (old : List ℕ) where
-  pub map-told : {h : Handle} {o : Counted} {s′ : St} {x : Slip} → h ≡ handleOf base level range → out o s′ ≡ map.mapCall h start end frame flags constraints s → x ≡ toldCounted o old
+  pub map-told : {h : Handle} {o : Counted} {s′ : St} {x : Slip} → h ≡ handleOf base level range
+      → out o s′ ≡ map.mapCall h start end frame flags constraints s → x ≡ toldCounted o old
       → out x s′ ≡ mapFace base level range start end frame flags constraints s old
   unfolding mapFace
-  map-told {s′ = s′} e m t = ap (λ (y : Slip). out y s′) t ∙ ap (toldCount old) (m ∙ ap (λ (g : Handle). map.mapCall g start end frame flags constraints s) e)
+  map-told {s′ = s′} e m t =
+      ap (λ (y : Slip). out y s′) t ∙ ap (toldCount old) (m ∙ ap (λ (g : Handle). map.mapCall g start end frame flags constraints s) e)
 
   pub map-no-range : 1 < range → mapFace base level range start end frame flags constraints s old ≡ out (toldRefusal Shape old) s
   unfolding mapFace toldCounted
-  map-no-range above = ap (toldCount old) (sym (map.call-misshaped (handleOf base level range) start end frame flags constraints s (no-range base level range s above)))
+  map-no-range above =
+      ap (toldCount old)
+      (sym (map.call-misshaped (handleOf base level range) start end frame flags constraints s (no-range base level range s above)))
 
 -- ---- compact
 
@@ -132,14 +141,16 @@ compactFace base level range s old =
     toldCount old (compact.compactCall (handleOf base level range) s)
 
 module _ (base level range : ℕ) (s : St) (old : List ℕ) where
-  pub compact-told : {h : Handle} {o : Counted} {s′ : St} {x : Slip} → h ≡ handleOf base level range → out o s′ ≡ compact.compactCall h s → x ≡ toldCounted o old
+  pub compact-told : {h : Handle} {o : Counted} {s′ : St} {x : Slip} → h ≡ handleOf base level range → out o s′ ≡ compact.compactCall h s
+      → x ≡ toldCounted o old
       → out x s′ ≡ compactFace base level range s old
   unfolding compactFace
   compact-told {s′ = s′} e m t = ap (λ (y : Slip). out y s′) t ∙ ap (toldCount old) (m ∙ ap (λ (g : Handle). compact.compactCall g s) e)
 
   pub compact-no-range : 1 < range → compactFace base level range s old ≡ out (toldRefusal Shape old) s
   unfolding compactFace toldCounted
-  compact-no-range above = ap (toldCount old) (sym (compact.call-misshaped (handleOf base level range) s (no-range base level range s above)))
+  compact-no-range above =
+      ap (toldCount old) (sym (compact.call-misshaped (handleOf base level range) s (no-range base level range s above)))
 
 -- ---- modify
 
@@ -165,14 +176,21 @@ modifyFace base level range start end set clear live s list old =
     toldModify old (modify.modifyCall (handleOf base level range) start end set clear (liveOf live) s list)
 
 module _ (base level range start end set clear live : ℕ) (s : St) (list old : List ℕ) where
-  pub modify-told : {h : Handle} {o : Modified} {s′ : St} {list′ : List ℕ} {x : Slip} → h ≡ handleOf base level range → modify.modifying o s′ list′ ≡ modify.modifyCall h start end set clear (liveOf live) s list → x ≡ toldModified o old
+  pub modify-told : {h : Handle} {o : Modified} {s′ : St} {list′ : List ℕ} {x : Slip} → h ≡ handleOf base level range
+      → modify.modifying o s′ list′ ≡ modify.modifyCall h start end set clear (liveOf live) s list → x ≡ toldModified o old
       → changed x s′ list′ ≡ modifyFace base level range start end set clear live s list old
   unfolding modifyFace
-  modify-told {s′ = s′} {list′ = list′} e m t = ap (λ (y : Slip). changed y s′ list′) t ∙ ap (toldModify old) (m ∙ ap (λ (g : Handle). modify.modifyCall g start end set clear (liveOf live) s list) e)
+  modify-told {s′ = s′} {list′ = list′} e m t =
+      ap (λ (y : Slip). changed y s′ list′) t
+      ∙ ap (toldModify old) (m ∙ ap (λ (g : Handle). modify.modifyCall g start end set clear (liveOf live) s list) e)
 
   pub modify-no-range : 1 < range → modifyFace base level range start end set clear live s list old ≡ changed (toldRefusal Shape old) s list
   unfolding modifyFace toldModified
-  modify-no-range above = ap (toldModify old) (sym (modify.call-misshaped (handleOf base level range) start end set clear (liveOf live) s list (no-range base level range s above)))
+  modify-no-range above =
+      ap (toldModify old)
+      (sym
+      (modify.call-misshaped (handleOf base level range) start end set clear (liveOf live) s list
+      (no-range base level range s above)))
 
 -- ---- page image
 
@@ -185,11 +203,14 @@ imageFace base level range s table page old =
     toldImage old (imageCall (handleOf base level range) s table page)
 
 module _ (base level range : ℕ) (s : St) (table : ℕ) (page old : List ℕ) where
-  pub image-told : {h : Handle} {o : Outcome} {page′ : List ℕ} {x : Slip} → h ≡ handleOf base level range → imaged o page′ ≡ imageCall h s table page → x ≡ told o old
+  pub image-told : {h : Handle} {o : Outcome} {page′ : List ℕ} {x : Slip} → h ≡ handleOf base level range
+      → imaged o page′ ≡ imageCall h s table page → x ≡ told o old
       → filled x page′ ≡ imageFace base level range s table page old
   unfolding imageFace
-  image-told {page′ = page′} e m t = ap (λ (y : Slip). filled y page′) t ∙ ap (toldImage old) (m ∙ ap (λ (g : Handle). imageCall g s table page) e)
+  image-told {page′ = page′} e m t =
+      ap (λ (y : Slip). filled y page′) t ∙ ap (toldImage old) (m ∙ ap (λ (g : Handle). imageCall g s table page) e)
 
   pub image-no-range : 1 < range → imageFace base level range s table page old ≡ filled (toldRefusal Shape old) page
   unfolding imageFace told
-  image-no-range above = ap (toldImage old) (sym (image-misshaped (handleOf base level range) s table page (no-range base level range s above)))
+  image-no-range above =
+      ap (toldImage old) (sym (image-misshaped (handleOf base level range) s table page (no-range base level range s above)))

@@ -1,11 +1,11 @@
 -- The chunks of a region at a level, as a list: ascending, each in one entry, together the region and nothing else. Leans on `Region`.
--- Assumes nothing.
 use mathlib.Core.Path.{_≡_, refl, ap, _∙_}
 use mathlib.Core.Bool.{cond}
 use mathlib.Core.List.{List, [], _∷_}
 use mathlib.Core.Logic.{_⊎_, inl, inr}
 use Prim.Native.Nat.{ℕ, zero, suc, _+_, _*_, _-_, _/_, _%_, _≤_, _<_, min}
-use native.Mathlib.Nat.{div-eq-of-lt-le, mul-div-cancel, le-div-iff-mul-le, div-lt-iff-lt-mul, div-add-mod', mod-lt, mul-mod-left, add-mul, suc-mul, mul-le-mul-left, mul-le-mul-right}
+use native.Mathlib.Nat.{div-eq-of-lt-le, mul-div-cancel, le-div-iff-mul-le, div-lt-iff-lt-mul, div-add-mod', mod-lt, mul-mod-left, add-mul}
+use native.Mathlib.Nat.{suc-mul, mul-le-mul-left, mul-le-mul-right}
 use native.Mathlib.Omega.{arith}
 use lib.Dec.{ltb}
 use lib.ListN.{length, getD}
@@ -48,7 +48,8 @@ unfolding entryLast down
 last-number level s = let p = size-pos level in omega arith
 
 -- a chunk is not empty, ends with the region at the latest, and in the entry of its start
-pub chunk-fits : (level s e : ℕ) → s < e → (s < chunkEnd level s e) × (chunkEnd level s e ≤ e) × (chunkEnd level s e ≤ entryLast level s + 1)
+pub chunk-fits : (level s e : ℕ) → s < e
+    → (s < chunkEnd level s e) × (chunkEnd level s e ≤ e) × (chunkEnd level s e ≤ entryLast level s + 1)
 unfolding chunkEnd
 chunk-fits level s e h =
     let a = entry-around level s in
@@ -80,7 +81,8 @@ met-step level s e h = go (le-or e (entryLast level s + 1))
     go (inr l) =
         let n = last-number level s in
         let here : min e (entryLast level s + 1) ≡ entryLast level s + 1 = omega arith in
-        let next : (entryLast level s + 1) / sizeAt level ≡ s / sizeAt level + 1 = ap (λ (x : ℕ). x / sizeAt level) n ∙ mul-div-cancel (s / sizeAt level + 1) (size-pos level) in
+        let next : (entryLast level s + 1) / sizeAt level ≡ s / sizeAt level + 1 =
+        ap (λ (x : ℕ). x / sizeAt level) n ∙ mul-div-cancel (s / sizeAt level + 1) (size-pos level) in
         let far : s / sizeAt level + 1 ≤ (e - 1) / sizeAt level = le-div-iff-mul-le (size-pos level) .1 (omega arith) in
         let m = met-some level s e h in
         let k = met-some level (entryLast level s + 1) e l in
@@ -103,7 +105,8 @@ chunks-none level s e h = in-none (met level s e) level s e h
 
 pub chunks-step : (level s e : ℕ) → s < e → chunks level s e ≡ region s (chunkEnd level s e) ∷ chunks level (chunkEnd level s e) e
 unfolding chunks
-chunks-step level s e h = ap (λ (n : ℕ). chunksIn n level s e) (met-step level s e h) ∙ in-step (met level (chunkEnd level s e) e) level s e h
+chunks-step level s e h =
+    ap (λ (n : ℕ). chunksIn n level s e) (met-step level s e h) ∙ in-step (met level (chunkEnd level s e) e) level s e h
 
 -- what an iterator gives from now on
 abbrev pub chunksOf : ChunkedIterator → List MemoryRegion
@@ -119,14 +122,17 @@ next-gives c = go (le-or (c .range .end .0) (c .range .start .0))
   where
     go : (c .range .end .0 ≤ c .range .start .0) ⊎ (c .range .start .0 < c .range .end .0) → Gives (nextChunk c) (chunksOf c)
     go (inl h) = rw (← next-done c h) (chunks-none (c .level) (c .range .start .0) (c .range .end .0) h)
-    go (inr h) = rw (← next-cut c (chunkEnd (c .level) (c .range .start .0) (c .range .end .0)) h refl) (chunks-step (c .level) (c .range .start .0) (c .range .end .0) h)
+    go (inr h) =
+        rw (← next-cut c (chunkEnd (c .level) (c .range .start .0) (c .range .end .0)) h refl)
+        (chunks-step (c .level) (c .range .start .0) (c .range .end .0) h)
 
 -- ---- the chunks tile the region
 
 -- a list of regions, end to end from s to e, none empty, each in one entry of the level
 pub data Tiles (level e : ℕ) : ℕ → List MemoryRegion → Type 0 where
   none : {s : ℕ} → e ≤ s → Tiles level e s []
-  more : {s m : ℕ} {l : List MemoryRegion} → s < m → m ≤ e → m ≤ entryLast level s + 1 → Tiles level e m l → Tiles level e s (region s m ∷ l)
+  more : {s m : ℕ} {l : List MemoryRegion} → s < m → m ≤ e → m ≤ entryLast level s + 1 → Tiles level e m l
+      → Tiles level e s (region s m ∷ l)
 
 tile : (n level s e : ℕ) → met level s e ≡ n → Tiles level e s (chunks level s e)
 tile zero level s e q = go (le-or e s)
@@ -136,7 +142,8 @@ tile zero level s e q = go (le-or e s)
     go (inr h) = absurd (let k = met-step level s e h in omega arith)
 tile (suc n) level s e q = go (le-or e s) (tile n level (chunkEnd level s e) e)
   where
-    go : (e ≤ s) ⊎ (s < e) → (met level (chunkEnd level s e) e ≡ n → Tiles level e (chunkEnd level s e) (chunks level (chunkEnd level s e) e))
+    go : (e ≤ s) ⊎ (s < e)
+        → (met level (chunkEnd level s e) e ≡ n → Tiles level e (chunkEnd level s e) (chunks level (chunkEnd level s e) e))
         → Tiles level e s (chunks level s e)
     go (inl h) ih = rw (chunks-none level s e h) (none h)
     go (inr h) ih =
@@ -168,7 +175,8 @@ in-one-entry (more a b c t) zero k = record { some = a; within = c }
 in-one-entry (more a b c t) (suc i) k = in-one-entry t i (omega arith)
 
 -- nothing outside the region
-pub inside-region : {level e s : ℕ} {l : List MemoryRegion} → Tiles level e s l → (i a : ℕ) → i < length l → Holds (nth l i) a → (s ≤ a) × (a < e)
+pub inside-region : {level e s : ℕ} {l : List MemoryRegion} → Tiles level e s l → (i a : ℕ) → i < length l → Holds (nth l i) a
+    → (s ≤ a) × (a < e)
 inside-region (none h) i a k r = absurd (omega arith)
 inside-region (more p q c t) zero a k r = (r .from, omega (arith, r .below))
 inside-region (more p q c t) (suc i) a k r = let d = inside-region t i a (omega arith) r in (omega (arith, d .0), d .1)
@@ -197,7 +205,8 @@ covered (more {s = s} {m = m} {l = l} b c d t) a p q = go (le-or m a) (λ h. cov
     go (inr h) ih = record { place = 0; known = omega arith; holds = record { from = p; below = h }; only = first h }
 
 -- ascending: a chunk ends where a later one begins, or before
-pub ascending : {level e s : ℕ} {l : List MemoryRegion} → Tiles level e s l → (i j : ℕ) → i < j → j < length l → nth l i .end .0 ≤ nth l j .start .0
+pub ascending : {level e s : ℕ} {l : List MemoryRegion} → Tiles level e s l → (i j : ℕ) → i < j → j < length l
+    → nth l i .end .0 ≤ nth l j .start .0
 ascending (none h) i j k q = absurd (omega arith)
 ascending (more a b c t) zero zero k q = absurd (omega arith)
 ascending (more a b c t) (suc i) zero k q = absurd (omega arith)
@@ -223,7 +232,10 @@ block-whole level r o hs he = whole (sizeAt level) (size-pos level) (r .start .0
 
         go : (e / size ≤ s / size) ⊎ (s / size < e / size) → e ≡ s + size
         go (inl l) = absurd (omega (arith, mul-le-mul-right size l, from, to))
-        go (inr l) = let d : (s / size + 1) * size ≤ e / size * size = mul-le-mul-right size (omega arith) in let r = down-rest s size in omega (arith, from, to)
+        go (inr l) =
+            let d : (s / size + 1) * size ≤ e / size * size = mul-le-mul-right size (omega arith) in
+            let r = down-rest s size in
+            omega (arith, from, to)
 
 -- ---- where a chunk ends, and the entries met, taken apart
 
@@ -232,7 +244,8 @@ pub chunk-stops : (level s e : ℕ) → (chunkEnd level s e ≡ e) ⊎ ((chunkEn
 unfolding chunkEnd
 chunk-stops level s e = go (le-or e (entryLast level s + 1))
   where
-    go : (e ≤ entryLast level s + 1) ⊎ (entryLast level s + 1 < e) → (min e (entryLast level s + 1) ≡ e) ⊎ ((min e (entryLast level s + 1) < e) × (min e (entryLast level s + 1) % sizeAt level ≡ 0))
+    go : (e ≤ entryLast level s + 1) ⊎ (entryLast level s + 1 < e)
+        → (min e (entryLast level s + 1) ≡ e) ⊎ ((min e (entryLast level s + 1) < e) × (min e (entryLast level s + 1) % sizeAt level ≡ 0))
     go (inl l) = inl (omega arith)
     go (inr l) =
         let here : min e (entryLast level s + 1) ≡ (s / sizeAt level + 1) * sizeAt level = let n = last-number level s in omega arith in
@@ -259,14 +272,16 @@ met-most level s e = go (le-or e s)
     go (inl h) = let z = met-none level s e h in omega arith
     go (inr h) =
         let m = met-some level s e h in
-        let far : (e - 1) / sizeAt level ≤ s / sizeAt level + (e - 1 - s) = div-le-add (sizeAt level) s (e - 1) (size-pos level) (omega arith) in
+        let far : (e - 1) / sizeAt level ≤ s / sizeAt level + (e - 1 - s) =
+        div-le-add (sizeAt level) s (e - 1) (size-pos level) (omega arith) in
         omega arith
       where
         div-le-add : (a x y : ℕ) → 0 < a → x ≤ y → y / a ≤ x / a + (y - x)
         div-le-add a x y p l =
             let d = div-add-mod' x a in
             let r = mod-lt x p in
-            let t : (x / a + (y - x) + 1) * a ≡ x / a * a + (y - x) * a + a = add-mul (x / a + (y - x)) 1 a ∙ (let u = add-mul (x / a) (y - x) a in omega arith) in
+            let t : (x / a + (y - x) + 1) * a ≡ x / a * a + (y - x) * a + a =
+            add-mul (x / a + (y - x)) 1 a ∙ (let u = add-mul (x / a) (y - x) a in omega arith) in
             let one : (y - x) * 1 ≤ (y - x) * a = mul-le-mul-left (y - x) p in
             let below : y < (x / a + (y - x) + 1) * a = omega arith in
             let less = div-lt-iff-lt-mul p .1 below in
@@ -288,4 +303,7 @@ met-split level s m e h k z =
       where
         go : (n : ℕ) → n * a ≡ m → (m - 1) / a + 1 ≡ n
         go zero e = absurd (omega arith)
-        go (suc n) e = let t = suc-mul n a in let d : (m - 1) / a ≡ n = div-eq-of-lt-le a (omega arith) (let u = next-multiple n a in omega arith) in omega arith
+        go (suc n) e =
+            let t = suc-mul n a in
+            let d : (m - 1) / a ≡ n = div-eq-of-lt-le a (omega arith) (let u = next-multiple n a in omega arith) in
+            omega arith

@@ -1,4 +1,4 @@
--- Regions and the next chunk, and a law for each way through the code. Assumes nothing.
+-- Regions and the next chunk, and a law for each way through the code.
 use mathlib.Core.Path.{_≡_, ap}
 use mathlib.Core.Bool.{Bool, cond, _&&_}
 use Prim.Native.Nat.{ℕ, _%_, _≤_, _<_}
@@ -41,7 +41,9 @@ pub next-done : (c : ChunkedIterator) → c .range .end .0 ≤ c .range .start .
 unfolding nextChunk
 next-done c h = rw (le-ltb (c .range .start .0) (c .range .end .0) h)
 
-pub next-cut : (c : ChunkedIterator) (m : ℕ) → c .range .start .0 < c .range .end .0 → m ≡ chunkEnd (c .level) (c .range .start .0) (c .range .end .0)
+pub next-cut : (c : ChunkedIterator) (m : ℕ) → c .range .start .0 < c .range .end .0
+    → m ≡ chunkEnd (c .level) (c .range .start .0) (c .range .end .0)
     → cutAt (c .level) (c .range .start .0) m (c .range .end .0) ≡ nextChunk c
 unfolding nextChunk
-next-cut c m h e = rw (lt-ltb (c .range .start .0) (c .range .end .0) h) (ap (λ (x : ℕ). cutAt (c .level) (c .range .start .0) x (c .range .end .0)) e)
+next-cut c m h e =
+    rw (lt-ltb (c .range .start .0) (c .range .end .0) h) (ap (λ (x : ℕ). cutAt (c .level) (c .range .start .0) x (c .range .end .0)) e)

@@ -1,4 +1,4 @@
--- Refusals 2, 5 and 6 (document 01, "The refusal slip"), and a law for each way through the code. Assumes nothing.
+-- Refusals 2, 5 and 6 (document 01, "The refusal slip"), and a law for each way through the code.
 use mathlib.Core.Path.{_≡_, refl, sym, ap, _∙_}
 use mathlib.Core.Bool.{Bool, true, false, cond, _&&_, _||_}
 use mathlib.Core.Logic.{_⊎_, inl, inr, ⊎-elim}
@@ -25,7 +25,8 @@ endFits end = leb 1 end && leb end (2 ^ 64 - 4096)
 unfoldable pub span : ℕ → ℕ
 span level = 512 * sizeAt level
 
--- refusal 6, as `verify_region` tests it: a lower region starts below 2^63 and ends in the span; an upper one starts at or above 2^63, in the span
+-- refusal 6, as `verify_region` tests it: a lower region starts below 2^63 and ends in the span; an upper one starts at or above 2^63, in
+-- the span
 unfoldable pub inRange : VaRange → ℕ → MemoryRegion → Outcome
 inRange Lower level r =
     cond (leb (2 ^ 63) (r .start .0)) (Refused (AddressRange (r .start)))
@@ -66,7 +67,8 @@ module _ (range : VaRange) (level : ℕ) (r : MemoryRegion) {g : ℕ} (size : g 
 
   pub upper-start : range ≡ Upper → r .start .0 ≤ 2 ^ 64 - 1 - 512 * g → Refused (AddressRange (r .start)) ≡ inRange range level r
   unfolding inRange
-  upper-start e l = let h = size-high level in rw (e, spans, lt-ltb (r .start .0) (2 ^ 64 - 512 * g) (omega arith)) (either (ltb (r .start .0) (2 ^ 63)))
+  upper-start e l =
+      let h = size-high level in rw (e, spans, lt-ltb (r .start .0) (2 ^ 64 - 512 * g) (omega arith)) (either (ltb (r .start .0) (2 ^ 63)))
     where
       either : (b : Bool) → Refused (AddressRange (r .start)) ≡ cond (b || true) (Refused (AddressRange (r .start))) Accepted
       either true = refl
@@ -122,7 +124,8 @@ pub verified-span : (h : Handle) (r : MemoryRegion) → verify h r ≡ Accepted 
 verified-span h r e = ranged-span (h .range) (h .level) r (verify-forwards h r (verified-forwards h r e) ∙ e)
 
 -- it is no longer than the largest span
-pub span-length : (range : VaRange) (level : ℕ) (r : MemoryRegion) → RegionInSpan range level r → r .end .0 < 2 ^ 64 → r .end .0 - r .start .0 ≤ 2 ^ 48
+pub span-length : (range : VaRange) (level : ℕ) (r : MemoryRegion) → RegionInSpan range level r → r .end .0 < 2 ^ 64
+    → r .end .0 - r .start .0 ≤ 2 ^ 48
 unfolding span
 span-length Lower level r l below = let b = size-high level in omega arith
 span-length Upper level r l below = let b = size-high level in omega arith

@@ -1,4 +1,5 @@
--- Document 01, "Bench cases": base 0x8000_0000, root level 1, lower, n = 8, flags 0x401. The starred cases of map, by computing the definitions. Assumes nothing.
+-- Document 01, "Bench cases": base 0x8000_0000, root level 1, lower, n = 8, flags 0x401. The starred cases of map, by computing the
+-- definitions.
 use mathlib.Core.List.{List}
 use mathlib.Core.Path.{_≡_, refl}
 use Prim.Native.Nat.{ℕ, _+_, _*_}
@@ -73,9 +74,11 @@ poolA = word 0 0 0x4000_0401 (freshRow 1 8)
 
 -- B: root word 0 is 0x8000_1003, table 1 word 0 is 0x8000_2003, table 2 words 1 and 2 are 0x9403 and 0xA403; ledger starts 5, 14, 4111
 unfoldable pub poolB : ℕ → St
-poolB n = word 0 0 0x8000_1003 (word 1 0 0x8000_2003 (word 2 1 0x9403 (word 2 2 0xA403 (table 1 zeros 14 (table 2 zeros 4111 (freshRow 1 n))))))
+poolB n =
+    word 0 0 0x8000_1003 (word 1 0 0x8000_2003 (word 2 1 0x9403 (word 2 2 0xA403 (table 1 zeros 14 (table 2 zeros 4111 (freshRow 1 n))))))
 
--- D: table 1 words 1 and 2 are 0x8000_2003 and 0x4040_0401, table 2 words 0 and 1 are 0x5000_0403 and 0x4020_1403: the block of A, cut twice
+-- D: table 1 words 1 and 2 are 0x8000_2003 and 0x4040_0401, table 2 words 0 and 1 are 0x5000_0403 and 0x4020_1403: the block of A, cut
+-- twice
 unfoldable pub poolD : St
 poolD =
     word 0 0 0x8000_1003 (word 1 1 0x8000_2003 (word 2 0 0x5000_0403
@@ -98,30 +101,72 @@ poolH = word 0 0 0x8000_1003 (table 1 (rising 512 0x401 0x4000_0000) 13 (freshRo
 -- ---- the rows
 
 unfoldable pub A : Row
-A = record { level = 1; before = freshRow 1 8; start = 0; end = 0x4000_0000; frame = 0x4000_0000; flags = 0x401; answer = Tables 1; after = poolA }
+A =
+    record {
+      level = 1;
+      before = freshRow 1 8;
+      start = 0;
+      end = 0x4000_0000;
+      frame = 0x4000_0000;
+      flags = 0x401;
+      answer = Tables 1;
+      after = poolA;
+    }
 
 -- B with n tables
 unfoldable pub B : ℕ → Counted → St → Row
-B n answer after = record { level = 1; before = freshRow 1 n; start = 0x1000; end = 0x3000; frame = 0x9000; flags = 0x401; answer = answer; after = after }
+B n answer after =
+    record { level = 1; before = freshRow 1 n; start = 0x1000; end = 0x3000; frame = 0x9000; flags = 0x401; answer = answer; after = after }
 
 -- beside the document's cases: the next GiB after A
 unfoldable pub poolAA : St
 poolAA = word 0 1 0x8000_0401 poolA
 
 unfoldable pub AA : Row
-AA = record { level = 1; before = poolA; start = 0x4000_0000; end = 0x8000_0000; frame = 0x8000_0000; flags = 0x401; answer = Tables 1; after = poolAA }
+AA =
+    record {
+      level = 1;
+      before = poolA;
+      start = 0x4000_0000;
+      end = 0x8000_0000;
+      frame = 0x8000_0000;
+      flags = 0x401;
+      answer = Tables 1;
+      after = poolAA;
+    }
 
 -- C, D: one page after A, to the frame that it has, and to another
 unfoldable pub CD : ℕ → ℕ → St → Row
-CD frame count after = record { level = 1; before = poolA; start = 0x20_0000; end = 0x20_1000; frame = frame; flags = 0x401; answer = Tables count; after = after }
+CD frame count after =
+    record {
+      level = 1;
+      before = poolA;
+      start = 0x20_0000;
+      end = 0x20_1000;
+      frame = frame;
+      flags = 0x401;
+      answer = Tables count;
+      after = after;
+    }
 
 -- E, F: the whole GiB after B, without VALID and with A's map
 unfoldable pub EF : ℕ → ℕ → ℕ → St → Row
-EF frame flags count after = record { level = 1; before = poolB 8; start = 0; end = 0x4000_0000; frame = frame; flags = flags; answer = Tables count; after = after }
+EF frame flags count after =
+    record { level = 1; before = poolB 8; start = 0; end = 0x4000_0000; frame = frame; flags = flags; answer = Tables count; after = after }
 
 -- G: one page without VALID, by its frame
 unfoldable pub G : ℕ → ℕ → St → Row
-G frame count after = record { level = 1; before = freshRow 1 8; start = 0x1000; end = 0x2000; frame = frame; flags = 0; answer = Tables count; after = after }
+G frame count after =
+    record {
+      level = 1;
+      before = freshRow 1 8;
+      start = 0x1000;
+      end = 0x2000;
+      frame = frame;
+      flags = 0;
+      answer = Tables count;
+      after = after;
+    }
 
 unfoldable pub H : Row
 H = record { level = 0; before = freshRow 0 8; start = 0; end = 0x80_0000_0000; frame = 0; flags = 0x401; answer = Tables 2; after = poolH }
@@ -146,9 +191,14 @@ Quick =
     × RowHolds AA
 
 pub quick : Quick
-unfolding sizeAt down up iter putPart allBelow allFrom alignUp addressOf flagsOf kindOf linkOf only el1Flags inPool leads subOf rounded entryLast entryIndex chunkEnd met
-    chunksIn chunks rootNumber numberOf firstFrom lowestFree used free putTable zeros clear rising takeAt takeFound takeTable freeSub freeSlot freeTree maxTables shaped flagSet
-    plainFlags fits leafb namesb hangsb tableb linkb refersb slotb soundb endFits span inRange verify valid tableWord leafWord whole rule2 blockable rule3 rule4 ruleOf fillOf
-    splitEntry belowOf below inFound into dropEntry byRule mapChunk eachOf eachChunk mapRange ifDown sumOf sumChunks childWord neededLeaf needBelow needChunk needTable needed
-    askedMap frameAsked first verifyMap putDown mapSound orElse mapCall handle freshRow word table RowHolds poolA poolAA poolB poolD poolG A AA B CD G
+unfolding sizeAt down up iter putPart allBelow allFrom alignUp addressOf flagsOf kindOf linkOf only el1Flags inPool leads subOf rounded
+    entryLast entryIndex chunkEnd met
+    chunksIn chunks rootNumber numberOf firstFrom lowestFree used free putTable zeros clear rising takeAt takeFound takeTable freeSub
+    freeSlot freeTree maxTables shaped flagSet
+    plainFlags fits leafb namesb hangsb tableb linkb refersb slotb soundb endFits span inRange verify valid tableWord leafWord whole rule2
+    blockable rule3 rule4 ruleOf fillOf
+    splitEntry belowOf below inFound into dropEntry byRule mapChunk eachOf eachChunk mapRange ifDown sumOf sumChunks childWord neededLeaf
+    needBelow needChunk needTable needed
+    askedMap frameAsked first verifyMap putDown mapSound orElse mapCall handle freshRow word table RowHolds poolA poolAA poolB poolD poolG A
+    AA B CD G
 quick = (refl, refl, refl, refl, refl, refl, refl, refl, refl)

@@ -1,4 +1,4 @@
--- Document 01, "Bench cases", I: after A, bit 7 set, live and not. By computing the definitions. Leans on `Bench`. Assumes nothing.
+-- Document 01, "Bench cases", I: after A, bit 7 set, live and not. By computing the definitions. Leans on `Bench`.
 use mathlib.Core.List.{List, [], _∷_}
 use mathlib.Core.Bool.{Bool, true, false}
 use mathlib.Core.Path.{_≡_, refl}
@@ -26,7 +26,8 @@ use Rattle.modify_entry.specs.Each.{eachOf, eachChunk}
 use Rattle.modify_entry.specs.Own.{putNumber, ownChunk, ownRange}
 use Rattle.modify_range.specs.Range.{own, onward, downChunk, ownWork, modifyRange}
 use Rattle.modify_survey.specs.House.{houseRule, mayChange}
-use Rattle.modify_survey.specs.Find.{adding, splitsIn, breach, ifBlock, surveyPart, surveyWhole, surveyEntry, surveySub, surveyChunk, surveyRange}
+use Rattle.modify_survey.specs.Find.{adding, splitsIn, breach, ifBlock, surveyPart, surveyWhole, surveyEntry, surveySub, surveyChunk}
+use Rattle.modify_survey.specs.Find.{surveyRange}
 use Rattle.modify_verify.specs.Permit.{askedEdit, settable, verifyBits, thenRegion, verifyEdit, verifySurvey}
 use Rattle.modify.specs.Call.{modifying, answerOf, editTables, orElse, modifySound, modifyCall}
 use Rattle.modify.specs.declared.Modified.{Modified}
@@ -50,9 +51,14 @@ abbrev pub StillEdited : Type 0
 StillEdited = Sets 0x1000 0x2000 false (Tables 3) (word 2 1 0x4000_1483 poolF) (7 ∷ 7 ∷ [])
 
 pub case-I : WholeEdited × PartEdited × StillEdited
-unfolding sizeAt down up putPart allBelow allFrom alignUp addressOf flagsOf kindOf linkOf only el1Flags inPool leads subOf rounded entryLast entryIndex chunkEnd met chunksIn
-    chunks rootNumber numberOf firstFrom lowestFree used free putTable zeros rising takeAt takeFound takeTable maxTables shaped flagSet plainFlags fits leafb namesb hangsb
-    tableb linkb refersb slotb soundb endFits span inRange verify valid tableWord leafWord whole fillOf splitEntry belowOf below edited ofKind editWord eachOf eachChunk
-    putNumber ownChunk ownRange own onward downChunk ownWork modifyRange houseRule mayChange adding splitsIn breach ifBlock surveyPart surveyWhole surveyEntry surveySub
-    surveyChunk surveyRange askedEdit settable verifyBits thenRegion verifyEdit verifySurvey answerOf editTables orElse modifySound modifyCall handle freshRow word table poolA poolF Sets
+unfolding sizeAt down up putPart allBelow allFrom alignUp addressOf flagsOf kindOf linkOf only el1Flags inPool leads subOf rounded entryLast
+    entryIndex chunkEnd met chunksIn
+    chunks rootNumber numberOf firstFrom lowestFree used free putTable zeros rising takeAt takeFound takeTable maxTables shaped flagSet
+    plainFlags fits leafb namesb hangsb
+    tableb linkb refersb slotb soundb endFits span inRange verify valid tableWord leafWord whole fillOf splitEntry belowOf below edited
+    ofKind editWord eachOf eachChunk
+    putNumber ownChunk ownRange own onward downChunk ownWork modifyRange houseRule mayChange adding splitsIn breach ifBlock surveyPart
+    surveyWhole surveyEntry surveySub
+    surveyChunk surveyRange askedEdit settable verifyBits thenRegion verifyEdit verifySurvey answerOf editTables orElse modifySound
+    modifyCall handle freshRow word table poolA poolF Sets
 case-I = (refl, refl, refl)

@@ -1,4 +1,4 @@
--- Document 01, "Bench cases", J: after B, list 0..0x3000. By computing the definitions. Leans on `Bench`. Assumes nothing.
+-- Document 01, "Bench cases", J: after B, list 0..0x3000. By computing the definitions. Leans on `Bench`.
 use mathlib.Core.List.{[], _∷_}
 use mathlib.Core.Path.{_≡_, refl}
 use lib.ListN.{replicate}
@@ -29,7 +29,10 @@ J =
     ≡ listing (Lines 3) (0 ∷ 0x1000 ∷ 0 ∷ 3 ∷ 0x1000 ∷ 0x2000 ∷ 0x9403 ∷ 3 ∷ 0x2000 ∷ 0x3000 ∷ 0xA403 ∷ 3 ∷ 7 ∷ 7 ∷ 7 ∷ 7 ∷ [])
 
 pub case-J : J
-unfolding sizeAt down up putPart allBelow allFrom alignUp addressOf kindOf linkOf only el1Flags inPool leads subOf rounded entryLast chunkEnd met chunksIn chunks rootNumber
-    putTable zeros maxTables shaped flagSet plainFlags fits leafb namesb hangsb tableb linkb refersb slotb soundb endFits span inRange verify bits lowBit index fetch numbers
-    each subLines chunkLines linesAt linesFrom verifyEnds put listLines linesOf listSound listVerified listCall handle freshRow word table poolB
+unfolding sizeAt down up putPart allBelow allFrom alignUp addressOf kindOf linkOf only el1Flags inPool leads subOf rounded entryLast
+    chunkEnd met chunksIn chunks rootNumber
+    putTable zeros maxTables shaped flagSet plainFlags fits leafb namesb hangsb tableb linkb refersb slotb soundb endFits span inRange
+    verify bits lowBit index fetch numbers
+    each subLines chunkLines linesAt linesFrom verifyEnds put listLines linesOf listSound listVerified listCall handle freshRow word table
+    poolB
 case-J = refl

@@ -1,4 +1,4 @@
--- Document 01, "Bench cases", G: compact after it returns to 1 table. By computing the definitions. Leans on theory_case_rows. Assumes nothing.
+-- Document 01, "Bench cases", G: compact after it returns to 1 table. By computing the definitions. Leans on theory_case_rows.
 use mathlib.Core.Path.{_≡_, refl}
 use Rattle.laws.specs.Size.{sizeAt}
 use Rattle.laws.specs.Slot.{iter}
@@ -20,7 +20,9 @@ abbrev pub GCompacted : Type 0
 GCompacted = compactCall (handle 1) poolG ≡ out (Tables 1) (freshRow 1 8)
 
 pub case-G : GCompacted
-unfolding sizeAt iter putPart allBelow allFrom addressOf kindOf linkOf only el1Flags inPool leads subOf rootNumber used maxTables shaped flagSet plainFlags fits leafb namesb
-    hangsb tableb linkb refersb slotb soundb putTable zeros clear allZero releaseEmpty compactSub compactEntry compactTable compacted compactSound compactCall handle freshRow word
+unfolding sizeAt iter putPart allBelow allFrom addressOf kindOf linkOf only el1Flags inPool leads subOf rootNumber used maxTables shaped
+    flagSet plainFlags fits leafb namesb
+    hangsb tableb linkb refersb slotb soundb putTable zeros clear allZero releaseEmpty compactSub compactEntry compactTable compacted
+    compactSound compactCall handle freshRow word
     table poolG
 case-G = refl

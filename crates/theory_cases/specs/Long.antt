@@ -1,4 +1,4 @@
--- Document 01, "Bench cases": the starred cases of map that go over whole tables, by computing the definitions. Assumes nothing.
+-- Document 01, "Bench cases": the starred cases of map that go over whole tables, by computing the definitions.
 use mathlib.Core.Path.{refl}
 use Rattle.laws.specs.Size.{sizeAt, down, up}
 use Rattle.laws.specs.Slot.{iter}
@@ -28,9 +28,13 @@ abbrev pub Long : Type 0
 Long = RowHolds (EF 0 0 1 (freshRow 1 8)) × RowHolds (EF 0x4000_0000 0x401 3 poolF) × RowHolds H
 
 pub long : Long
-unfolding sizeAt down up iter putPart allBelow allFrom alignUp addressOf flagsOf kindOf linkOf only el1Flags inPool leads subOf rounded entryLast entryIndex chunkEnd met
-    chunksIn chunks rootNumber numberOf firstFrom lowestFree used free putTable zeros clear rising takeAt takeFound takeTable freeSub freeSlot freeTree maxTables shaped flagSet
-    plainFlags fits leafb namesb hangsb tableb linkb refersb slotb soundb endFits span inRange verify valid tableWord leafWord whole rule2 blockable rule3 rule4 ruleOf fillOf
-    splitEntry belowOf below inFound into dropEntry byRule mapChunk eachOf eachChunk mapRange ifDown sumOf sumChunks childWord neededLeaf needBelow needChunk needTable needed
+unfolding sizeAt down up iter putPart allBelow allFrom alignUp addressOf flagsOf kindOf linkOf only el1Flags inPool leads subOf rounded
+    entryLast entryIndex chunkEnd met
+    chunksIn chunks rootNumber numberOf firstFrom lowestFree used free putTable zeros clear rising takeAt takeFound takeTable freeSub
+    freeSlot freeTree maxTables shaped flagSet
+    plainFlags fits leafb namesb hangsb tableb linkb refersb slotb soundb endFits span inRange verify valid tableWord leafWord whole rule2
+    blockable rule3 rule4 ruleOf fillOf
+    splitEntry belowOf below inFound into dropEntry byRule mapChunk eachOf eachChunk mapRange ifDown sumOf sumChunks childWord neededLeaf
+    needBelow needChunk needTable needed
     askedMap frameAsked first verifyMap putDown mapSound orElse mapCall handle freshRow word table RowHolds poolB poolF poolH EF H
 long = (refl, refl, refl)

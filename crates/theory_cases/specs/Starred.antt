@@ -1,4 +1,4 @@
--- THE STARRED TABLE (document 01, "Bench cases"): every starred case, one theorem about the definitions. Assumes nothing.
+-- THE STARRED TABLE (document 01, "Bench cases"): every starred case, one theorem about the definitions.
 use Rattle.pool.specs.declared.Refusal.the-variants.{WantOfRoom}
 use Rattle.pool.specs.declared.Counted.the-variants.{Tables, Refused}
 use Rattle.theory_case_rows.specs.Bench.{freshRow, Made, made, RowHolds, poolA, poolB, poolD, poolF, poolG, A, B, CD, EF, G, H, quick}

@@ -1,4 +1,4 @@
--- Compact of a sound pool, in document 01's words: what it keeps, what it leaves, what it answers. This is the page to read. Assumes nothing.
+-- Compact of a sound pool, in document 01's words: what it keeps, what it leaves, what it answers. This is the page to read.
 use mathlib.Core.Path.{_≡_, refl, sym, ap, subst, _∙_}
 use mathlib.Core.Logic.{_≢_}
 use Prim.Native.Nat.{ℕ, suc, _+_, _-_, _≤_, _<_}
@@ -63,7 +63,8 @@ module _ {h : Handle} {s : St} (shape : Shaped h s) (P : SoundPool h s) where
   -- the call is accepted, and answers with the tables in use afterwards
   pub compact-answers : compactCall h s ≡ out (Tables (used (compacted h s .ledger))) (compacted h s)
   unfolding compacted
-  compact-answers = sym (call-compacted h s (is-true (shaped h s) (says-shaped h s shape)) (is-true (soundb h s) (sound-decide shape P)) refl refl)
+  compact-answers =
+      sym (call-compacted h s (is-true (shaped h s) (says-shaped h s shape)) (is-true (soundb h s) (sound-decide shape P)) refl refl)
 
   -- SOUND AGAIN, in lists as long as before
   pub compact-keeps-sound : SoundPool h (compacted h s)
@@ -77,16 +78,19 @@ module _ {h : Handle} {s : St} (shape : Shaped h s) (P : SoundPool h s) where
   compact-walks-as-before va =
       ap shown (walk-of-tree compact-keeps-shape compact-keeps-sound va)
       ∙ ap (λ (t : Tree). shown (says va (reachedAt (walkTree (slotsTaken va) (suc (3 - h .level)) t)))) compact-of-tree
-      ∙ compact-walk (slotsTaken va) (slots-below va) (λ e. shown (says va (reachedAt e))) (hole 0) (zero-shows va) (3 - h .level) (rootTree h s)
+      ∙ compact-walk (slotsTaken va) (slots-below va) (λ e. shown (says va (reachedAt e))) (hole 0) (zero-shows va) (3 - h .level)
+      (rootTree h s)
       ∙ sym (ap shown (walk-of-tree shape P va))
 
   -- NO TABLE BUT THE ROOT IS ALL ZERO
   none-empty : NoneEmpty (compacted h s)
   none-empty =
-      tight-none (shaped-placed shape) compact-keeps-sound (subst (Tight (3 - h .level)) (sym compact-of-tree) (compact-tight (3 - h .level) (rootTree h s)))
+      tight-none (shaped-placed shape) compact-keeps-sound
+      (subst (Tight (3 - h .level)) (sym compact-of-tree) (compact-tight (3 - h .level) (rootTree h s)))
 
   pub compact-leaves-no-empty-table : (k : ℕ) → k ≢ 0 → InUse (compacted h s) k → ¬ ((i : ℕ) → i < 512 → wordAt (compacted h s) k i ≡ 0)
-  compact-leaves-no-empty-table k other inUse = not-all-zero (compacted h s) k (used-inside compact-keeps-sound k inUse) (none-empty k other inUse)
+  compact-leaves-no-empty-table k other inUse =
+      not-all-zero (compacted h s) k (used-inside compact-keeps-sound k inUse) (none-empty k other inUse)
 
   -- AGAIN, IT CHANGES NOTHING: neither a word nor a number, and answers the same
   pub compact-again-changes-nothing : compacted h (compacted h s) ≡ compacted h s

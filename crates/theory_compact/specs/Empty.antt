@@ -1,4 +1,4 @@
--- The test of a table's words as a list is the test of its slots. Assumes nothing.
+-- The test of a table's words as a list is the test of its slots.
 use mathlib.Core.Path.{_≡_, sym, _∙_}
 use mathlib.Core.Bool.{false}
 use mathlib.Core.List.{List, [], _∷_}
@@ -40,7 +40,8 @@ module _ (s : St) (k : ℕ) (inside : TableInside s k) where
   pub empty-is : allZero (tableWords s k) ≡ emptyWords (slotWord s k)
   unfolding emptyWords
   empty-is = same-test (allZero (tableWords s k)) (allBelow 512 (λ i. eqb (slotWord s k i) 0))
-      (λ t. all-of 512 (λ i. eqb (slotWord s k i) 0) (λ i l. eq→eqb (slotWord s k i) 0 (sym (part-at i l) ∙ zero-at (tableWords s k) t i (omega (arith, part-long)))))
+      (λ t. all-of 512 (λ i. eqb (slotWord s k i) 0)
+      (λ i l. eq→eqb (slotWord s k i) 0 (sym (part-at i l) ∙ zero-at (tableWords s k) t i (omega (arith, part-long)))))
       (λ t. at-zero (tableWords s k) (λ i l.
       let low : i < 512 = omega (arith, part-long) in
       part-at i low ∙ eqb→eq (slotWord s k i) 0 (all-to 512 (λ i. eqb (slotWord s k i) 0) t i low)))
@@ -48,5 +49,6 @@ module _ (s : St) (k : ℕ) (inside : TableInside s k) where
   -- a table that fails the test has a word that is not 0
   pub not-all-zero : allZero (tableWords s k) ≡ false → ¬ ((i : ℕ) → i < 512 → wordAt s k i ≡ 0)
   not-all-zero e zeros =
-      let t : T (allZero (tableWords s k)) = at-zero (tableWords s k) (λ i l. let low : i < 512 = omega (arith, part-long) in part-at i low ∙ word-in s k i low ∙ zeros i low) in
+      let t : T (allZero (tableWords s k)) =
+      at-zero (tableWords s k) (λ i l. let low : i < 512 = omega (arith, part-long) in part-at i low ∙ word-in s k i low ∙ zeros i low) in
       rw e at t

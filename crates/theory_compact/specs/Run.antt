@@ -1,4 +1,4 @@
--- Compact of a table of a sound pool does on lists what it does on the table's tree. Assumes nothing.
+-- Compact of a table of a sound pool does on lists what it does on the table's tree.
 use mathlib.Core.Path.{_≡_, refl, sym, ap, _∙_, subst}
 use mathlib.Core.Logic.{_⊎_, inl, inr, _≢_}
 use Prim.Native.Nat.{ℕ, zero, suc, _+_, _*_, _-_, _%_, _≤_, _<_}
@@ -25,7 +25,8 @@ use Rattle.theory_sound.specs.Lists.{TableInside, clear-tables, clear-words}
 use Rattle.theory_sound.specs.Step.{used-inside}
 use Rattle.theory_sound.specs.Store.{cleared}
 use Rattle.theory_sound.specs.FreeRun.{SameSize, size-trans}
-use Rattle.compact_spec.specs.Compact.{allZero, tableWords, releaseEmpty, compactEntry, compactTable, release-kept, release-freed, entry-table, entry-leaf}
+use Rattle.compact_spec.specs.Compact.{allZero, tableWords, releaseEmpty, compactEntry, compactTable, release-kept, release-freed}
+use Rattle.compact_spec.specs.Compact.{entry-table, entry-leaf}
 use Rattle.theory_compact.specs.Empty.{empty-is}
 
 -- where a run stands: at table k of a sound pool, with `depth` levels below its own
@@ -40,10 +41,13 @@ module _ {h : Handle} (rec : ℕ → St → St) (s : St) (depth k i : ℕ) (R : 
   -- the slot refers to no table
   pub entry-none : slotWord s k i % 4 ≢ 3 → s ≡ compactEntry rec h k (3 - suc depth) i s
   entry-none other = entry-leaf rec h k (3 - suc depth) i s refl
-      (sym (sub-leaf (h .base .0) (tables s) (3 - suc depth) (wordAt s k i) (λ table. other (ap (λ (w : ℕ). w % 4) (word-in s k i inside) ∙ table .1))))
+      (sym
+      (sub-leaf (h .base .0) (tables s) (3 - suc depth) (wordAt s k i)
+      (λ table. other (ap (λ (w : ℕ). w % 4) (word-in s k i inside) ∙ table .1))))
 
   -- it refers to table c
-  pub entry-some : (placed : Placed h) (c : ℕ) → Refers (codecOf h placed) (view s) k i c → releaseEmpty k i c (rec c s) ≡ compactEntry rec h k (3 - suc depth) i s
+  pub entry-some : (placed : Placed h) (c : ℕ) → Refers (codecOf h placed) (view s) k i c
+      → releaseEmpty k i c (rec c s) ≡ compactEntry rec h k (3 - suc depth) i s
   entry-some placed c r = entry-table rec h k (3 - suc depth) i s refl c
       (rw (sym (word-in s k i inside) ∙ r .says)
       (sub-link (h .base .0) (tables s) c (3 - suc depth) (omega arith) (R .shape .paged) (R .shape .ended) (used-in s c (r .used))))
@@ -71,7 +75,8 @@ module _ {h : Handle} (placed : Placed h) where
 
   -- what is still to be shown of a table one level down
   abbrev Below : ℕ → Type 0
-  Below depth = (s : St) (j : ℕ) → Ready h s depth j → Worked s (compactTable depth h j s) depth j (compactTree depth (treeFrom h s depth j))
+  Below depth =
+      (s : St) (j : ℕ) → Ready h s depth j → Worked s (compactTable depth h j s) depth j (compactTree depth (treeFrom h s depth j))
 
   module _ (depth : ℕ) (below : Below depth) where
     abbrev rec : ℕ → St → St
@@ -96,7 +101,10 @@ module _ {h : Handle} (placed : Placed h) where
       entry-plain : slotWord s k i % 4 ≢ 3 → Goal (step k i s)
       entry-plain other =
           subst Goal (entry-none rec s depth k i R inside other)
-          (record { move = compact-leaf S (λ u. compactTree depth u) depth (R .low) (λ table. other (table .1)); size = record { same-tables = refl; same-words = refl } })
+          (record {
+            move = compact-leaf S (λ u. compactTree depth u) depth (R .low) (λ table. other (table .1));
+            size = record { same-tables = refl; same-words = refl };
+          })
 
       -- it refers to table c: that is compacted, and freed if that leaves it empty
       module _ (c : ℕ) (r : Refers C (view s) k i c) where
@@ -124,12 +132,17 @@ module _ {h : Handle} (placed : Placed h) where
         freed : SameSize after (clear c (storeAt k i 0 after))
         freed =
             let stored = length-set (after .words) (512 * k + i) 0 in
-            record { same-tables = clear-tables c (storeAt k i 0 after); same-words = clear-words c (storeAt k i 0 after) (omega (arith, at, stored)) ∙ stored }
+            record {
+              same-tables = clear-tables c (storeAt k i 0 after);
+              same-words = clear-words c (storeAt k i 0 after) (omega (arith, at, stored)) ∙ stored;
+            }
 
         entry-refers : Goal (step k i s)
         entry-refers = byBool (allZero (tableWords after c))
             (λ yes. subst Goal (release-freed k i c after yes ∙ goes) (record {
-              move = compact-drop S (λ u. compactTree depth u) depth (R .used) r (worked .work) inside (R .low) (sym (empty-is after c at) ∙ yes)
+              move =
+                  compact-drop S (λ u. compactTree depth u) depth (R .used) r (worked .work) inside (R .low)
+                  (sym (empty-is after c at) ∙ yes)
                   (cleared placed pool k i 0 used inside still);
               size = size-trans (worked .size) freed;
             }))
@@ -176,7 +189,8 @@ module _ {h : Handle} (placed : Placed h) where
   -- COMPACT of a table: its tree is compacted
   pub table-worked : (depth : ℕ) → Below depth
   unfolding compactTable compactTree
-  table-worked zero s k R = record { work = work-skip (pool-sound placed (R .pool)) 0 k; size = record { same-tables = refl; same-words = refl } }
+  table-worked zero s k R =
+      record { work = work-skip (pool-sound placed (R .pool)) 0 k; size = record { same-tables = refl; same-words = refl } }
   table-worked (suc depth) s k R =
       let all = ran depth (table-worked depth) s k 512 (omega arith) R in
       record { work = runs-work (λ i t. squash (λ u. compactTree depth u) t) (all .runs); size = all .size }

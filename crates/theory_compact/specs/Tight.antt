@@ -1,4 +1,4 @@
--- A pool with no empty table but the root: so its tree says, and so its words; compact changes nothing in it. Assumes nothing.
+-- A pool with no empty table but the root: so its tree says, and so its words; compact changes nothing in it.
 use mathlib.Core.Path.{_≡_, refl, sym, ap, _∙_, subst}
 use mathlib.Core.Bool.{false}
 use mathlib.Core.Logic.{_⊎_, inl, inr, _≢_}
@@ -32,18 +32,22 @@ module _ {C : Codec} {s : State} (S : Sound C s) where
   tight-slot depth k i c inside r tight =
       rw (← slot-refers depth r) (subst (Tight (suc depth)) (treeAt-node (C .child) (suc depth) (s .word) k) tight i inside)
 
-  tight-under : (depth k : ℕ) → LevelsLeft C s k depth → Tight depth (treeOf C s depth k) → (d j : ℕ) → Under C s k (suc d) j → emptyWords (s .word j) ≡ false
+  tight-under : (depth k : ℕ) → LevelsLeft C s k depth → Tight depth (treeOf C s depth k) → (d j : ℕ) → Under C s k (suc d) j
+      → emptyWords (s .word j) ≡ false
   tight-under zero k low tight d j under = absurd (omega (arith, low, under .deep, C .level-le (s .ledger j)))
   tight-under (suc depth) k low tight d j under =
       let via = under-via S under in
       let r = via .refers in
       let inside : via .slot < 512 = rw (← r .at) (C .slot-lt (s .ledger (via .top))) in
       let at = tight-slot depth k (via .slot) (via .top) inside r tight in
-      go (via .top) (via .deep) (via .under) (at .0) (λ m below. tight-under depth (via .top) (omega (arith, low, refers-level r)) (at .1) m j below)
+      go (via .top) (via .deep) (via .under) (at .0)
+      (λ m below. tight-under depth (via .top) (omega (arith, low, refers-level r)) (at .1) m j below)
     where
-      go : (c m : ℕ) → Under C s c m j → emptyTree (treeOf C s depth c) ≡ false → ((m : ℕ) → Under C s c (suc m) j → emptyWords (s .word j) ≡ false)
+      go : (c m : ℕ) → Under C s c m j → emptyTree (treeOf C s depth c) ≡ false
+          → ((m : ℕ) → Under C s c (suc m) j → emptyWords (s .word j) ≡ false)
           → emptyWords (s .word j) ≡ false
-      go c zero below here deeper = ap (λ (q : ℕ). emptyWords (s .word q)) (under-zero below) ∙ sym (empty-tree (C .child) depth (s .word) c) ∙ here
+      go c zero below here deeper =
+          ap (λ (q : ℕ). emptyWords (s .word q)) (under-zero below) ∙ sym (empty-tree (C .child) depth (s .word) c) ∙ here
       go c (suc m) below here deeper = deeper m below
 
 -- ---- no table but the root is all zero
@@ -80,9 +84,11 @@ module _ {h : Handle} (placed : Placed h) {s : St} (none : NoneEmpty s) where
           let to = S .names k i (R .used) (omega (arith, R .low), both) in
           let c = to .0 in
           let r = to .1 in
-          let other : c ≢ 0 = λ e. root-not-hung {C = codecOf h placed} {s = view s} {k = c} (e, ap (numberAt s) e ∙ R .pool .root) (r .hung) in
+          let other : c ≢ 0 =
+          λ e. root-not-hung {C = codecOf h placed} {s = view s} {k = c} (e, ap (numberAt s) e ∙ R .pool .root) (r .hung) in
           sym (entry-some rec s depth k i R inside placed c r)
-          ∙ ap (releaseEmpty k i c) (below c (record { shape = R .shape; pool = R .pool; used = r .used; low = omega (arith, R .low, refers-level r) }))
+          ∙ ap (releaseEmpty k i c)
+          (below c (record { shape = R .shape; pool = R .pool; used = r .used; low = omega (arith, R .low, refers-level r) }))
           ∙ sym (release-kept k i c s (none c other (r .used)))
       go (inr other) = sym (entry-none rec s depth k i R inside other)
 

@@ -1,4 +1,4 @@
--- The lines that slips share, decided: a line is on the slip and the definitions' test says so, or neither. Leans on `Slip`. Assumes nothing.
+-- The lines that slips share, decided: a line is on the slip and the definitions' test says so, or neither. Leans on `Slip`.
 use mathlib.Core.Path.{_≡_, refl, sym, _∙_}
 use mathlib.Core.Bool.{true, false}
 use mathlib.Core.Logic.{_⊎_, inl, inr, ⊎-elim, _≢_}
@@ -24,17 +24,25 @@ use Rattle.pool.specs.declared.Refusal.the-variants.{RegionBackwards, AddressRa
 use Rattle.pool.specs.declared.Outcome.the-variants.{Accepted, Refused}
 use Rattle.theory_sound.specs.Clauses.{SoundPool}
 use Rattle.theory_sound.specs.Decide.{sound-exactly}
-use Rattle.region_verify.specs.Verify.{endFits, inRange, verify, refused-never, lower-start, lower-end, lower-in, upper-start, upper-in, verify-backwards, verify-forwards}
+use Rattle.region_verify.specs.Verify.{endFits, inRange, verify, refused-never, lower-start, lower-end, lower-in, upper-start, upper-in}
+use Rattle.region_verify.specs.Verify.{verify-backwards, verify-forwards}
 use Rattle.look_up.specs.Call.{spanned, span-lower, span-upper}
 use Rattle.map_verify.specs.Ask.{frameAsked, frame-part, frame-past, frame-fits}
 use Rattle.theory_demands.specs.Slip.{Misshaped, BadEnd, OutsideSet, Backwards, BeyondRange, BeyondSpan, BadFrame}
 
 -- 1
 pub misshaped : (h : Handle) (s : St) → shaped h s ≡ false → Misshaped h s
-misshaped h s fails = ⊎-elim (λ l. inl (omega arith)) (λ some. inr (⊎-elim (λ limit. inr (⊎-elim (λ sized. inr (⊎-elim (λ paged. inr (⊎-elim (λ ended. inr (⊎-elim
-    (λ low. absurd (let t : T (shaped h s) = says-shaped h s (record { some = some; limit = limit; sized = sized; paged = paged; ended = ended; level = low }) in rw fails at t))
+misshaped h s fails =
+    ⊎-elim (λ l. inl (omega arith))
+    (λ some. inr (⊎-elim (λ limit. inr (⊎-elim (λ sized. inr (⊎-elim (λ paged. inr (⊎-elim (λ ended. inr (⊎-elim
+    (λ low. absurd
+    (let t : T (shaped h s) = says-shaped h s
+    (record { some = some; limit = limit; sized = sized; paged = paged; ended = ended; level = low }) in
+    rw fails at t))
     (λ l. l) (le-or (h .level) 3)))
-    (λ l. inl l) (le-or (h .base .0 + 4096 * tables s) (2 ^ 48)))) (λ n. inl n) (eq-or (h .base .0 % 4096) 0))) (λ n. inl n) (eq-or (length (s .words)) (512 * tables s))))
+    (λ l. inl l)
+    (le-or (h .base .0 + 4096 * tables s) (2 ^ 48)))) (λ n. inl n) (eq-or (h .base .0 %
+    4096) 0))) (λ n. inl n) (eq-or (length (s .words)) (512 * tables s))))
     (λ l. inl l) (le-or (tables s) maxTables))) (le-or (tables s) 0)
 
 pub well-shaped : (h : Handle) (s : St) → shaped h s ≡ true → Shaped h s
@@ -70,7 +78,8 @@ range-told Lower level r = go (le-or (2 ^ 63) (r .start .0)) (le-or (r .end .0) 
         ⊎ ((inRange Lower level r ≡ Accepted) × ((a : VirtualAddress) → ¬ (BeyondRange Lower level r a)))
     go (inl l) m = inl (r .start, sym (lower-start Lower level r refl refl l), inl (l, refl))
     go (inr l) (inr m) = inl (r .end, sym (lower-end Lower level r refl refl l m), inr (l, m, refl))
-    go (inr l) (inl m) = inr (sym (lower-in Lower level r refl refl l m), λ a x. ⊎-elim (λ p. omega (arith, p .0)) (λ p. omega (arith, p .1)) x)
+    go (inr l) (inl m) =
+        inr (sym (lower-in Lower level r refl refl l m), λ a x. ⊎-elim (λ p. omega (arith, p .0)) (λ p. omega (arith, p .1)) x)
 range-told Upper level r = go (le-or (2 ^ 64 - 512 * sizeAt level) (r .start .0))
   where
     go : (2 ^ 64 - 512 * sizeAt level ≤ r .start .0) ⊎ (r .start .0 < 2 ^ 64 - 512 * sizeAt level)
@@ -110,13 +119,15 @@ pub end-told : (end : ℕ) → ((endFits end ≡ false) × BadEnd end) ⊎ ((end
 unfolding endFits
 end-told end = go (le-or 1 end) (le-or end (2 ^ 64 - 4096))
   where
-    go : (1 ≤ end) ⊎ (end < 1) → (end ≤ 2 ^ 64 - 4096) ⊎ (2 ^ 64 - 4096 < end) → ((endFits end ≡ false) × BadEnd end) ⊎ ((endFits end ≡ true) × (¬ (BadEnd end)))
+    go : (1 ≤ end) ⊎ (end < 1) → (end ≤ 2 ^ 64 - 4096) ⊎ (2 ^ 64 - 4096 < end)
+        → ((endFits end ≡ false) × BadEnd end) ⊎ ((endFits end ≡ true) × (¬ (BadEnd end)))
     go (inr l) m = inl (rw (lt-leb 1 end l), inl (omega arith))
     go (inl l) (inr m) = inl (rw (le-leb 1 end l, lt-leb end (2 ^ 64 - 4096) m), inr m)
     go (inl l) (inl m) = inr (rw (le-leb 1 end l, le-leb end (2 ^ 64 - 4096) m), λ x. ⊎-elim (λ e. omega arith) (λ e. omega arith) x)
 
 -- 4
-pub set-told : (h : Handle) (flags : ℕ) → ((only (flagSet h) flags ≡ false) × OutsideSet h flags) ⊎ ((only (flagSet h) flags ≡ true) × (¬ (OutsideSet h flags)))
+pub set-told : (h : Handle) (flags : ℕ)
+    → ((only (flagSet h) flags ≡ false) × OutsideSet h flags) ⊎ ((only (flagSet h) flags ≡ true) × (¬ (OutsideSet h flags)))
 unfolding only
 set-told h flags = ⊎-elim (λ x. inr (x .1, λ n. n (x .0))) (λ x. inl (x .1, x .0)) (eqb-cases (bitAnd flags (flagSet h)) flags)
 
@@ -130,13 +141,19 @@ span-told Lower level va = ⊎-elim
 span-told Upper level va =
     let z = size-high level in
     ⊎-elim
-    (λ l. inr (sym (span-upper Upper level va (sizeAt level) refl refl) ∙ lt-ltb (18446744073709551615 - 512 * sizeAt level) va (omega arith), λ m. omega arith))
-    (λ l. inl (sym (span-upper Upper level va (sizeAt level) refl refl) ∙ le-ltb (18446744073709551615 - 512 * sizeAt level) va (omega arith), l))
+    (λ l. inr (
+      sym (span-upper Upper level va (sizeAt level) refl refl)
+          ∙ lt-ltb (18446744073709551615 - 512 * sizeAt level) va (omega arith),
+      λ m. omega arith,
+    ))
+    (λ l. inl
+    (sym (span-upper Upper level va (sizeAt level) refl refl) ∙ le-ltb (18446744073709551615 - 512 * sizeAt level) va (omega arith), l))
     (le-or (2 ^ 64 - 512 * sizeAt level) va)
 
 -- 7
 pub frame-told : (frame : ℕ) (r : MemoryRegion) → let length = r .end .0 - r .start .0 in
-    ((frameAsked frame length ≡ Refused (Frame (record { 0 = frame }))) × BadFrame frame r) ⊎ ((frameAsked frame length ≡ Accepted) × (¬ (BadFrame frame r)))
+    ((frameAsked frame length ≡ Refused (Frame (record { 0 = frame }))) × BadFrame frame r)
+    ⊎ ((frameAsked frame length ≡ Accepted) × (¬ (BadFrame frame r)))
 frame-told frame r =
     let length = r .end .0 - r .start .0 in
     ⊎-elim

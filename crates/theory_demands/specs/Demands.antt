@@ -1,5 +1,5 @@
--- THE DEMANDS, each sentence a theorem about the definitions that the public contracts cite. Demand 1's tables are in `Slip`; demands 2 and 3 are said in the words of
--- theory_map's `Terms` and proved in theory_map's `Mapped`: what stands here beside them is what follows. Assumes nothing.
+-- THE DEMANDS, each sentence a theorem about the definitions that the public contracts cite. Demand 1's tables are in `Slip`; demands 2 and
+-- 3 are said in the words of theory_map's `Terms` and proved in theory_map's `Mapped`: what stands here beside them is what follows.
 use mathlib.Core.Path.{_≡_, ap, _∙_}
 use mathlib.Core.Bool.{Bool}
 use mathlib.Core.List.{List, [], _∷_}
@@ -38,27 +38,33 @@ use Rattle.theory_demands.specs.Modify.{modify-told}
 -- (`map-told` and its like say more: what is carried, and that nothing on the slip means no refusal.)
 
 pub make-refused-exactly : (h : Handle) (s : St) (n : ℕ)
-    → ((r : Refusal) × (makeCall h s .answer ≡ outcome.Refused r) × (number r ≡ n)) ↔ ((r : Refusal) × LowestGiven (MakeSlip h s) r × (number r ≡ n))
+    → ((r : Refusal) × (makeCall h s .answer ≡ outcome.Refused r) × (number r ≡ n))
+    ↔ ((r : Refusal) × LowestGiven (MakeSlip h s) r × (number r ≡ n))
 make-refused-exactly h s n = exactly (make-told h s) (λ r q e. cc e) n
 
 pub check-refused-exactly : (h : Handle) (s : St) (n : ℕ)
-    → ((r : Refusal) × (checkCall h s ≡ outcome.Refused r) × (number r ≡ n)) ↔ ((r : Refusal) × LowestGiven (CheckSlip h s) r × (number r ≡ n))
+    → ((r : Refusal) × (checkCall h s ≡ outcome.Refused r) × (number r ≡ n))
+    ↔ ((r : Refusal) × LowestGiven (CheckSlip h s) r × (number r ≡ n))
 check-refused-exactly h s n = exactly (check-told h s) (λ r q e. cc e) n
 
 pub compact-refused-exactly : (h : Handle) (s : St) (n : ℕ)
-    → ((r : Refusal) × (compactCall h s .answer ≡ counted.Refused r) × (number r ≡ n)) ↔ ((r : Refusal) × LowestGiven (CheckSlip h s) r × (number r ≡ n))
+    → ((r : Refusal) × (compactCall h s .answer ≡ counted.Refused r) × (number r ≡ n))
+    ↔ ((r : Refusal) × LowestGiven (CheckSlip h s) r × (number r ≡ n))
 compact-refused-exactly h s n = exactly (compact-told h s) (λ r q e. cc e) n
 
 pub look-up-refused-exactly : (h : Handle) (s : St) (va n : ℕ)
-    → ((r : Refusal) × (lookUpCall h s va ≡ looked.Refused r) × (number r ≡ n)) ↔ ((r : Refusal) × LowestGiven (LookUpSlip h s va) r × (number r ≡ n))
+    → ((r : Refusal) × (lookUpCall h s va ≡ looked.Refused r) × (number r ≡ n))
+    ↔ ((r : Refusal) × LowestGiven (LookUpSlip h s va) r × (number r ≡ n))
 look-up-refused-exactly h s va n = exactly (look-up-told h s va) (λ r q e. cc e) n
 
 pub image-refused-exactly : (h : Handle) (s : St) (k : ℕ) (page : List ℕ) (n : ℕ)
-    → ((r : Refusal) × (imageCall h s k page .answer ≡ outcome.Refused r) × (number r ≡ n)) ↔ ((r : Refusal) × LowestGiven (ImageSlip h s k page) r × (number r ≡ n))
+    → ((r : Refusal) × (imageCall h s k page .answer ≡ outcome.Refused r) × (number r ≡ n))
+    ↔ ((r : Refusal) × LowestGiven (ImageSlip h s k page) r × (number r ≡ n))
 image-refused-exactly h s k page n = exactly (image-told h s k page) (λ r q e. cc e) n
 
 pub list-refused-exactly : (h : Handle) (s : St) (start end : ℕ) (list : List ℕ) (n : ℕ)
-    → ((r : Refusal) × (listCall h s start end list .answer ≡ listed.Refused r) × (number r ≡ n)) ↔ ((r : Refusal) × LowestGiven (ListSlip h s start end list) r × (number r ≡ n))
+    → ((r : Refusal) × (listCall h s start end list .answer ≡ listed.Refused r) × (number r ≡ n))
+    ↔ ((r : Refusal) × LowestGiven (ListSlip h s start end list) r × (number r ≡ n))
 list-refused-exactly h s start end list n = exactly (list-told h s start end list) (λ r q e. cc e) n
 
 pub map-refused-exactly : (h : Handle) (s : St) (start end frame flags constraints n : ℕ)
@@ -73,7 +79,9 @@ module _ (h : Handle) (s : St) (start end set clear : ℕ) (live : Bool) (list :
   modify-refused-exactly n = exactly answered (λ r q e. cc e) n
     where
       answered : Told (ModifySlip h s start end set clear live list) modified.Refused (modifyCall h start end set clear live s list .answer)
-      answered = ⊎-elim (λ t. inl (t .0, ap (λ (x : Modifying). x .answer) (t .1), t .2)) (λ t. inr t) (modify-told h s start end set clear live list)
+      answered =
+          ⊎-elim (λ t. inl (t .0, ap (λ (x : Modifying). x .answer) (t .1), t .2)) (λ t. inr t)
+          (modify-told h s start end set clear live list)
 
 -- ---- DEMAND 2, after an accepted map: "each table in use hangs from the root exactly once"
 
@@ -104,11 +112,16 @@ module _ {h : Handle} {c : MapArguments} {s s′ : St} {n : ℕ} (maps : Maps h 
 
 module _ {h : Handle} {c d : MapArguments} {s s′ : St} (apart : RegionsApart c d) where
   -- each page of either region walks to its frame and flags, every other address as before both
-  pub both-first : InTurn h (c ∷ d ∷ []) s s′ → Valid c → (va : ℕ) → InSpan h va → InMapRegion c va → shown (walkOf h s′ va) ≡ mapped (c .flags) (frameFor c va)
-  both-first (next maps (next later none)) valid va spans at = map-elsewhere-as-before later va spans (apart va at) ∙ map-region-walks maps va at valid
+  pub both-first : InTurn h (c ∷ d ∷ []) s s′ → Valid c → (va : ℕ) → InSpan h va → InMapRegion c va
+      → shown (walkOf h s′ va) ≡ mapped (c .flags) (frameFor c va)
+  both-first (next maps (next later none)) valid va spans at =
+      map-elsewhere-as-before later va spans (apart va at) ∙ map-region-walks maps va at valid
 
-  pub both-second : InTurn h (c ∷ d ∷ []) s s′ → Valid d → (va : ℕ) → InMapRegion d va → shown (walkOf h s′ va) ≡ mapped (d .flags) (frameFor d va)
+  pub both-second : InTurn h (c ∷ d ∷ []) s s′ → Valid d → (va : ℕ) → InMapRegion d va
+      → shown (walkOf h s′ va) ≡ mapped (d .flags) (frameFor d va)
   both-second (next maps (next later none)) valid va at = map-region-walks later va at valid
 
-  pub both-elsewhere : InTurn h (c ∷ d ∷ []) s s′ → (va : ℕ) → InSpan h va → ¬ (InMapRegion c va) → ¬ (InMapRegion d va) → shown (walkOf h s′ va) ≡ shown (walkOf h s va)
-  both-elsewhere (next maps (next later none)) va spans first second = map-elsewhere-as-before later va spans second ∙ map-elsewhere-as-before maps va spans first
+  pub both-elsewhere : InTurn h (c ∷ d ∷ []) s s′ → (va : ℕ) → InSpan h va → ¬ (InMapRegion c va) → ¬ (InMapRegion d va)
+      → shown (walkOf h s′ va) ≡ shown (walkOf h s va)
+  both-elsewhere (next maps (next later none)) va spans first second =
+      map-elsewhere-as-before later va spans second ∙ map-elsewhere-as-before maps va spans first

@@ -1,4 +1,4 @@
--- The theorems are not empty: calls of the starred table that meet what they ask. Leans on theory_case_rows. Assumes nothing.
+-- The theorems are not empty: calls of the starred table that meet what they ask. Leans on theory_case_rows.
 use mathlib.Core.Path.{refl}
 use mathlib.Core.Bool.{true}
 use mathlib.Core.List.{[], _∷_}

@@ -1,5 +1,5 @@
--- Demand 1 of modify: refused by the lowest number on its slip, and by none where nothing is on it; a refusal leaves pool and list. Leans on `Slip`, `Told`,
--- `Decided`. Assumes nothing.
+-- Demand 1 of modify: refused by the lowest number on its slip, and by none where nothing is on it; a refusal leaves pool and list. Leans
+-- on `Slip`, `Told`, `Decided`.
 use mathlib.Core.Path.{_≡_, refl, sym, ap, _∙_}
 use mathlib.Core.Bool.{Bool, true, false}
 use mathlib.Core.List.{List}
@@ -19,7 +19,8 @@ use Rattle.pool.specs.Refuse.{shaped, number}
 use Rattle.pool.specs.Sound.{soundb, flagSet}
 use Rattle.pool.specs.declared.Handle.{Handle}
 use Rattle.pool.specs.declared.Refusal.{Refusal}
-use Rattle.pool.specs.declared.Refusal.the-variants.{Shape, End, InvalidFlags, FlagSet, RegionBackwards, AddressRange, Unsound, WantOfRoom, HouseRule, Short}
+use Rattle.pool.specs.declared.Refusal.the-variants.{Shape, End, InvalidFlags, FlagSet, RegionBackwards, AddressRange, Unsound, WantOfRoom}
+use Rattle.pool.specs.declared.Refusal.the-variants.{HouseRule, Short}
 use Rattle.pool.specs.declared.Outcome.{Outcome}
 use Rattle.pool.specs.declared.Outcome.the-variants.{Accepted, Refused}
 use Rattle.theory_sound.specs.Clauses.{SoundPool}
@@ -27,16 +28,21 @@ use Rattle.region_verify.specs.Verify.{endFits, verify}
 use Rattle.modify_entry.specs.declared.Edit.{Edit}
 use Rattle.modify_survey.specs.declared.Survey.{Survey}
 use Rattle.modify.specs.declared.Modified.the-variants as modified
-use Rattle.modify_verify.specs.Permit.{askedEdit, verifyBits, verifyEdit, verifySurvey, bits-set-invalid, bits-clear-invalid, bits-set-outside, bits-set-valid, bits-clash, bits-clear-outside}
-use Rattle.modify_verify.specs.Permit.{bits-accepted, edit-end, edit-bits, edit-region, survey-full, survey-off, survey-broken, survey-short, survey-accepted}
-use Rattle.modify.specs.Call.{Modifying, modifying, answerOf, editTables, surveyOf, modifySound, modifyCall, sound-not, sound-refused, sound-edited, call-misshaped, call-refused}
+use Rattle.modify_verify.specs.Permit.{askedEdit, verifyBits, verifyEdit, verifySurvey, bits-set-invalid, bits-clear-invalid}
+use Rattle.modify_verify.specs.Permit.{bits-set-outside, bits-set-valid, bits-clash, bits-clear-outside}
+use Rattle.modify_verify.specs.Permit.{bits-accepted, edit-end, edit-bits, edit-region, survey-full, survey-off, survey-broken}
+use Rattle.modify_verify.specs.Permit.{survey-short, survey-accepted}
+use Rattle.modify.specs.Call.{Modifying, modifying, answerOf, editTables, surveyOf, modifySound, modifyCall, sound-not, sound-refused}
+use Rattle.modify.specs.Call.{sound-edited, call-misshaped, call-refused}
 use Rattle.modify.specs.Call.{call-asked}
 use Rattle.theory_modify.specs.Terms.{ModifyArguments, ModifyPassed}
 use Rattle.theory_modify.specs.House.{LowestBreach}
 use Rattle.theory_modify.specs.Modified.{house-rule-lowest}
-use Rattle.theory_demands.specs.Slip.{Misshaped, BadEnd, HasBit1, OutsideSet, Backwards, BeyondRange, BadBit, BadToSet, BadFlags, ModifySlip}
+use Rattle.theory_demands.specs.Slip.{Misshaped, BadEnd, HasBit1, OutsideSet, Backwards, BeyondRange, BadBit, BadToSet, BadFlags}
+use Rattle.theory_demands.specs.Slip.{ModifySlip}
 use Rattle.theory_demands.specs.Told.{LowestGiven, none-below, number-range, shape-lowest}
-use Rattle.theory_demands.specs.Decided.{misshaped, well-shaped, not-misshaped, unsound, sound, RegionStands, region-told, end-told, set-told}
+use Rattle.theory_demands.specs.Decided.{misshaped, well-shaped, not-misshaped, unsound, sound, RegionStands, region-told, end-told}
+use Rattle.theory_demands.specs.Decided.{set-told}
 
 -- ---- 3 and 4, decided
 
@@ -68,10 +74,25 @@ module _ (h : Handle) (set clear : ℕ) where
           good-set x = ⊎-elim (from .1) (λ y. ⊎-elim even (λ n. n apart) y) x
 
           outside-clear : (only (flagSet h) clear ≡ false) × OutsideSet h clear → BitsTold h set clear
-          outside-clear x = inr (inl (clear, bits-clear-outside h set clear one two (from .0) even apart (x .0), no-bit one two, inr (refl, good-set, x .1)))
+          outside-clear x =
+              inr
+              (inl (
+                clear,
+                bits-clear-outside h set clear one two (from .0) even apart (x .0),
+                no-bit one two,
+                inr
+                    (refl, good-set, x .1),
+              ))
 
           accepted : (only (flagSet h) clear ≡ true) × (¬ (OutsideSet h clear)) → BitsTold h set clear
-          accepted x = inr (inr (bits-accepted h set clear one two (from .0) even apart (x .0), no-bit one two, λ g y. ⊎-elim (λ a. good-set (a .1)) (λ a. x .1 (a .2)) y))
+          accepted x =
+              inr
+              (inr (
+                bits-accepted h set clear one two (from .0) even apart (x .0),
+                no-bit one two,
+                λ g y. ⊎-elim (λ a. good-set (a .1))
+                    (λ a. x .1 (a .2)) y,
+              ))
 
   bits-told : BitsTold h set clear
   bits-told = ⊎-elim
@@ -82,7 +103,8 @@ module _ (h : Handle) (set clear : ℕ) where
       (λ from. ⊎-elim (valid-set one two from)
       (λ even. ⊎-elim
       (λ apart. ⊎-elim (outside-clear one two from even apart) (accepted one two from even apart) (set-told h clear))
-      (clash one two from even) (eq-or (bitAnd set clear) 0)) (eq-or (set % 2) 1)) (set-told h set)) (eq-or (clear / 2 % 2) 1)) (eq-or (set / 2 % 2) 1)
+      (clash one two from even) (eq-or (bitAnd set clear) 0)) (eq-or
+      (set % 2) 1)) (set-told h set)) (eq-or (clear / 2 % 2) 1)) (eq-or (set / 2 % 2) 1)
 
 -- ---- the call
 
@@ -109,9 +131,12 @@ module _ (h : Handle) (s : St) (start end set clear : ℕ) (live : Bool) (list :
   abbrev r : MemoryRegion
   r = rounded start end
 
-  below : (n : ℕ) → (1 < n → ¬ (Misshaped h s)) → (2 < n → ¬ (BadEnd end)) → (3 < n → (f : ℕ) → ¬ (BadBit set clear f)) → (4 < n → (f : ℕ) → ¬ (BadFlags h set clear f))
-      → (5 < n → ¬ (Backwards r)) → (6 < n → (a : VirtualAddress) → ¬ (BeyondRange (h .range) (h .level) r a)) → (8 < n → ¬ (¬ (SoundPool h s)))
-      → (9 < n → v .splits ≤ free (s .ledger)) → (10 < n → (w : ℕ) → ¬ ((live ≡ true) × LowestBreach h c s w)) → (11 < n → live ≡ true → v .numbers ≤ length list)
+  below : (n : ℕ) → (1 < n → ¬ (Misshaped h s)) → (2 < n → ¬ (BadEnd end)) → (3 < n → (f : ℕ) → ¬ (BadBit set clear f))
+      → (4 < n → (f : ℕ) → ¬ (BadFlags h set clear f))
+      → (5 < n → ¬ (Backwards r)) → (6 < n → (a : VirtualAddress) → ¬ (BeyondRange (h .range) (h .level) r a))
+      → (8 < n → ¬ (¬ (SoundPool h s)))
+      → (9 < n → v .splits ≤ free (s .ledger)) → (10 < n → (w : ℕ) → ¬ ((live ≡ true) × LowestBreach h c s w))
+      → (11 < n → live ≡ true → v .numbers ≤ length list)
       → (q : Refusal) → number q < n → ¬ (Here q)
   unfolding ModifySlip
   below n one two three four five six eight nine ten eleven = none-below Here n one (λ l x g. two l (g .1)) three four
@@ -123,7 +148,9 @@ module _ (h : Handle) (s : St) (start end set clear : ℕ) (live : Bool) (list :
 
   -- refused by the lowest, with pool and list as they were; or nothing is on the slip and it is no refusal
   abbrev Goal : Type 0
-  Goal = ((x : Refusal) × (Whole ≡ modifying (modified.Refused x) s list) × LowestGiven Here x) ⊎ (((q : Refusal) → ¬ (Here q)) × ((x : Refusal) → Whole .answer ≢ modified.Refused x))
+  Goal =
+      ((x : Refusal) × (Whole ≡ modifying (modified.Refused x) s list) × LowestGiven Here x)
+      ⊎ (((q : Refusal) → ¬ (Here q)) × ((x : Refusal) → Whole .answer ≢ modified.Refused x))
 
   module _ (fits : shaped h s ≡ true) where
     refused-by : (x : Refusal) → Refused x ≡ verifyEdit h end e → LowestGiven Here x → Goal
@@ -134,7 +161,8 @@ module _ (h : Handle) (s : St) (start end set clear : ℕ) (live : Bool) (list :
     bad-end x = refused-by (End end) (edit-end h end e (x .0)) (record {
       given = (refl, x .1);
       lower =
-          below 2 (λ l. not-misshaped h s fits) (λ l. absurd (omega arith)) (λ l. absurd (omega arith)) (λ l. absurd (omega arith)) (λ l. absurd (omega arith))
+          below 2 (λ l. not-misshaped h s fits) (λ l. absurd (omega arith)) (λ l. absurd (omega arith)) (λ l. absurd (omega arith))
+          (λ l. absurd (omega arith))
           (λ l. absurd (omega arith))
           (λ l. absurd (omega arith)) (λ l. absurd (omega arith)) (λ l. absurd (omega arith)) (λ l. absurd (omega arith));
     })
@@ -144,19 +172,25 @@ module _ (h : Handle) (s : St) (start end set clear : ℕ) (live : Bool) (list :
       unfolding ModifySlip askedEdit
       bad-bit x = refused-by (InvalidFlags (x .0)) (edit-bits h end e ends (x .1) (InvalidFlags (x .0)) refl) (record {
         given = x .2;
-        lower = below 3 (λ l. not-misshaped h s fits) (λ l. good) (λ l. absurd (omega arith)) (λ l. absurd (omega arith)) (λ l. absurd (omega arith)) (λ l. absurd (omega arith))
+        lower =
+            below 3 (λ l. not-misshaped h s fits) (λ l. good) (λ l. absurd (omega arith)) (λ l. absurd (omega arith))
+            (λ l. absurd (omega arith)) (λ l. absurd (omega arith))
             (λ l. absurd (omega arith)) (λ l. absurd (omega arith)) (λ l. absurd (omega arith)) (λ l. absurd (omega arith));
       })
 
-      bad-flags : ((f : ℕ) × (Refused (FlagSet f) ≡ verifyBits h set clear) × ((g : ℕ) → ¬ (BadBit set clear g)) × BadFlags h set clear f) → Goal
+      bad-flags : ((f : ℕ) × (Refused (FlagSet f) ≡ verifyBits h set clear) × ((g : ℕ) → ¬ (BadBit set clear g)) × BadFlags h set clear f)
+          → Goal
       unfolding ModifySlip askedEdit
       bad-flags x = refused-by (FlagSet (x .0)) (edit-bits h end e ends (x .1) (FlagSet (x .0)) refl) (record {
         given = x .3;
-        lower = below 4 (λ l. not-misshaped h s fits) (λ l. good) (λ l. x .2) (λ l. absurd (omega arith)) (λ l. absurd (omega arith)) (λ l. absurd (omega arith))
+        lower =
+            below 4 (λ l. not-misshaped h s fits) (λ l. good) (λ l. x .2) (λ l. absurd (omega arith)) (λ l. absurd (omega arith))
+            (λ l. absurd (omega arith))
             (λ l. absurd (omega arith)) (λ l. absurd (omega arith)) (λ l. absurd (omega arith)) (λ l. absurd (omega arith));
       })
 
-      module _ (bits : (Accepted ≡ verifyBits h set clear) × ((g : ℕ) → ¬ (BadBit set clear g)) × ((g : ℕ) → ¬ (BadFlags h set clear g))) where
+      module _
+          (bits : (Accepted ≡ verifyBits h set clear) × ((g : ℕ) → ¬ (BadBit set clear g)) × ((g : ℕ) → ¬ (BadFlags h set clear g))) where
         region-is : verify h r ≡ verifyEdit h end e
         unfolding askedEdit
         region-is = edit-region h end e ends (bits .0) refl
@@ -165,11 +199,15 @@ module _ (h : Handle) (s : St) (start end set clear : ℕ) (live : Bool) (list :
         unfolding ModifySlip
         backwards x = refused-by (RegionBackwards r) (sym (x .0) ∙ region-is) (record {
           given = (refl, x .1);
-          lower = below 5 (λ l. not-misshaped h s fits) (λ l. good) (λ l. bits .1) (λ l. bits .2) (λ l. absurd (omega arith)) (λ l. absurd (omega arith))
+          lower =
+              below 5 (λ l. not-misshaped h s fits) (λ l. good) (λ l. bits .1) (λ l. bits .2) (λ l. absurd (omega arith))
+              (λ l. absurd (omega arith))
               (λ l. absurd (omega arith)) (λ l. absurd (omega arith)) (λ l. absurd (omega arith)) (λ l. absurd (omega arith));
         })
 
-        beyond : ((a : VirtualAddress) × (verify h r ≡ Refused (AddressRange a)) × (¬ (Backwards r)) × BeyondRange (h .range) (h .level) r a) → Goal
+        beyond : ((a : VirtualAddress) × (verify h r ≡ Refused (AddressRange a)) × (¬ (Backwards r))
+            × BeyondRange (h .range) (h .level) r a)
+            → Goal
         unfolding ModifySlip
         beyond x = refused-by (AddressRange (x .0)) (sym (x .1) ∙ region-is) (record {
           given = x .3;
@@ -181,9 +219,12 @@ module _ (h : Handle) (s : St) (start end set clear : ℕ) (live : Bool) (list :
           whole-is : modifySound h e s list ≡ Whole
           whole-is = call-asked h start end set clear live s list fits region-is (stands .0)
 
-          lower : (n : ℕ) → (8 < n → ¬ (¬ (SoundPool h s))) → (9 < n → v .splits ≤ free (s .ledger)) → (10 < n → (w : ℕ) → ¬ ((live ≡ true) × LowestBreach h c s w))
+          lower : (n : ℕ) → (8 < n → ¬ (¬ (SoundPool h s))) → (9 < n → v .splits ≤ free (s .ledger))
+              → (10 < n → (w : ℕ) → ¬ ((live ≡ true) × LowestBreach h c s w))
               → (11 < n → live ≡ true → v .numbers ≤ length list) → (q : Refusal) → number q < n → ¬ (Here q)
-          lower n = below n (λ l. not-misshaped h s fits) (λ l. good) (λ l. bits .1) (λ l. bits .2) (λ l. stands .1 .forwards) (λ l. stands .1 .within)
+          lower n =
+              below n (λ l. not-misshaped h s fits) (λ l. good) (λ l. bits .1) (λ l. bits .2) (λ l. stands .1 .forwards)
+              (λ l. stands .1 .within)
 
           unsafe : soundb h s ≡ false → Goal
           unfolding ModifySlip
@@ -192,7 +233,8 @@ module _ (h : Handle) (s : St) (start end set clear : ℕ) (live : Bool) (list :
             sym (sound-not h e s list un ∙ whole-is),
             record {
               given = unsound h s fits un;
-              lower = lower 8 (λ l. absurd (omega arith)) (λ l. absurd (omega arith)) (λ l. absurd (omega arith)) (λ l. absurd (omega arith));
+              lower =
+                  lower 8 (λ l. absurd (omega arith)) (λ l. absurd (omega arith)) (λ l. absurd (omega arith)) (λ l. absurd (omega arith));
             },
           )
 
@@ -210,7 +252,8 @@ module _ (h : Handle) (s : St) (start end set clear : ℕ) (live : Bool) (list :
                 let o : _≡_ {A = ℕ} 0 1 = cc in
                 omega arith
 
-            surveyed : {x : Outcome} → x ≡ verifySurvey (free (s .ledger)) (length list) live v → (y : Refusal) → x ≡ Refused y → LowestGiven Here y → Goal
+            surveyed : {x : Outcome} → x ≡ verifySurvey (free (s .ledger)) (length list) live v → (y : Refusal) → x ≡ Refused y
+                → LowestGiven Here y → Goal
             unfolding askedEdit
             surveyed told y q lowest = inl (y, sym (sound-refused h e s list is refl refl told y q ∙ whole-is), lowest)
 
@@ -220,15 +263,20 @@ module _ (h : Handle) (s : St) (start end set clear : ℕ) (live : Bool) (list :
             done told room rest = inr (
               (λ q. lower 12 (λ l g. g (sound h s fits is)) (λ l. room) (λ l w g. no-breach (rest (g .0) .0) w g)
                   (λ l on. rest on .1) q (number-range q .1)),
-              λ x q. edited-not h e s list x (ap (λ (y : Modifying). y .answer) (sound-edited h e s list is refl refl told refl ∙ whole-is) ∙ q),
+              λ x q. edited-not h e s list x
+                  (ap (λ (y : Modifying). y .answer) (sound-edited h e s list is refl refl told refl ∙ whole-is) ∙ q),
             )
 
             full : free (s .ledger) < v .splits → Goal
             unfolding ModifySlip
-            full short = surveyed (survey-full (free (s .ledger)) (length list) live v short) (WantOfRoom (v .splits) (free (s .ledger))) refl (record {
-              given = (refl, refl, short);
-              lower = lower 9 (λ l g. g (sound h s fits is)) (λ l. absurd (omega arith)) (λ l. absurd (omega arith)) (λ l. absurd (omega arith));
-            })
+            full short =
+                surveyed (survey-full (free (s .ledger)) (length list) live v short) (WantOfRoom (v .splits) (free (s .ledger))) refl
+                (record {
+                  given = (refl, refl, short);
+                  lower =
+                      lower 9 (λ l g. g (sound h s fits is)) (λ l. absurd (omega arith)) (λ l. absurd (omega arith))
+                      (λ l. absurd (omega arith));
+                })
 
             module _ (room : v .splits ≤ free (s .ledger)) where
               off : live ≡ false → Goal
@@ -247,11 +295,12 @@ module _ (h : Handle) (s : St) (start end set clear : ℕ) (live : Bool) (list :
                 module _ (kept : v .broken ≡ false) where
                   narrow : length list < v .numbers → Goal
                   unfolding ModifySlip
-                  narrow short = surveyed (survey-short (free (s .ledger)) (length list) live v room on kept short) (Short (v .numbers)) refl (record {
-                    given = (on, refl, short);
-                    lower = lower 11 (λ l g. g (sound h s fits is)) (λ l. room) (λ l. no-breach kept)
-                        (λ l. absurd (omega arith));
-                  })
+                  narrow short =
+                      surveyed (survey-short (free (s .ledger)) (length list) live v room on kept short) (Short (v .numbers)) refl (record {
+                        given = (on, refl, short);
+                        lower = lower 11 (λ l g. g (sound h s fits is)) (λ l. room) (λ l. no-breach kept)
+                            (λ l. absurd (omega arith));
+                      })
 
                   enough : v .numbers ≤ length list → Goal
                   enough l = done (survey-accepted (free (s .ledger)) (length list) live v room on kept l) room (λ q. (kept, l))
@@ -267,7 +316,8 @@ module _ (h : Handle) (s : St) (start end set clear : ℕ) (live : Bool) (list :
       (λ is. ⊎-elim
       (λ room. byBool live
       (λ on. byBool (v .broken) (broken fits (x .0) (x .1) bits stands is room on)
-      (λ kept. ⊎-elim (enough fits (x .0) (x .1) bits stands is room on kept) (narrow fits (x .0) (x .1) bits stands is room on kept) (le-or (v .numbers) (length list))))
+      (λ kept. ⊎-elim (enough fits (x .0) (x .1) bits stands is room on kept) (narrow fits (x .0) (x .1) bits stands is room on kept)
+      (le-or (v .numbers) (length list))))
       (off fits (x .0) (x .1) bits stands is room))
       (full fits (x .0) (x .1) bits stands is)
       (le-or (v .splits) (free (s .ledger))))

@@ -1,4 +1,4 @@
--- Demand 1: each call is refused by the lowest number on its slip, and by none where nothing is on it. Leans on `Slip`, `Told`, `Decided`. Assumes nothing.
+-- Demand 1: each call is refused by the lowest number on its slip, and by none where nothing is on it. Leans on `Slip`, `Told`, `Decided`.
 use mathlib.Core.Path.{_≡_, refl, sym, ap, _∙_}
 use mathlib.Core.Bool.{true, false}
 use mathlib.Core.List.{List}
@@ -18,7 +18,8 @@ use Rattle.make.specs.Call.{makeCall, make-refused, make-accepted}
 use Rattle.image.specs.Call.{Imaged, imageCall, image-misshaped, image-no-table, image-short, image-written}
 use Rattle.pool.specs.declared.Handle.{Handle}
 use Rattle.pool.specs.declared.Refusal.{Refusal}
-use Rattle.pool.specs.declared.Refusal.the-variants.{Shape, End, InvalidFlags, FlagSet, RegionBackwards, AddressRange, Frame, Unsound, WantOfRoom, Short}
+use Rattle.pool.specs.declared.Refusal.the-variants.{Shape, End, InvalidFlags, FlagSet, RegionBackwards, AddressRange, Frame, Unsound}
+use Rattle.pool.specs.declared.Refusal.the-variants.{WantOfRoom, Short}
 use Rattle.pool.specs.declared.Outcome.{Outcome}
 use Rattle.pool.specs.declared.Outcome.the-variants.{Accepted, Refused}
 use Rattle.pool.specs.declared.Counted.{Counted}
@@ -31,7 +32,8 @@ use Rattle.arm.specs.Arm.{Walked, hole, block, page as one-page, outside, walk}
 use Rattle.look_up.specs.Call.{answer, lookUpCall, look-misshaped, look-beyond, look-walks}
 use Rattle.look_up.specs.declared.Looked.the-variants as looked
 use Rattle.list_lines.specs.Lines.{linesOf}
-use Rattle.list.specs.Call.{Listing, verifyEnds, listLines, listCall, list-misshaped, list-region, list-unsound, list-sound, ends-past, ends-fit, list-short}
+use Rattle.list.specs.Call.{Listing, verifyEnds, listLines, listCall, list-misshaped, list-region, list-unsound, list-sound, ends-past}
+use Rattle.list.specs.Call.{ends-fit, list-short}
 use Rattle.list.specs.Call.{list-written}
 use Rattle.list.specs.declared.Listed.{Listed}
 use Rattle.list.specs.declared.Listed.the-variants as listed
@@ -39,10 +41,12 @@ use Rattle.map_count_spec.specs.Needed.{needed}
 use Rattle.map_rules.specs.declared.Map.{Map}
 use Rattle.map_verify.specs.Ask.{askedMap, frameAsked, verifyMap, ask-end, ask-invalid, ask-set, ask-region, ask-frame}
 use Rattle.map_spec.specs.Call.{putDown, mapSound, mapCall, sound-not, sound-full, sound-mapped, call-misshaped, call-refused, call-asked}
-use Rattle.theory_demands.specs.Slip.{Misshaped, BadEnd, HasBit1, OutsideSet, Backwards, BeyondRange, BeyondSpan, BadFrame, MakeSlip, CheckSlip, LookUpSlip, ImageSlip, ListSlip}
+use Rattle.theory_demands.specs.Slip.{Misshaped, BadEnd, HasBit1, OutsideSet, Backwards, BeyondRange, BeyondSpan, BadFrame, MakeSlip}
+use Rattle.theory_demands.specs.Slip.{CheckSlip, LookUpSlip, ImageSlip, ListSlip}
 use Rattle.theory_demands.specs.Slip.{MapSlip}
 use Rattle.theory_demands.specs.Told.{LowestGiven, Told, none-below, number-range, shape-lowest}
-use Rattle.theory_demands.specs.Decided.{misshaped, not-misshaped, unsound, sound, RegionStands, region-told, accepted-not, end-told, set-told, span-told, frame-told}
+use Rattle.theory_demands.specs.Decided.{misshaped, not-misshaped, unsound, sound, RegionStands, region-told, accepted-not, end-told}
+use Rattle.theory_demands.specs.Decided.{set-told, span-told, frame-told}
 
 -- ---- make: 1
 
@@ -50,25 +54,40 @@ pub make-told : (h : Handle) (s : St) → Told (MakeSlip h s) Refused (makeCall 
 unfolding MakeSlip
 make-told h s = byBool (shaped h s)
     (λ fits. inr (none (not-misshaped h s fits), λ r e. accepted-not r (ap (λ (x : Out Outcome). x .answer) (make-accepted h s fits) ∙ e)))
-    (λ fails. inl (Shape, sym (ap (λ (x : Out Outcome). x .answer) (make-refused h s fails)), shape-lowest (MakeSlip h s) (misshaped h s fails)))
+    (λ fails. inl
+    (Shape, sym (ap (λ (x : Out Outcome). x .answer) (make-refused h s fails)), shape-lowest (MakeSlip h s) (misshaped h s fails)))
   where
     none : ¬ (Misshaped h s) → (q : Refusal) → ¬ (MakeSlip h s q)
-    none one q = none-below (MakeSlip h s) 12 (λ l. one) (λ l e g. g) (λ l f g. g) (λ l f g. g) (λ l r g. g) (λ l a g. g) (λ l f g. g) (λ l g. g) (λ l k f g. g) (λ l w g. g)
+    none one q =
+        none-below (MakeSlip h s) 12 (λ l. one) (λ l e g. g) (λ l f g. g) (λ l f g. g) (λ l r g. g) (λ l a g. g) (λ l f g. g) (λ l g. g)
+        (λ l k f g. g) (λ l w g. g)
         (λ l k g. g) q (number-range q .1)
 
 -- ---- check: 1, 8
 
-check-below : (h : Handle) (s : St) (n : ℕ) → ¬ (Misshaped h s) → (8 < n → ¬ (¬ (SoundPool h s))) → (q : Refusal) → number q < n → ¬ (CheckSlip h s q)
+check-below : (h : Handle) (s : St) (n : ℕ) → ¬ (Misshaped h s) → (8 < n → ¬ (¬ (SoundPool h s))) → (q : Refusal) → number q < n
+    → ¬ (CheckSlip h s q)
 unfolding CheckSlip
-check-below h s n one eight = none-below (CheckSlip h s) n (λ l. one) (λ l e g. g) (λ l f g. g) (λ l f g. g) (λ l r g. g) (λ l a g. g) (λ l f g. g) eight (λ l k f g. g)
+check-below h s n one eight =
+    none-below (CheckSlip h s) n (λ l. one) (λ l e g. g) (λ l f g. g) (λ l f g. g) (λ l r g. g) (λ l a g. g) (λ l f g. g) eight
+    (λ l k f g. g)
     (λ l w g. g) (λ l k g. g)
 
 pub check-told : (h : Handle) (s : St) → Told (CheckSlip h s) Refused (checkCall h s)
 unfolding CheckSlip
 check-told h s = byBool (shaped h s)
     (λ fits. byBool (soundb h s)
-    (λ is. inr ((λ q. check-below h s 12 (not-misshaped h s fits) (λ l g. g (sound h s fits is)) q (number-range q .1)), λ r e. accepted-not r (check-sound h s fits is ∙ e)))
-    (λ un. inl (Unsound, sym (check-unsound h s fits un), record { given = unsound h s fits un; lower = check-below h s 8 (not-misshaped h s fits) (λ l. absurd (omega arith)) })))
+    (λ is. inr (
+      (λ q. check-below h s 12 (not-misshaped h s fits) (λ l g. g (sound h s fits is)) q (number-range q .1)),
+      λ r e. accepted-not r
+          (check-sound h s fits is ∙ e),
+    ))
+    (λ un. inl (
+      Unsound,
+      sym
+          (check-unsound h s fits un),
+      record { given = unsound h s fits un; lower = check-below h s 8 (not-misshaped h s fits) (λ l. absurd (omega arith)) },
+    )))
     (λ fails. inl (Shape, sym (check-misshaped h s fails), shape-lowest (CheckSlip h s) (misshaped h s fails)))
 
 -- ---- compact: 1, 8
@@ -102,8 +121,17 @@ image-told h s k page = byBool (shaped h s)
     (λ fits. ⊎-elim
     (λ past. inl (Shape, sym (told (image-no-table h s k page fits past)), shape-lowest (ImageSlip h s k page) (inr past)))
     (λ inside. ⊎-elim
-    (λ whole. inr ((λ q. below 12 (one fits inside) (λ l n g. g .1 whole) q (number-range q .1)), λ r e. accepted-not r (told (image-written h s k page fits inside whole) ∙ e)))
-    (λ n. inl (Short 4096, sym (told (image-short h s k page fits inside n)), record { given = (refl, n); lower = below 11 (one fits inside) (λ l. absurd (omega arith)) }))
+    (λ whole. inr (
+      (λ q. below 12 (one fits inside) (λ l n g. g .1 whole) q (number-range q .1)),
+      λ r e. accepted-not r
+          (told (image-written h s k page fits inside whole) ∙ e),
+    ))
+    (λ n. inl (
+      Short 4096,
+      sym
+          (told (image-short h s k page fits inside n)),
+      record { given = (refl, n); lower = below 11 (one fits inside) (λ l. absurd (omega arith)) },
+    ))
     (eq-or (length page) 4096))
     (le-or (tables s) k))
     (λ fails. inl (Shape, sym (told (image-misshaped h s k page fails)), shape-lowest (ImageSlip h s k page) (inl (misshaped h s fails))))
@@ -114,18 +142,25 @@ image-told h s k page = byBool (shaped h s)
     one : shaped h s ≡ true → k < tables s → ¬ (Misshaped h s ⊎ (tables s ≤ k))
     one fits inside x = ⊎-elim (not-misshaped h s fits) (λ l. omega arith) x
 
-    below : (n : ℕ) → ¬ (Misshaped h s ⊎ (tables s ≤ k)) → (11 < n → (m : ℕ) → ¬ ((m ≡ 4096) × (length page ≢ 4096))) → (q : Refusal) → number q < n → ¬ (ImageSlip h s k page q)
-    below n first eleven = none-below (ImageSlip h s k page) n (λ l. first) (λ l e g. g) (λ l f g. g) (λ l f g. g) (λ l r g. g) (λ l a g. g) (λ l f g. g) (λ l g. g) (λ l k f g. g)
+    below : (n : ℕ) → ¬ (Misshaped h s ⊎ (tables s ≤ k)) → (11 < n → (m : ℕ) → ¬ ((m ≡ 4096) × (length page ≢ 4096))) → (q : Refusal)
+        → number q < n → ¬ (ImageSlip h s k page q)
+    below n first eleven =
+        none-below (ImageSlip h s k page) n (λ l. first) (λ l e g. g) (λ l f g. g) (λ l f g. g) (λ l r g. g) (λ l a g. g) (λ l f g. g)
+        (λ l g. g) (λ l k f g. g)
         (λ l w g. g) eleven
 
 -- ---- look up: 1, 6, 8
 
 -- a walk is refused exactly where it leads away
-answer-told : (w : Walked) → ((w ≡ outside) × (answer w ≡ looked.Refused Unsound)) ⊎ ((w ≢ outside) × ((r : Refusal) → answer w ≢ looked.Refused r))
+answer-told : (w : Walked)
+    → ((w ≡ outside) × (answer w ≡ looked.Refused Unsound)) ⊎ ((w ≢ outside) × ((r : Refusal) → answer w ≢ looked.Refused r))
 unfolding answer
-answer-told (hole level flags) = inr ((λ e. let z : _≡_ {A = ℕ} 0 1 = cc in omega arith), λ r e. let z : _≡_ {A = ℕ} 0 1 = cc in omega arith)
-answer-told (block level flags frame) = inr ((λ e. let z : _≡_ {A = ℕ} 0 1 = cc in omega arith), λ r e. let z : _≡_ {A = ℕ} 0 1 = cc in omega arith)
-answer-told (one-page level flags frame) = inr ((λ e. let z : _≡_ {A = ℕ} 0 1 = cc in omega arith), λ r e. let z : _≡_ {A = ℕ} 0 1 = cc in omega arith)
+answer-told (hole level flags) =
+    inr ((λ e. let z : _≡_ {A = ℕ} 0 1 = cc in omega arith), λ r e. let z : _≡_ {A = ℕ} 0 1 = cc in omega arith)
+answer-told (block level flags frame) =
+    inr ((λ e. let z : _≡_ {A = ℕ} 0 1 = cc in omega arith), λ r e. let z : _≡_ {A = ℕ} 0 1 = cc in omega arith)
+answer-told (one-page level flags frame) =
+    inr ((λ e. let z : _≡_ {A = ℕ} 0 1 = cc in omega arith), λ r e. let z : _≡_ {A = ℕ} 0 1 = cc in omega arith)
 answer-told outside = inl (refl, refl)
 
 pub look-up-told : (h : Handle) (s : St) (va : ℕ) → Told (LookUpSlip h s va) looked.Refused (lookUpCall h s va)
@@ -155,11 +190,15 @@ look-up-told h s va = byBool (shaped h s)
     (λ fails. inl (Shape, sym (look-misshaped h s va fails), shape-lowest (LookUpSlip h s va) (misshaped h s fails)))
   where
     below : (n : ℕ) → ¬ (Misshaped h s) → (6 < n → (a : VirtualAddress) → ¬ ((a .0 ≡ va) × BeyondSpan (h .range) (h .level) va))
-        → (8 < n → ¬ (walk (h .base .0) (tables s) (s .words) va (h .level) ≡ outside)) → (q : Refusal) → number q < n → ¬ (LookUpSlip h s va q)
-    below n one six eight = none-below (LookUpSlip h s va) n (λ l. one) (λ l e g. g) (λ l f g. g) (λ l f g. g) (λ l r g. g) six (λ l f g. g) eight (λ l k f g. g) (λ l w g. g)
+        → (8 < n → ¬ (walk (h .base .0) (tables s) (s .words) va (h .level) ≡ outside)) → (q : Refusal) → number q < n
+        → ¬ (LookUpSlip h s va q)
+    below n one six eight =
+        none-below (LookUpSlip h s va) n (λ l. one) (λ l e g. g) (λ l f g. g) (λ l f g. g) (λ l r g. g) six (λ l f g. g) eight
+        (λ l k f g. g) (λ l w g. g)
         (λ l k g. g)
 
-    none : shaped h s ≡ true → ¬ (BeyondSpan (h .range) (h .level) va) → ¬ (walk (h .base .0) (tables s) (s .words) va (h .level) ≡ outside) → (q : Refusal)
+    none : shaped h s ≡ true → ¬ (BeyondSpan (h .range) (h .level) va) → ¬ (walk (h .base .0) (tables s) (s .words) va (h .level) ≡ outside)
+        → (q : Refusal)
         → ¬ (LookUpSlip h s va q)
     none fits within stays q = below 12 (not-misshaped h s fits) (λ l a g. within (g .1)) (λ l. stays) q (number-range q .1)
 
@@ -170,11 +209,14 @@ module _ (h : Handle) (s : St) (start end : ℕ) (list : List ℕ) where
   lines = 4 * length (linesOf h s (rounded start end))
 
   list-below : (n : ℕ) → (1 < n → ¬ (Misshaped h s)) → (2 < n → ¬ (BadEnd end)) → (5 < n → ¬ (Backwards (rounded start end)))
-      → (6 < n → (a : VirtualAddress) → ¬ (BeyondRange (h .range) (h .level) (rounded start end) a)) → (8 < n → ¬ (¬ (SoundPool h s))) → (11 < n → lines ≤ length list)
+      → (6 < n → (a : VirtualAddress) → ¬ (BeyondRange (h .range) (h .level) (rounded start end) a)) → (8 < n → ¬ (¬ (SoundPool h s)))
+      → (11 < n → lines ≤ length list)
       → (q : Refusal) → number q < n → ¬ (ListSlip h s start end list q)
   unfolding ListSlip
-  list-below n one two five six eight eleven = none-below (ListSlip h s start end list) n one (λ l e g. two l (g .1)) (λ l f g. g) (λ l f g. g)
-      (λ l r g. five l (rw (← g .0) (g .1))) six (λ l f g. g) eight (λ l k f g. g) (λ l w g. g) (λ l k g. let z = eleven l in omega (arith, g .0, g .1))
+  list-below n one two five six eight eleven =
+      none-below (ListSlip h s start end list) n one (λ l e g. two l (g .1)) (λ l f g. g) (λ l f g. g)
+      (λ l r g. five l (rw (← g .0) (g .1))) six (λ l f g. g) eight (λ l k f g. g) (λ l w g. g)
+      (λ l k g. let z = eleven l in omega (arith, g .0, g .1))
 
   list-answer : {x y : Listing} → x ≡ y → x .answer ≡ y .answer
   list-answer e = ap (λ (x : Listing). x .answer) e
@@ -191,21 +233,26 @@ module _ (h : Handle) (s : St) (start end : ℕ) (list : List ℕ) where
       record {
         given = (refl, x .1);
         lower =
-            list-below 2 (λ l. not-misshaped h s fits) (λ l. absurd (omega arith)) (λ l. absurd (omega arith)) (λ l. absurd (omega arith)) (λ l. absurd (omega arith))
+            list-below 2 (λ l. not-misshaped h s fits) (λ l. absurd (omega arith)) (λ l. absurd (omega arith)) (λ l. absurd (omega arith))
+            (λ l. absurd (omega arith))
             (λ l. absurd (omega arith));
       },
     )
 
     module _ (ends : endFits end ≡ true) (good : ¬ (BadEnd end)) where
-      list-backwards : (verify h (rounded start end) ≡ Refused (RegionBackwards (rounded start end))) × Backwards (rounded start end) → ListGoal
+      list-backwards : (verify h (rounded start end) ≡ Refused (RegionBackwards (rounded start end))) × Backwards (rounded start end)
+          → ListGoal
       unfolding ListSlip
       list-backwards x = inl (
         RegionBackwards (rounded start end),
-        sym (list-answer (list-region h s start end list fits (ends-fit h start end ends refl) (RegionBackwards (rounded start end)) (x .0))),
+        sym
+            (list-answer
+            (list-region h s start end list fits (ends-fit h start end ends refl) (RegionBackwards (rounded start end)) (x .0))),
         record {
           given = (refl, x .1);
           lower =
-              list-below 5 (λ l. not-misshaped h s fits) (λ l. good) (λ l. absurd (omega arith)) (λ l. absurd (omega arith)) (λ l. absurd (omega arith))
+              list-below 5 (λ l. not-misshaped h s fits) (λ l. good) (λ l. absurd (omega arith)) (λ l. absurd (omega arith))
+              (λ l. absurd (omega arith))
               (λ l. absurd (omega arith));
         },
       )
@@ -218,7 +265,9 @@ module _ (h : Handle) (s : St) (start end : ℕ) (list : List ℕ) where
         sym (list-answer (list-region h s start end list fits (ends-fit h start end ends refl) (AddressRange (x .0)) (x .1))),
         record {
           given = x .3;
-          lower = list-below 6 (λ l. not-misshaped h s fits) (λ l. good) (λ l. x .2) (λ l. absurd (omega arith)) (λ l. absurd (omega arith)) (λ l. absurd (omega arith));
+          lower =
+              list-below 6 (λ l. not-misshaped h s fits) (λ l. good) (λ l. x .2) (λ l. absurd (omega arith)) (λ l. absurd (omega arith))
+              (λ l. absurd (omega arith));
         },
       )
 
@@ -234,7 +283,8 @@ module _ (h : Handle) (s : St) (start end : ℕ) (list : List ℕ) where
           record {
             given = unsound h s fits un;
             lower =
-                list-below 8 (λ l. not-misshaped h s fits) (λ l. good) (λ l. stands .1 .forwards) (λ l. stands .1 .within) (λ l. absurd (omega arith)) (λ l. absurd (omega arith));
+                list-below 8 (λ l. not-misshaped h s fits) (λ l. good) (λ l. stands .1 .forwards) (λ l. stands .1 .within)
+                (λ l. absurd (omega arith)) (λ l. absurd (omega arith));
           },
         )
 
@@ -251,17 +301,20 @@ module _ (h : Handle) (s : St) (start end : ℕ) (list : List ℕ) where
             record {
               given = (refl, short);
               lower =
-                  list-below 11 (λ l. not-misshaped h s fits) (λ l. good) (λ l. stands .1 .forwards) (λ l. stands .1 .within) (λ l g. g (sound h s fits is))
+                  list-below 11 (λ l. not-misshaped h s fits) (λ l. good) (λ l. stands .1 .forwards) (λ l. stands .1 .within)
+                  (λ l g. g (sound h s fits is))
                   (λ l. absurd (omega arith));
             },
           )
 
           list-done : lines ≤ length list → ListGoal
           list-done room = inr (
-            (λ q. list-below 12 (λ l. not-misshaped h s fits) (λ l. good) (λ l. stands .1 .forwards) (λ l. stands .1 .within) (λ l g. g (sound h s fits is))
+            (λ q. list-below 12 (λ l. not-misshaped h s fits) (λ l. good) (λ l. stands .1 .forwards) (λ l. stands .1 .within)
+                (λ l g. g (sound h s fits is))
                 (λ l. room) q (number-range q .1)),
             λ r e. let z : _≡_ {A = Listed} (listed.Lines (length (linesOf h s (rounded start end)))) (listed.Refused r) =
-                list-answer (list-written (linesOf h s (rounded start end)) list room ∙ list-is) ∙ e in let o : _≡_ {A = ℕ} 0 1 = cc in omega arith,
+                list-answer (list-written (linesOf h s (rounded start end)) list room ∙ list-is) ∙ e in let o : _≡_ {A = ℕ} 0 1 =
+                cc in omega arith,
           )
 
   pub list-told : ListGoal
@@ -273,7 +326,12 @@ module _ (h : Handle) (s : St) (start end : ℕ) (list : List ℕ) where
       (λ is. ⊎-elim (list-done fits (x .0) (x .1) z is) (list-narrow fits (x .0) (x .1) z is) (le-or lines (length list)))
       (list-unsafe fits (x .0) (x .1) z)) y)
       (region-told h (rounded start end))) (end-told end))
-      (λ fails. inl (Shape, sym (list-answer (list-misshaped h s start end list fails)), shape-lowest (ListSlip h s start end list) (misshaped h s fails)))
+      (λ fails. inl (
+        Shape,
+        sym (list-answer (list-misshaped h s start end list fails)),
+        shape-lowest (ListSlip h s start end list)
+            (misshaped h s fails),
+      ))
 
 -- ---- map: 1 to 9
 
@@ -287,12 +345,17 @@ module _ (h : Handle) (s : St) (start end frame flags constraints : ℕ) where
   abbrev m : Map
   m = askedMap start end frame flags constraints
 
-  map-below : (n : ℕ) → (1 < n → ¬ (Misshaped h s)) → (2 < n → ¬ (BadEnd end)) → (3 < n → ¬ (HasBit1 flags)) → (4 < n → ¬ (OutsideSet h flags))
-      → (5 < n → ¬ (Backwards (rounded start end))) → (6 < n → (a : VirtualAddress) → ¬ (BeyondRange (h .range) (h .level) (rounded start end) a))
-      → (7 < n → ¬ (BadFrame frame (rounded start end))) → (8 < n → ¬ (¬ (SoundPool h s))) → (9 < n → need ≤ free (s .ledger)) → (q : Refusal) → number q < n → ¬ (MapHere q)
+  map-below : (n : ℕ) → (1 < n → ¬ (Misshaped h s)) → (2 < n → ¬ (BadEnd end)) → (3 < n → ¬ (HasBit1 flags))
+      → (4 < n → ¬ (OutsideSet h flags))
+      → (5 < n → ¬ (Backwards (rounded start end)))
+      → (6 < n → (a : VirtualAddress) → ¬ (BeyondRange (h .range) (h .level) (rounded start end) a))
+      → (7 < n → ¬ (BadFrame frame (rounded start end))) → (8 < n → ¬ (¬ (SoundPool h s))) → (9 < n → need ≤ free (s .ledger))
+      → (q : Refusal) → number q < n → ¬ (MapHere q)
   unfolding MapSlip
-  map-below n one two three four five six seven eight nine = none-below MapHere n one (λ l e g. two l (g .1)) (λ l f g. three l (g .1)) (λ l f g. four l (g .1))
-      (λ l r g. five l (rw (← g .0) (g .1))) six (λ l f g. seven l (g .1)) eight (λ l k f g. let z = nine l in omega (arith, g .0, g .1, g .2)) (λ l w g. g) (λ l k g. g)
+  map-below n one two three four five six seven eight nine =
+      none-below MapHere n one (λ l e g. two l (g .1)) (λ l f g. three l (g .1)) (λ l f g. four l (g .1))
+      (λ l r g. five l (rw (← g .0) (g .1))) six (λ l f g. seven l (g .1)) eight
+      (λ l k f g. let z = nine l in omega (arith, g .0, g .1, g .2)) (λ l w g. g) (λ l k g. g)
 
   abbrev MapGoal : Type 0
   MapGoal = Told MapHere counted.Refused (mapCall h start end frame flags constraints s .answer)
@@ -307,7 +370,8 @@ module _ (h : Handle) (s : St) (start end frame flags constraints : ℕ) where
     map-end x = map-refused (End end) (ask-end h end m (x .0)) (record {
       given = (refl, x .1);
       lower =
-          map-below 2 (λ l. not-misshaped h s fits) (λ l. absurd (omega arith)) (λ l. absurd (omega arith)) (λ l. absurd (omega arith)) (λ l. absurd (omega arith))
+          map-below 2 (λ l. not-misshaped h s fits) (λ l. absurd (omega arith)) (λ l. absurd (omega arith)) (λ l. absurd (omega arith))
+          (λ l. absurd (omega arith))
           (λ l. absurd (omega arith))
           (λ l. absurd (omega arith)) (λ l. absurd (omega arith)) (λ l. absurd (omega arith));
     })
@@ -318,7 +382,8 @@ module _ (h : Handle) (s : St) (start end frame flags constraints : ℕ) where
       map-bit x = map-refused (InvalidFlags flags) (ask-invalid h end m ends x) (record {
         given = (refl, x);
         lower =
-            map-below 3 (λ l. not-misshaped h s fits) (λ l. good) (λ l. absurd (omega arith)) (λ l. absurd (omega arith)) (λ l. absurd (omega arith)) (λ l. absurd (omega arith))
+            map-below 3 (λ l. not-misshaped h s fits) (λ l. good) (λ l. absurd (omega arith)) (λ l. absurd (omega arith))
+            (λ l. absurd (omega arith)) (λ l. absurd (omega arith))
             (λ l. absurd (omega arith)) (λ l. absurd (omega arith)) (λ l. absurd (omega arith));
       })
 
@@ -327,49 +392,67 @@ module _ (h : Handle) (s : St) (start end frame flags constraints : ℕ) where
         unfolding MapSlip askedMap
         map-set x = map-refused (FlagSet flags) (ask-set h end m ends plain (x .0)) (record {
           given = (refl, x .1);
-          lower = map-below 4 (λ l. not-misshaped h s fits) (λ l. good) (λ l. plain) (λ l. absurd (omega arith)) (λ l. absurd (omega arith)) (λ l. absurd (omega arith))
+          lower =
+              map-below 4 (λ l. not-misshaped h s fits) (λ l. good) (λ l. plain) (λ l. absurd (omega arith)) (λ l. absurd (omega arith))
+              (λ l. absurd (omega arith))
               (λ l. absurd (omega arith)) (λ l. absurd (omega arith)) (λ l. absurd (omega arith));
         })
 
         module _ (from : (only (flagSet h) flags ≡ true) × (¬ (OutsideSet h flags))) where
-          map-backwards : (verify h (rounded start end) ≡ Refused (RegionBackwards (rounded start end))) × Backwards (rounded start end) → MapGoal
+          map-backwards : (verify h (rounded start end) ≡ Refused (RegionBackwards (rounded start end))) × Backwards (rounded start end)
+              → MapGoal
           unfolding MapSlip askedMap
           map-backwards x =
-              map-refused (RegionBackwards (rounded start end)) (ask-region h end m ends plain (from .0) (sym (x .0)) (RegionBackwards (rounded start end)) refl) (record {
+              map-refused (RegionBackwards (rounded start end))
+              (ask-region h end m ends plain (from .0) (sym (x .0)) (RegionBackwards (rounded start end)) refl) (record {
                 given = (refl, x .1);
-                lower = map-below 5 (λ l. not-misshaped h s fits) (λ l. good) (λ l. plain) (λ l. from .1) (λ l. absurd (omega arith)) (λ l. absurd (omega arith))
+                lower =
+                    map-below 5 (λ l. not-misshaped h s fits) (λ l. good) (λ l. plain) (λ l. from .1) (λ l. absurd (omega arith))
+                    (λ l. absurd (omega arith))
                     (λ l. absurd (omega arith)) (λ l. absurd (omega arith)) (λ l. absurd (omega arith));
               })
 
-          map-beyond : ((a : VirtualAddress) × (verify h (rounded start end) ≡ Refused (AddressRange a)) × (¬ (Backwards (rounded start end)))
+          map-beyond : ((a : VirtualAddress) × (verify h (rounded start end) ≡ Refused (AddressRange a))
+              × (¬ (Backwards (rounded start end)))
               × BeyondRange (h .range) (h .level) (rounded start end) a) → MapGoal
           unfolding MapSlip askedMap
-          map-beyond x = map-refused (AddressRange (x .0)) (ask-region h end m ends plain (from .0) (sym (x .1)) (AddressRange (x .0)) refl) (record {
-            given = x .3;
-            lower = map-below 6 (λ l. not-misshaped h s fits) (λ l. good) (λ l. plain) (λ l. from .1) (λ l. x .2) (λ l. absurd (omega arith))
-                (λ l. absurd (omega arith)) (λ l. absurd (omega arith)) (λ l. absurd (omega arith));
-          })
+          map-beyond x =
+              map-refused (AddressRange (x .0)) (ask-region h end m ends plain (from .0) (sym (x .1)) (AddressRange (x .0)) refl) (record {
+                given = x .3;
+                lower =
+                    map-below 6 (λ l. not-misshaped h s fits) (λ l. good) (λ l. plain) (λ l. from .1) (λ l. x .2)
+                    (λ l. absurd (omega arith)) (λ l. absurd (omega arith)) (λ l. absurd (omega arith)) (λ l. absurd (omega arith));
+              })
 
           module _ (stands : (verify h (rounded start end) ≡ Accepted) × RegionStands h (rounded start end)) where
             framed : frameAsked frame (rounded start end .end .0 - rounded start end .start .0) ≡ verifyMap h end m
             unfolding askedMap
             framed = ask-frame h end m ends plain (from .0) (sym (stands .0)) refl
 
-            map-frame : (frameAsked frame (rounded start end .end .0 - rounded start end .start .0) ≡ Refused (Frame (record { 0 = frame }))) × BadFrame frame (rounded start end)
+            map-frame : (frameAsked frame (rounded start end .end .0 - rounded start end .start .0)
+                ≡ Refused (Frame (record { 0 = frame })))
+                × BadFrame frame (rounded start end)
                 → MapGoal
             unfolding MapSlip
             map-frame x = map-refused (Frame (record { 0 = frame })) (sym (x .0) ∙ framed) (record {
               given = (refl, x .1);
-              lower = map-below 7 (λ l. not-misshaped h s fits) (λ l. good) (λ l. plain) (λ l. from .1) (λ l. stands .1 .forwards) (λ l. stands .1 .within)
+              lower =
+                  map-below 7 (λ l. not-misshaped h s fits) (λ l. good) (λ l. plain) (λ l. from .1) (λ l. stands .1 .forwards)
+                  (λ l. stands .1 .within)
                   (λ l. absurd (omega arith)) (λ l. absurd (omega arith)) (λ l. absurd (omega arith));
             })
 
-            module _ (well : (frameAsked frame (rounded start end .end .0 - rounded start end .start .0) ≡ Accepted) × (¬ (BadFrame frame (rounded start end)))) where
+            module _
+                (well : (frameAsked frame (rounded start end .end .0 - rounded start end .start .0) ≡ Accepted)
+                × (¬ (BadFrame frame (rounded start end)))) where
               map-asked : mapSound h m s ≡ mapCall h start end frame flags constraints s
               map-asked = call-asked h start end frame flags constraints s fits framed (well .0)
 
-              map-lower : (n : ℕ) → (8 < n → ¬ (¬ (SoundPool h s))) → (9 < n → need ≤ free (s .ledger)) → (q : Refusal) → number q < n → ¬ (MapHere q)
-              map-lower n = map-below n (λ l. not-misshaped h s fits) (λ l. good) (λ l. plain) (λ l. from .1) (λ l. stands .1 .forwards) (λ l. stands .1 .within) (λ l. well .1)
+              map-lower : (n : ℕ) → (8 < n → ¬ (¬ (SoundPool h s))) → (9 < n → need ≤ free (s .ledger)) → (q : Refusal) → number q < n
+                  → ¬ (MapHere q)
+              map-lower n =
+                  map-below n (λ l. not-misshaped h s fits) (λ l. good) (λ l. plain) (λ l. from .1) (λ l. stands .1 .forwards)
+                  (λ l. stands .1 .within) (λ l. well .1)
 
               map-unsound : soundb h s ≡ false → MapGoal
               unfolding MapSlip
@@ -398,7 +481,9 @@ module _ (h : Handle) (s : St) (start end frame flags constraints : ℕ) where
                 unfolding putDown
                 map-done room = inr (
                   (λ q. map-lower 12 (λ l g. g (sound h s fits is)) (λ l. room) q (number-range q .1)),
-                  λ r e. let z = answer-same (sound-mapped h m s is refl refl room ∙ map-asked) ∙ e in let o : _≡_ {A = ℕ} 0 1 = cc in omega arith,
+                  λ r e. let z = answer-same (sound-mapped h m s is refl refl room ∙ map-asked) ∙ e in
+                      let o : _≡_ {A = ℕ} 0 1 = cc in
+                      omega arith,
                 )
 
   pub map-told : MapGoal
@@ -410,7 +495,13 @@ module _ (h : Handle) (s : St) (start end frame flags constraints : ℕ) where
       (λ y. ⊎-elim (map-beyond fits (x .0) (x .1) plain from)
       (λ z. ⊎-elim (map-frame fits (x .0) (x .1) plain from z)
       (λ w. byBool (soundb h s)
-      (λ is. ⊎-elim (map-done fits (x .0) (x .1) plain from z w is) (map-full fits (x .0) (x .1) plain from z w is) (le-or need (free (s .ledger))))
+      (λ is. ⊎-elim (map-done fits (x .0) (x .1) plain from z w is) (map-full fits (x .0) (x .1) plain from z w is)
+      (le-or need (free (s .ledger))))
       (map-unsound fits (x .0) (x .1) plain from z w)) (frame-told frame (rounded start end))) y)
       (region-told h (rounded start end))) (set-told h flags)) (eq-or (flags / 2 % 2) 1)) (end-told end))
-      (λ fails. inl (Shape, sym (answer-same (call-misshaped h start end frame flags constraints s fails)), shape-lowest MapHere (misshaped h s fails)))
+      (λ fails. inl (
+        Shape,
+        sym (answer-same (call-misshaped h start end frame flags constraints s fails)),
+        shape-lowest MapHere
+            (misshaped h s fails),
+      ))

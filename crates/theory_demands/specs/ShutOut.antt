@@ -1,5 +1,5 @@
--- Document 01, "What the paperwork has to pin down", "Shut out": programs that no contract admits. Whatever meets map's equation refuses some calls and accepts others,
--- gives more than one answer, and changes the pool. By the starred cases A and B. Assumes nothing.
+-- Document 01, "What the paperwork has to pin down", "Shut out": programs that no contract admits. Whatever meets map's equation refuses
+-- some calls and accepts others, gives more than one answer, and changes the pool. By the starred cases A and B.
 use mathlib.Core.Path.{_≡_, sym, ap, _∙_}
 use mathlib.Core.Logic.{_≢_}
 use Prim.Native.Nat.{ℕ}
@@ -62,7 +62,8 @@ module _ (f : Handle → MapArguments → St → Out Counted) (meets : (h : Hand
   -- or give one constant answer,
   pub not-constant : (a : Counted) → ¬ ((h : Handle) (c : MapArguments) (s : St) → f h c s .answer ≡ a)
   not-constant a all =
-      let z : Tables 1 ≡ Tables 3 = sym (answers (handle 1) callA (freshRow 1 8) case-A) ∙ all (handle 1) callA (freshRow 1 8) ∙ sym (all (handle 1) callB (freshRow 1 8))
+      let z : Tables 1 ≡ Tables 3 =
+      sym (answers (handle 1) callA (freshRow 1 8) case-A) ∙ all (handle 1) callA (freshRow 1 8) ∙ sym (all (handle 1) callB (freshRow 1 8))
       ∙ answers (handle 1) callB (freshRow 1 8) case-B in
       let o : _≡_ {A = ℕ} 1 3 = cc in
       omega arith
@@ -70,5 +71,6 @@ module _ (f : Handle → MapArguments → St → Out Counted) (meets : (h : Hand
   -- or do nothing
   pub not-idle : ¬ ((h : Handle) (c : MapArguments) (s : St) → f h c s .state ≡ s)
   not-idle all =
-      let e : poolA ≡ freshRow 1 8 = sym (ap (λ (x : Out Counted). x .state) (meets (handle 1) callA (freshRow 1 8) ∙ case-A)) ∙ all (handle 1) callA (freshRow 1 8) in
+      let e : poolA ≡ freshRow 1 8 =
+      sym (ap (λ (x : Out Counted). x .state) (meets (handle 1) callA (freshRow 1 8) ∙ case-A)) ∙ all (handle 1) callA (freshRow 1 8) in
       differs e

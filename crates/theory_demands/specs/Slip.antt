@@ -1,5 +1,6 @@
--- Document 01, "The refusal slip", as a table of its own: when each refusal is given and what it carries, call by call. Definitions alone, in the slip's
--- order and words. Refusals 1 to 8 and 10 cite no test of the code; 9 and 11 cite the counts that they are about (`needed`, `linesOf`, `surveyOf`). Assumes nothing.
+-- Document 01, "The refusal slip", as a table of its own: when each refusal is given and what it carries, call by call. Definitions alone,
+-- in the slip's order and words. Refusals 1 to 8 and 10 cite no test of the code; 9 and 11 cite the counts that they are about (`needed`,
+-- `linesOf`, `surveyOf`).
 use mathlib.Core.Path.{_≡_}
 use mathlib.Core.Bool.{Bool, true}
 use mathlib.Core.List.{List}
@@ -19,7 +20,8 @@ use Rattle.pool.specs.declared.Handle.{Handle}
 use Rattle.pool.specs.declared.VaRange.{VaRange}
 use Rattle.pool.specs.declared.VaRange.the-variants.{Lower, Upper}
 use Rattle.pool.specs.declared.Refusal.{Refusal}
-use Rattle.pool.specs.declared.Refusal.the-variants.{Shape, End, InvalidFlags, FlagSet, RegionBackwards, AddressRange, Frame, Unsound, WantOfRoom, HouseRule, Short}
+use Rattle.pool.specs.declared.Refusal.the-variants.{Shape, End, InvalidFlags, FlagSet, RegionBackwards, AddressRange, Frame, Unsound}
+use Rattle.pool.specs.declared.Refusal.the-variants.{WantOfRoom, HouseRule, Short}
 use Rattle.theory_sound.specs.Clauses.{SoundPool}
 use Rattle.arm.specs.Arm.{walk, outside}
 use Rattle.list_lines.specs.Lines.{linesOf}
@@ -55,7 +57,8 @@ Backwards r = r .end .0 < r .start .0
 
 -- 6: "`AddressRange`, as `verify_region` tests it", and the address that it names
 abbrev pub BeyondRange : VaRange → ℕ → MemoryRegion → VirtualAddress → Type 0
-BeyondRange Lower level r a = ((2 ^ 63 ≤ r .start .0) × (a ≡ r .start)) ⊎ ((r .start .0 < 2 ^ 63) × (512 * sizeAt level < r .end .0) × (a ≡ r .end))
+BeyondRange Lower level r a =
+    ((2 ^ 63 ≤ r .start .0) × (a ≡ r .start)) ⊎ ((r .start .0 < 2 ^ 63) × (512 * sizeAt level < r .end .0) × (a ≡ r .end))
 BeyondRange Upper level r a = ((r .start .0 < 2 ^ 63) ⊎ (r .start .0 < 2 ^ 64 - 512 * sizeAt level)) × (a ≡ r .start)
 
 -- "look up: address outside the root's span"
@@ -165,8 +168,8 @@ BadToSet h set clear = OutsideSet h set ⊎ ((set % 2 ≡ 1) ⊎ (bitAnd set cle
 abbrev pub BadFlags : Handle → ℕ → ℕ → ℕ → Type 0
 BadFlags h set clear f = ((f ≡ set) × BadToSet h set clear) ⊎ ((f ≡ clear) × (¬ (BadToSet h set clear)) × OutsideSet h clear)
 
--- "modify 1 to 6, 8, 9 and, live, 10, 11": the survey of an edit counts its splits and its numbers; 10 names the word at the lowest address, by the Arm walk, where the
--- call breaks the house rule
+-- "modify 1 to 6, 8, 9 and, live, 10, 11": the survey of an edit counts its splits and its numbers; 10 names the word at the lowest
+-- address, by the Arm walk, where the call breaks the house rule
 unfoldable pub ModifySlip : Handle → St → ℕ → ℕ → ℕ → ℕ → Bool → List ℕ → Refusal → Type 0
 ModifySlip h s start end set clear live list Shape = Misshaped h s
 ModifySlip h s start end set clear live list (End e) = (e ≡ end) × BadEnd end
@@ -176,7 +179,9 @@ ModifySlip h s start end set clear live list (RegionBackwards r) = (r ≡ rounde
 ModifySlip h s start end set clear live list (AddressRange a) = BeyondRange (h .range) (h .level) (rounded start end) a
 ModifySlip h s start end set clear live list (Frame f) = ⊥
 ModifySlip h s start end set clear live list Unsound = ¬ (SoundPool h s)
-ModifySlip h s start end set clear live list (WantOfRoom n f) = (n ≡ surveyOf h (askedEdit start end set clear live) s .splits) × (f ≡ free (s .ledger)) × (f < n)
+ModifySlip h s start end set clear live list (WantOfRoom n f) =
+    (n ≡ surveyOf h (askedEdit start end set clear live) s .splits) × (f ≡ free (s .ledger)) × (f < n)
 ModifySlip h s start end set clear live list (HouseRule w) =
     (live ≡ true) × LowestBreach h (record { start = start; end = end; set = set; clear = clear; live = live }) s w
-ModifySlip h s start end set clear live list (Short n) = (live ≡ true) × (n ≡ surveyOf h (askedEdit start end set clear live) s .numbers) × (length list < n)
+ModifySlip h s start end set clear live list (Short n) =
+    (live ≡ true) × (n ≡ surveyOf h (askedEdit start end set clear live) s .numbers) × (length list < n)

@@ -1,4 +1,4 @@
--- "Lowest number first": what it means that an answer is told by a slip, whatever the call. Assumes nothing.
+-- "Lowest number first": what it means that an answer is told by a slip, whatever the call.
 use mathlib.Core.Path.{_≡_, sym, _∙_}
 use mathlib.Core.Logic.{_⊎_, inl, inr, _≢_, _↔_}
 use Prim.Native.Nat.{ℕ, _≤_, _<_}
@@ -9,7 +9,8 @@ use Rattle.address.specs.declared.PhysicalAddress.{PhysicalAddress}
 use Rattle.region.specs.declared.MemoryRegion.{MemoryRegion}
 use Rattle.pool.specs.Refuse.{number}
 use Rattle.pool.specs.declared.Refusal.{Refusal}
-use Rattle.pool.specs.declared.Refusal.the-variants.{Shape, End, InvalidFlags, FlagSet, RegionBackwards, AddressRange, Frame, Unsound, WantOfRoom, HouseRule, Short}
+use Rattle.pool.specs.declared.Refusal.the-variants.{Shape, End, InvalidFlags, FlagSet, RegionBackwards, AddressRange, Frame, Unsound}
+use Rattle.pool.specs.declared.Refusal.the-variants.{WantOfRoom, HouseRule, Short}
 
 -- r is on the slip, and nothing of a lower number is
 pub record LowestGiven (Slip : Refusal → Type 0) (r : Refusal) : Type 0 where
@@ -18,7 +19,8 @@ pub record LowestGiven (Slip : Refusal → Type 0) (r : Refusal) : Type 0 where
 
 -- an answer is refused by the lowest, or nothing is on the slip and it is no refusal
 abbrev pub Told : {A : Type 0} → (Refusal → Type 0) → (Refusal → A) → A → Type 0
-Told Slip refused answer = ((r : Refusal) × (answer ≡ refused r) × LowestGiven Slip r) ⊎ (((q : Refusal) → ¬ (Slip q)) × ((r : Refusal) → answer ≢ refused r))
+Told Slip refused answer =
+    ((r : Refusal) × (answer ≡ refused r) × LowestGiven Slip r) ⊎ (((q : Refusal) → ¬ (Slip q)) × ((r : Refusal) → answer ≢ refused r))
 
 module _ {A : Type 0} {Slip : Refusal → Type 0} {refused : Refusal → A} {answer : A} (told : Told Slip refused answer) where
   -- A REFUSAL IS GIVEN EXACTLY WHEN IT IS THE LOWEST ON THE SLIP
@@ -26,18 +28,26 @@ module _ {A : Type 0} {Slip : Refusal → Type 0} {refused : Refusal → A} {ans
       → ((r : Refusal) × (answer ≡ refused r) × (number r ≡ n)) ↔ ((r : Refusal) × LowestGiven Slip r × (number r ≡ n))
   exactly same n = (there told, back told)
     where
-      there : Told Slip refused answer → ((r : Refusal) × (answer ≡ refused r) × (number r ≡ n)) → ((r : Refusal) × LowestGiven Slip r × (number r ≡ n))
+      there : Told Slip refused answer → ((r : Refusal) × (answer ≡ refused r) × (number r ≡ n))
+          → ((r : Refusal) × LowestGiven Slip r × (number r ≡ n))
       there (inl t) x = (t .0, t .2, rw (same (t .0) (x .0) (sym (t .1) ∙ x .1)) (x .2))
       there (inr t) x = absurd (t .1 (x .0) (x .1))
 
-      equal : (r q : Refusal) → LowestGiven Slip r → LowestGiven Slip q → (number r ≤ number q) ⊎ (number q < number r) → (number q ≤ number r) ⊎ (number r < number q)
+      equal : (r q : Refusal) → LowestGiven Slip r → LowestGiven Slip q → (number r ≤ number q) ⊎ (number q < number r)
+          → (number q ≤ number r) ⊎ (number r < number q)
           → number r ≡ number q
       equal r q l m (inl a) (inl b) = omega arith
       equal r q l m (inl a) (inr b) = absurd (m .lower r b (l .given))
       equal r q l m (inr a) y = absurd (l .lower q a (m .given))
 
-      back : Told Slip refused answer → ((r : Refusal) × LowestGiven Slip r × (number r ≡ n)) → ((r : Refusal) × (answer ≡ refused r) × (number r ≡ n))
-      back (inl t) x = (t .0, t .1, equal (t .0) (x .0) (t .2) (x .1) (le-or (number (t .0)) (number (x .0))) (le-or (number (x .0)) (number (t .0))) ∙ x .2)
+      back : Told Slip refused answer → ((r : Refusal) × LowestGiven Slip r × (number r ≡ n))
+          → ((r : Refusal) × (answer ≡ refused r) × (number r ≡ n))
+      back (inl t) x = (
+        t .0,
+        t .1,
+        equal (t .0) (x .0) (t .2) (x .1) (le-or (number (t .0)) (number (x .0))) (le-or (number (x .0)) (number (t .0)))
+            ∙ x .2,
+      )
       back (inr t) x = absurd (t .0 (x .0) (x .1 .given))
 
 -- nothing below n is on the slip, line by line
@@ -45,7 +55,8 @@ module _ (Slip : Refusal → Type 0) (n : ℕ)
     (one : 1 < n → ¬ (Slip Shape)) (two : 2 < n → (e : ℕ) → ¬ (Slip (End e))) (three : 3 < n → (f : ℕ) → ¬ (Slip (InvalidFlags f)))
     (four : 4 < n → (f : ℕ) → ¬ (Slip (FlagSet f))) (five : 5 < n → (r : MemoryRegion) → ¬ (Slip (RegionBackwards r)))
     (six : 6 < n → (a : VirtualAddress) → ¬ (Slip (AddressRange a))) (seven : 7 < n → (f : PhysicalAddress) → ¬ (Slip (Frame f)))
-    (eight : 8 < n → ¬ (Slip Unsound)) (nine : 9 < n → (k f : ℕ) → ¬ (Slip (WantOfRoom k f))) (ten : 10 < n → (w : ℕ) → ¬ (Slip (HouseRule w)))
+    (eight : 8 < n → ¬ (Slip Unsound)) (nine : 9 < n → (k f : ℕ) → ¬ (Slip (WantOfRoom k f)))
+    (ten : 10 < n → (w : ℕ) → ¬ (Slip (HouseRule w)))
     (eleven : 11 < n → (k : ℕ) → ¬ (Slip (Short k))) where
   pub none-below : (q : Refusal) → number q < n → ¬ (Slip q)
   none-below Shape l = one l

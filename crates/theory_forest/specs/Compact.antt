@@ -1,5 +1,5 @@
--- Compact on trees (document 01, "Putting down a map", Compact): from the leaves up each table below the root whose words are all zero becomes a
--- word of 0. The test on words is the test on trees; one slot's step on states is its step on trees. Assumes nothing.
+-- Compact on trees (document 01, "Putting down a map", Compact): from the leaves up each table below the root whose words are all zero
+-- becomes a word of 0. The test on words is the test on trees; one slot's step on states is its step on trees.
 use mathlib.Core.Path.{_≡_, refl, sym, ap, _∙_}
 use mathlib.Core.Bool.{Bool, true, false, cond, _&&_}
 use mathlib.Core.Logic.{_⊎_, inl, inr, _≢_}
@@ -70,18 +70,21 @@ compactTree (suc depth) t = eachSlot (λ i t. squash (λ u. compactTree depth u)
 -- ---- one slot: the step on states is the step on trees
 
 module _ {C : Codec} {s : State} (S : Sound C s) (rec : Tree → Tree) (depth : ℕ) {k i : ℕ} where
-  pub compact-leaf : LevelsLeft C s k (suc depth) → ¬ (IsTable C s k i) → Move C s s (suc depth) k i (squash rec (slotTree C s (suc depth) k i))
+  pub compact-leaf : LevelsLeft C s k (suc depth) → ¬ (IsTable C s k i)
+      → Move C s s (suc depth) k i (squash rec (slotTree C s (suc depth) k i))
   unfolding squash
   compact-leaf low old =
       let shows = slot-leaf C s (suc depth) k i low refl old in
       record { at = move-skip S (suc depth) k i .at; tree = shows ∙ sym (ap (squash rec) shows) }
 
   module _ {s′ : State} {c : ℕ} (used : Used s k) (r : Refers C s k i c) (work : TableMove C s s′ depth c (rec (treeOf C s depth c))) where
-    squashed : {b : Bool} → emptyWords (s′ .word c) ≡ b → squash rec (slotTree C s (suc depth) k i) ≡ cond b (leaf 0) (rec (treeOf C s depth c))
+    squashed : {b : Bool} → emptyWords (s′ .word c) ≡ b
+        → squash rec (slotTree C s (suc depth) k i) ≡ cond b (leaf 0) (rec (treeOf C s depth c))
     unfolding squash treeAt
     squashed {b} test =
         ap (squash rec) (slot-refers depth r)
-        ∙ ap (λ (b : Bool). cond b (leaf 0) (rec (treeOf C s depth c))) (ap emptyTree (sym (work .tree)) ∙ empty-tree (C .child) depth (s′ .word) c ∙ test)
+        ∙ ap (λ (b : Bool). cond b (leaf 0) (rec (treeOf C s depth c)))
+        (ap emptyTree (sym (work .tree)) ∙ empty-tree (C .child) depth (s′ .word) c ∙ test)
 
     -- the table is not empty: it stays
     pub compact-keep : emptyWords (s′ .word c) ≡ false → Move C s s′ (suc depth) k i (squash rec (slotTree C s (suc depth) k i))

@@ -1,5 +1,5 @@
--- A walk of a compacted tree ends where it ended, or in a word of 0 where it did: what is read off its end is as before, if a word of 0 reads alike at
--- each level. Leans on `Compact`, `Walk`. Assumes nothing.
+-- A walk of a compacted tree ends where it ended, or in a word of 0 where it did: what is read off its end is as before, if a word of 0
+-- reads alike at each level. Leans on `Compact`, `Walk`.
 use mathlib.Core.Path.{_≡_, refl, sym, ap, subst, _∙_}
 use mathlib.Core.Bool.{Bool, true, false, cond, true≢false}
 use Prim.Native.Nat.{ℕ, zero, suc, _<_}
@@ -51,9 +51,11 @@ module _ {A : Type 0} (slots : ℕ → ℕ) (inside : (depth : ℕ) → slots de
   empty-walk : (depth : ℕ) (c : Tree) → emptyTree c ≡ true → read (walkTree slots (suc depth) c) ≡ none
   unfolding walkTree
   empty-walk depth (leaf w) e = absurd (true≢false (sym e ∙ not-empty w))
-  empty-walk depth (node f) e = ap (λ (u : Tree). read (walkTree slots depth u)) (empty-slot f e (slots depth) (inside depth)) ∙ zero-walk depth
+  empty-walk depth (node f) e =
+      ap (λ (u : Tree). read (walkTree slots depth u)) (empty-slot f e (slots depth) (inside depth)) ∙ zero-walk depth
 
-  slot-walk : (depth : ℕ) (u : Tree) → ((f : ℕ → Tree) → read (walkTree slots (suc depth) (compactTree depth (node f))) ≡ read (walkTree slots (suc depth) (node f)))
+  slot-walk : (depth : ℕ) (u : Tree)
+      → ((f : ℕ → Tree) → read (walkTree slots (suc depth) (compactTree depth (node f))) ≡ read (walkTree slots (suc depth) (node f)))
       → read (walkTree slots (suc depth) (squash (λ v. compactTree depth v) u)) ≡ read (walkTree slots (suc depth) u)
   slot-walk depth (leaf w) ih = ap (λ (v : Tree). read (walkTree slots (suc depth) v)) (squash-leaf (λ v. compactTree depth v) w)
   slot-walk depth (node f) ih = byBool (emptyTree (compactTree depth (node f)))
@@ -67,5 +69,6 @@ module _ {A : Type 0} (slots : ℕ → ℕ) (inside : (depth : ℕ) → slots de
   compact-walk (suc depth) (leaf w) = refl
   compact-walk (suc depth) (node f) =
       let u = f (slots (suc depth)) in
-      ap (λ (b : Bool). read (walkTree slots (suc depth) (cond b (squash (λ v. compactTree depth v) u) u))) (lt-ltb (slots (suc depth)) 512 (inside (suc depth)))
+      ap (λ (b : Bool). read (walkTree slots (suc depth) (cond b (squash (λ v. compactTree depth v) u) u)))
+      (lt-ltb (slots (suc depth)) 512 (inside (suc depth)))
       ∙ slot-walk depth u (λ g. compact-walk depth (node g))

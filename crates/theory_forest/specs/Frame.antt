@@ -1,4 +1,4 @@
--- What a change of words does to trees. The frame lemma: a tree depends only on the tables under it. Assumes nothing.
+-- What a change of words does to trees. The frame lemma: a tree depends only on the tables under it.
 use mathlib.Core.Path.{_≡_, sym, ap, _∙_}
 use mathlib.Core.Logic.{_⊎_, inl, inr, _≢_}
 use Prim.Native.Nat.{ℕ, zero, suc, _%_}
@@ -6,7 +6,8 @@ use native.Mathlib.Omega.{arith}
 use Rattle.laws.specs.Test.{eq-or}
 use Rattle.theory_forest.specs.Tree.{Tree, leaf, node-ext, treeAt, entry, treeAt-node, entry-low, entry-table, entry-leaf}
 use Rattle.theory_forest.specs.Sound.{State, Codec, Used, Refers, Sound}
-use Rattle.theory_forest.specs.Under.{Under, NotUnder, LevelsLeft, under-self, refers-level, refers-under, refers-table, refers-child, refers-over, refers-one}
+use Rattle.theory_forest.specs.Under.{Under, NotUnder, LevelsLeft, under-self, refers-level, refers-under, refers-table, refers-child}
+use Rattle.theory_forest.specs.Under.{refers-over, refers-one}
 
 module _ (C : Codec) where
   -- the tree of table k, and the tree in its slot i, where k has `depth` levels below its own
@@ -40,7 +41,8 @@ module _ {C : Codec} {s : State} where
 module _ {C : Codec} {s : State} (S : Sound C s) (s′ : State) where
   -- a slot's tree stays if its word stays, and the tree of the table that it refers to
   slot-same : (depth k i : ℕ) → Used s k → LevelsLeft C s k depth → s′ .word k i ≡ s .word k i
-      → ((c l : ℕ) → Refers C s k i c → LevelsLeft C s c l → treeOf C s′ l c ≡ treeOf C s l c) → slotTree C s′ depth k i ≡ slotTree C s depth k i
+      → ((c l : ℕ) → Refers C s k i c → LevelsLeft C s c l → treeOf C s′ l c ≡ treeOf C s l c)
+      → slotTree C s′ depth k i ≡ slotTree C s depth k i
   slot-same zero k i used low word below =
       entry-low (C .child) (s′ .word) (s′ .word k i) ∙ ap leaf word ∙ sym (entry-low (C .child) (s .word) (s .word k i))
   slot-same (suc l) k i used low word below = ap (entry (C .child) (suc l) (s′ .word)) word ∙ go (eq-or (s .word k i % 4) 3)
@@ -62,8 +64,10 @@ module _ {C : Codec} {s : State} (S : Sound C s) (s′ : State) where
   pub frame : (depth c : ℕ) → Used s c → LevelsLeft C s c depth → ((d j : ℕ) → Under C s c d j → (i : ℕ) → s′ .word j i ≡ s .word j i)
       → treeOf C s′ depth c ≡ treeOf C s depth c
   frame zero c used low same =
-      tree-same 0 c (λ i. slot-same 0 c i used low (same 0 c (under-self used) i) (λ e l r low′. absurd (omega (arith, low, low′, refers-level r))))
-  frame (suc depth) c used low same = tree-same (suc depth) c (λ i. slot-same (suc depth) c i used low (same 0 c (under-self used) i) (λ e l r low′.
+      tree-same 0 c
+      (λ i. slot-same 0 c i used low (same 0 c (under-self used) i) (λ e l r low′. absurd (omega (arith, low, low′, refers-level r))))
+  frame (suc depth) c used low same =
+      tree-same (suc depth) c (λ i. slot-same (suc depth) c i used low (same 0 c (under-self used) i) (λ e l r low′.
       let at : l ≡ depth = omega (arith, low, low′, refers-level r) in
       rw at (frame depth e (r .used) (omega (arith, low, refers-level r)) (λ d j under. same (suc d) j (refers-under r under)))))
 
@@ -74,8 +78,10 @@ module _ {C : Codec} {s : State} (S : Sound C s) (s′ : State) where
       → slotTree C s′ depth k i′ ≡ slotTree C s depth k i′
   change-slot depth {k} {i} {i′} change used low other = slot-same depth k i′ used low (change .slots i′ other) (λ e l r low′.
       frame l e (r .used) low′ (λ d j under.
-      change .others j (under .used) (λ same. refers-over r d (rw (← same) under)) (λ e′ d′ r′ under′. other (refers-one r r′ under under′))))
+      change .others j (under .used) (λ same. refers-over r d (rw (← same) under))
+      (λ e′ d′ r′ under′. other (refers-one r r′ under under′))))
 
   -- a change at a slot of k is one in table k and under it
   pub change-outside : {k i : ℕ} → Used s k → Change C s s′ k i → Outside C s s′ k
-  change-outside used change j used′ off = change .others j used′ (λ same. off 0 (rw same (under-self used))) (λ c d r under. off (suc d) (refers-under r under))
+  change-outside used change j used′ off =
+      change .others j used′ (λ same. off 0 (rw same (under-self used))) (λ c d r under. off (suc d) (refers-under r under))

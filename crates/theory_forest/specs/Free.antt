@@ -1,11 +1,12 @@
 -- The third step: a whole subtree is unlinked and freed. Sound again. The fourth step, to free a table whose
--- words are all 0, is the case with nothing below it. Assumes nothing.
+-- words are all 0, is the case with nothing below it.
 use mathlib.Core.Path.{_≡_, sym, ap, _∙_, subst}
 use mathlib.Core.Logic.{_⊎_, inl, inr, _≢_}
 use Prim.Native.Nat.{ℕ, zero, suc, _≤_, _<_}
 use native.Mathlib.Omega.{arith}
 use Rattle.theory_forest.specs.Sound.{State, Codec, Used, levelIn, parent, slotIn, IsTable, Hangs, Refers, Sound}
-use Rattle.theory_forest.specs.Under.{Under, NotUnder, under-self, under-zero, under-step, under-back, under-via, under-or, hangs-refers, refers-table, refers-child, refers-over}
+use Rattle.theory_forest.specs.Under.{Under, NotUnder, under-self, under-zero, under-step, under-back, under-via, under-or}
+use Rattle.theory_forest.specs.Under.{hangs-refers, refers-table, refers-child, refers-over}
 use Rattle.theory_forest.specs.Hang.{root-not-hung}
 use Rattle.theory_forest.specs.Frame.{Change}
 use Rattle.theory_forest.specs.Keep.{SameSlot, same-slot-or, Fits, hangs-keep, refers-keep}
@@ -64,7 +65,9 @@ module _ {C : Codec} {s s′ : State} {p i e v : ℕ} (S : Sound C s) (frees : F
       hang k off u (inl root) = inl (rw (frees .ledger k off) root)
       hang k off u (inr h) =
           let over = parent-off k u off h in
-          inr (hangs-keep s′ (frees .ledger k off) (frees .ledger (parent C s k) over) (frees .words (parent C s k) (slotIn C s k) over (elsewhere k u off h)) h)
+          inr
+          (hangs-keep s′ (frees .ledger k off) (frees .ledger (parent C s k) over)
+          (frees .words (parent C s k) (slotIn C s k) over (elsewhere k u off h)) h)
 
       child-off : (k j c : ℕ) → NotUnder C s e k → ¬ (SameSlot k j p i) → Refers C s k j c → NotUnder C s e c
       child-off k j c off ne rc zero under =
@@ -72,11 +75,16 @@ module _ {C : Codec} {s s′ : State} {p i e v : ℕ} (S : Sound C s) (frees : F
           ne (sym (rc .from) ∙ ap (parent C s) same ∙ r .from, sym (rc .at) ∙ ap (slotIn C s) same ∙ r .at)
       child-off k j c off ne rc (suc d) under = off d (rw (← rc .from) (under-back S under .1))
 
-      name : (k j : ℕ) → NotUnder C s e k → Used s k → IsTable C s′ k j → SameSlot k j p i ⊎ (¬ (SameSlot k j p i)) → (c : ℕ) × Refers C s′ k j c
-      name k j off u t (inl at) = absurd (fits .plain (rw (frees .ledger k off, at .0, levelIn) at (t .0), rw (at .0, at .1, frees .here) at (t .1)))
+      name : (k j : ℕ) → NotUnder C s e k → Used s k → IsTable C s′ k j → SameSlot k j p i ⊎ (¬ (SameSlot k j p i))
+          → (c : ℕ) × Refers C s′ k j c
+      name k j off u t (inl at) =
+          absurd (fits .plain (rw (frees .ledger k off, at .0, levelIn) at (t .0), rw (at .0, at .1, frees .here) at (t .1)))
       name k j off u t (inr ne) =
-          let n = S .names k j u (rw (frees .ledger k off, levelIn) at (t .0), rw (frees .words k j off ne) at (t .1)) in
-          (n .0, refers-keep s′ (frees .ledger (n .0) (child-off k j (n .0) off ne (n .1))) (frees .ledger k off) (frees .words k j off ne) (n .1))
+          let n = S .names k j u (rw (frees .ledger k off, levelIn) at (t .0), rw (frees .words k j off ne) at (t .1)) in (
+            n .0,
+            refers-keep s′ (frees .ledger (n .0) (child-off k j (n .0) off ne (n .1))) (frees .ledger k off) (frees .words k j off ne)
+                (n .1),
+          )
 
       leafy : (k j : ℕ) → NotUnder C s e k → Used s k → j < 512 → ¬ (IsTable C s′ k j) → SameSlot k j p i ⊎ (¬ (SameSlot k j p i))
           → C .Leaf (s′ .ledger k) (s′ .word k j)

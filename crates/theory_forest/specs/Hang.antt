@@ -1,5 +1,5 @@
--- A sound pool is a forest: every used table hangs from a root and is reached from there by following slots, by one path alone; exactly one slot refers to
--- it, and none refers to a root or to a free table. Assumes nothing.
+-- A sound pool is a forest: every used table hangs from a root and is reached from there by following slots, by one path alone; exactly one
+-- slot refers to it, and none refers to a root or to a free table.
 use mathlib.Core.Path.{_≡_, refl, sym, ap, _∙_, subst}
 use mathlib.Core.List.{List, [], _∷_}
 use mathlib.Core.Logic.{_⊎_, inl, inr}
@@ -7,7 +7,8 @@ use Prim.Native.Nat.{ℕ, zero, suc, _+_}
 use native.Mathlib.Omega.{arith}
 use lib.ListN.{length}
 use Rattle.theory_forest.specs.Sound.{State, Codec, Used, levelIn, parent, slotIn, IsTable, Hangs, Refers, Sound}
-use Rattle.theory_forest.specs.Under.{Under, under-self, under-zero, under-step, under-back, under-either, hangs-refers, refers-table, refers-child, refers-level}
+use Rattle.theory_forest.specs.Under.{Under, under-self, under-zero, under-step, under-back, under-either, hangs-refers, refers-table}
+use Rattle.theory_forest.specs.Under.{refers-child, refers-level}
 
 module _ (C : Codec) where
   -- table j lies under a root
@@ -82,7 +83,8 @@ module _ {C : Codec} {s : State} where
       go zero j rest t under to = subst (λ (k : ℕ). Reaches C s k rest t) (under-zero under) to
       go (suc d) j rest t under to =
           let back = under-back S under in
-          go d (parent C s j) (slotIn C s j ∷ rest) t (back .1) (down (refers-points (back .0 .used) (hangs-refers (under .used) (back .0))) to)
+          go d (parent C s j) (slotIn C s j ∷ rest) t (back .1)
+          (down (refers-points (back .0 .used) (hangs-refers (under .used) (back .0))) to)
 
   -- whatever points to table c refers to it, so it is the slot that c's number names
   pub once : {k i c : ℕ} → Sound C s → Points C s k i c → Refers C s k i c

@@ -1,4 +1,4 @@
--- What the steps share: a word that may stand as a leaf, and what of a table must stay so that it still hangs. Assumes nothing.
+-- What the steps share: a word that may stand as a leaf, and what of a table must stay so that it still hangs.
 use mathlib.Core.Path.{_≡_, ap, _∙_, subst₂}
 use mathlib.Core.Logic.{_⊎_, inl, inr, _≢_}
 use Prim.Native.Nat.{ℕ, zero, suc, _+_}
@@ -31,7 +31,8 @@ module _ (C : Codec) where
   zero-fits x = record { plain = λ t. omega (arith, t .1); good = C .zero-leaf x }
 
   -- in a table at level l a word that is no table word is a leaf
-  pub slot-leaf : (s : State) (depth k i : ℕ) {l v : ℕ} → l + depth ≡ 3 → s .word k i ≡ v → ¬ (TableWord l v) → slotTree C s depth k i ≡ leaf v
+  pub slot-leaf : (s : State) (depth k i : ℕ) {l v : ℕ} → l + depth ≡ 3 → s .word k i ≡ v → ¬ (TableWord l v)
+      → slotTree C s depth k i ≡ leaf v
   slot-leaf s depth k i {l} {v} low word plain = ap (entry (C .child) depth (s .word)) word ∙ go depth low
     where
       go : (depth : ℕ) → l + depth ≡ 3 → entry (C .child) depth (s .word) v ≡ leaf v

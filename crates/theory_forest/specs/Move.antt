@@ -1,5 +1,5 @@
--- The steps as moves: `Move s s′ left k i t` says that s′ differs from s only at slot i of table k, whose tree is now t; `TableMove` says the same of a
--- whole table, `Runs` of its first slots. Assumes nothing.
+-- The steps as moves: `Move s s′ left k i t` says that s′ differs from s only at slot i of table k, whose tree is now t; `TableMove` says
+-- the same of a whole table, `Runs` of its first slots.
 use mathlib.Core.Path.{_≡_, refl, ap, _∙_, subst⁻¹}
 use mathlib.Core.Logic.{_⊎_, inl, inr, _≢_}
 use Prim.Native.Nat.{ℕ, suc, _≤_, _<_}
@@ -13,7 +13,8 @@ use Rattle.theory_forest.specs.Keep.{Fits, slot-leaf}
 use Rattle.theory_forest.specs.Store.{Stored, store-change, store-sound}
 use Rattle.theory_forest.specs.Split.{Splits, SplitFits, split-change, split-sound, new-refers}
 use Rattle.theory_forest.specs.Free.{Frees, Clears, free-change, free-sound, free-empty-frees}
-use Rattle.theory_forest.specs.Place.{At, Over, slot-self, below-self, at-refl, at-trans, at-used, at-over, over-refl, over-trans, over-at, over-refers}
+use Rattle.theory_forest.specs.Place.{At, Over, slot-self, below-self, at-refl, at-trans, at-used, at-over, over-refl, over-trans}
+use Rattle.theory_forest.specs.Place.{over-at, over-refers}
 
 module _ (C : Codec) where
   pub record Move (s s′ : State) (depth k i : ℕ) (t : Tree) : Type 0 where
@@ -43,22 +44,35 @@ module _ {C : Codec} {s s′ : State} (S : Sound C s) where
   module _ (depth : ℕ) {k i v : ℕ} (used : Used s k) (inside : i < 512) (low : LevelsLeft C s k depth) (fits : Fits C (s .ledger k) v) where
     pub move-store : Stored s s′ k i v → ¬ (IsTable C s k i) → Move C s s′ depth k i (leaf v)
     move-store stored old = record {
-      at = record { sound = store-sound S stored used inside old fits; words = store-change S stored used inside old fits; ledger = λ j u off. stored .ledger j };
+      at =
+          record {
+            sound = store-sound S stored used inside old fits;
+            words = store-change S stored used inside old fits;
+            ledger = λ j u off. stored .ledger j;
+          };
       tree = slot-leaf C s′ depth k i low (stored .here) (fits .plain);
     }
 
     pub move-free : {e : ℕ} → Frees C s s′ k i e v → Refers C s k i e → Move C s s′ depth k i (leaf v)
     move-free {e} frees r = record {
-      at = record { sound = free-sound S frees used inside r fits; words = free-change S frees used inside r fits; ledger = λ j u off. frees .ledger j (λ d. off e d r) };
+      at =
+          record {
+            sound = free-sound S frees used inside r fits;
+            words = free-change S frees used inside r fits;
+            ledger = λ j u off. frees .ledger j (λ d. off e d r);
+          };
       tree = slot-leaf C s′ depth k i low (frees .here) (fits .plain);
     }
 
   -- work in a child is a move at its slot
-  pub move-down : (depth : ℕ) {k i c : ℕ} {t : Tree} → Used s k → Refers C s k i c → TableMove C s s′ depth c t → Move C s s′ (suc depth) k i t
-  move-down depth used r work = record { at = over-at S used r (work .over); tree = slot-refers depth (over-refers S used r (work .over)) ∙ work .tree }
+  pub move-down : (depth : ℕ) {k i c : ℕ} {t : Tree} → Used s k → Refers C s k i c → TableMove C s s′ depth c t
+      → Move C s s′ (suc depth) k i t
+  move-down depth used r work =
+      record { at = over-at S used r (work .over); tree = slot-refers depth (over-refers S used r (work .over)) ∙ work .tree }
 
 -- a split, and then work in the new table
-module _ {C : Codec} {s s′ : State} {k i f x : ℕ} {g : ℕ → ℕ} (S : Sound C s) (splits : Splits C s s′ k i f x g) (fit : SplitFits C s k i f x g)
+module _ {C : Codec} {s s′ : State} {k i f x : ℕ} {g : ℕ → ℕ} (S : Sound C s) (splits : Splits C s s′ k i f x g)
+    (fit : SplitFits C s k i f x g)
     (used : Used s k) (inside : i < 512) (old : ¬ (IsTable C s k i)) (fresh : s .ledger f ≡ 0) where
   pub split-at : At C s s′ k i
   split-at = record {
@@ -69,12 +83,14 @@ module _ {C : Codec} {s s′ : State} {k i f x : ℕ} {g : ℕ → ℕ} (S : Sou
 
   pub move-split : (depth : ℕ) {s″ : State} {t : Tree} → TableMove C s′ s″ depth f t → Move C s s″ (suc depth) k i t
   move-split depth work =
-      let move = move-down (split-at .sound) depth (at-used S split-at used slot-self) (new-refers S splits fit used inside old fresh) work in
+      let move = move-down (split-at .sound) depth (at-used S split-at used slot-self)
+      (new-refers S splits fit used inside old fresh) work in
       record { at = at-trans S split-at (move .at); tree = move .tree }
 
 -- work in a child that leaves it all zero, and then the child cleared
 module _ {C : Codec} {s s′ s″ : State} (S : Sound C s) where
-  pub move-clear : (depth : ℕ) {k i c v : ℕ} {t : Tree} → Used s k → i < 512 → LevelsLeft C s k (suc depth) → Fits C (s .ledger k) v → Refers C s k i c
+  pub move-clear : (depth : ℕ) {k i c v : ℕ} {t : Tree} → Used s k → i < 512 → LevelsLeft C s k (suc depth) → Fits C (s .ledger k) v
+      → Refers C s k i c
       → TableMove C s s′ depth c t → ((j : ℕ) → s′ .word c j ≡ 0) → Clears s′ s″ k i c v → Move C s s″ (suc depth) k i (leaf v)
   move-clear depth {k} {v = v} used inside low fits r work zeros clears =
       let S′ = work .over .sound in

@@ -1,4 +1,4 @@
--- As many tables are in use as the trees have nodes. Assumes nothing.
+-- As many tables are in use as the trees have nodes.
 use mathlib.Core.Path.{_≡_, refl, sym, ap, _∙_}
 use mathlib.Core.Bool.{true, false, cond}
 use mathlib.Core.Logic.{_⊎_, inl, inr, _≢_}
@@ -9,7 +9,8 @@ use Rattle.laws.specs.Test.{eq-or, eqb-cases}
 use Rattle.laws.specs.Sum.{sum, sum-ext, sum-none, sum-one, sum-add, sum-swap}
 use Rattle.theory_forest.specs.Tree.{Tree, leaf, node, treeAt-node, entry-low, entry-leaf}
 use Rattle.theory_forest.specs.Sound.{State, Codec, Used, levelIn, Refers, Sound}
-use Rattle.theory_forest.specs.Under.{Under, NotUnder, LevelsLeft, under-self, under-zero, under-via, under-or, refers-level, refers-table, refers-child, refers-under, refers-over}
+use Rattle.theory_forest.specs.Under.{Under, NotUnder, LevelsLeft, under-self, under-zero, under-via, under-or, refers-level}
+use Rattle.theory_forest.specs.Under.{refers-table, refers-child, refers-under, refers-over}
 use Rattle.theory_forest.specs.Under.{refers-one}
 use Rattle.theory_forest.specs.Hang.{grounded}
 use Rattle.theory_forest.specs.Frame.{treeOf, slotTree, slot-refers}
@@ -77,7 +78,8 @@ module _ {C : Codec} {s : State} (S : Sound C s) where
     unfolding inSlot
     slot-no i j off = go (eqb-cases (s .word c i % 4) 3)
       where
-        go : ((s .word c i % 4 ≡ 3) × (eqb (s .word c i % 4) 3 ≡ true)) ⊎ ((s .word c i % 4 ≢ 3) × (eqb (s .word c i % 4) 3 ≡ false)) → inSlot C s c i j ≡ 0
+        go : ((s .word c i % 4 ≡ 3) × (eqb (s .word c i % 4) 3 ≡ true)) ⊎ ((s .word c i % 4 ≢ 3) × (eqb (s .word c i % 4) 3 ≡ false))
+            → inSlot C s c i j ≡ 0
         go (inl t) = let n = S .names c i used (high, t .0) in slot-yes C s c i (n .0) j (n .1) ∙ lies-no C s (n .0) j (off (n .0) (n .1))
         go (inr t) = rw (t .1)
 
@@ -142,23 +144,27 @@ module _ {C : Codec} {s : State} (S : Sound C s) where
         let e = one-self c used in
         let f = sum-ext 512 (λ i. sum n (λ j. inSlot C s c i j)) (λ i. nodes (slotTree C s (suc depth) c i))
         (λ i h. slot i (λ e r. under-nodes depth e (r .used) (omega (arith, low, refers-level r))) (eq-or (s .word c i % 4) 3)) in
-        let g : nodes (treeOf C s (suc depth) c) ≡ suc (sum 512 (λ i. nodes (slotTree C s (suc depth) c i))) = ap nodes (treeAt-node (C .child) (suc depth) (s .word) c) in
+        let g : nodes (treeOf C s (suc depth) c) ≡ suc (sum 512 (λ i. nodes (slotTree C s (suc depth) c i))) =
+        ap nodes (treeAt-node (C .child) (suc depth) (s .word) c) in
         omega arith
       where
         high : levelIn C s c < 3
         high = omega arith
 
-        slot : (i : ℕ) → ((e : ℕ) → Refers C s c i e → sum n (lies C s e) ≡ nodes (treeOf C s depth e)) → (s .word c i % 4 ≡ 3) ⊎ (s .word c i % 4 ≢ 3)
+        slot : (i : ℕ) → ((e : ℕ) → Refers C s c i e → sum n (lies C s e) ≡ nodes (treeOf C s depth e))
+            → (s .word c i % 4 ≡ 3) ⊎ (s .word c i % 4 ≢ 3)
             → sum n (λ j. inSlot C s c i j) ≡ nodes (slotTree C s (suc depth) c i)
         slot i ih (inl both) =
             let m = S .names c i used (high, both) in
-            sum-ext n (λ j. inSlot C s c i j) (lies C s (m .0)) (λ j h. slot-yes C s c i (m .0) j (m .1)) ∙ ih (m .0) (m .1) ∙ sym (ap nodes (slot-refers depth (m .1)))
+            sum-ext n (λ j. inSlot C s c i j) (lies C s (m .0)) (λ j h. slot-yes C s c i (m .0) j (m .1)) ∙ ih (m .0) (m .1)
+            ∙ sym (ap nodes (slot-refers depth (m .1)))
         slot i ih (inr other) =
             sum-none n (λ j. inSlot C s c i j) (λ j h. slot-no c used high i j (λ e r. absurd (other (refers-table r .1))))
             ∙ sym (ap nodes (entry-leaf (C .child) (suc depth) (s .word) (s .word c i) other))
 
     -- COUNT: with one root, the tables in use are the nodes of its tree
-    pub used-nodes : (depth root : ℕ) → C .Root root (s .ledger root) → ((k : ℕ) → C .Root k (s .ledger k) → k ≡ root) → LevelsLeft C s root depth
+    pub used-nodes : (depth root : ℕ) → C .Root root (s .ledger root) → ((k : ℕ) → C .Root k (s .ledger k) → k ≡ root)
+        → LevelsLeft C s root depth
         → inUse n s ≡ nodes (treeOf C s depth root)
     unfolding inUse
     used-nodes depth root isRoot single low =

@@ -1,11 +1,12 @@
 -- Where a state differs from another, so that steps compose. `At s s′ k i`: s′ is sound and differs only in slot i of table k and under it.
--- `Over s s′ k`: only in table k and under it. Assumes nothing.
+-- `Over s s′ k`: only in table k and under it.
 use mathlib.Core.Path.{_≡_, refl, _∙_, subst₂}
 use mathlib.Core.Logic.{_⊎_, inl, inr, _≢_}
 use Prim.Native.Nat.{ℕ, zero, suc}
 use native.Mathlib.Omega.{arith}
 use Rattle.theory_forest.specs.Sound.{State, Codec, Used, parent, slotIn, Hangs, Refers, Sound}
-use Rattle.theory_forest.specs.Under.{Under, NotUnder, LevelsLeft, under-self, under-zero, under-step, under-back, under-apart, hangs-refers, refers-under, refers-over}
+use Rattle.theory_forest.specs.Under.{Under, NotUnder, LevelsLeft, under-self, under-zero, under-step, under-back, under-apart}
+use Rattle.theory_forest.specs.Under.{hangs-refers, refers-under, refers-over}
 use Rattle.theory_forest.specs.Hang.{root-not-hung, root-one}
 use Rattle.theory_forest.specs.Frame.{treeOf, NotUnderSlot, Change, Outside, change-outside, frame}
 use Rattle.theory_forest.specs.Keep.{refers-keep}
@@ -74,7 +75,8 @@ module _ {C : Codec} {s s′ : State} (S : Sound C s) where
       let b = before S (a .sound) (NotUnderSlot C s k i) closed (a .ledger) c d j used off under in
       let own = a .ledger c (b .used) (b .kept) in
       let h = hangs-before S (a .sound) (NotUnderSlot C s k i) closed (a .ledger) c (b .used) (b .kept) (r .hung) in
-      let r′ = subst₂ (λ (k i : ℕ). Refers C s k i c) (rw (own, parent) at (r .from)) (rw (own, slotIn) at (r .at)) (hangs-refers (b .used) h) in
+      let r′ = subst₂ (λ (k i : ℕ). Refers C s k i c) (rw (own, parent) at (r .from)) (rw (own, slotIn) at (r .at))
+      (hangs-refers (b .used) h) in
       b .kept c 0 r′ (under-self (b .used))
     where
       closed : (j : ℕ) → Used s j → NotUnderSlot C s k i j → Hangs C s j → NotUnderSlot C s k i (parent C s j)
@@ -97,7 +99,8 @@ module _ {C : Codec} {s s′ : State} (S : Sound C s) where
     sound = b .sound;
     words = record {
       slots = λ j other. b .words .slots j other ∙ a .words .slots j other;
-      others = λ j used other off i. b .words .others j (at-used a used off) other (at-slot a used off) i ∙ a .words .others j used other off i;
+      others =
+          λ j used other off i. b .words .others j (at-used a used off) other (at-slot a used off) i ∙ a .words .others j used other off i;
     };
     ledger = λ j used off. b .ledger j (at-used a used off) (at-slot a used off) ∙ a .ledger j used off;
   }
@@ -113,7 +116,8 @@ module _ {C : Codec} {s s′ : State} (S : Sound C s) where
 
   -- a change at a slot of k is a change of k
   pub at-over : {k i : ℕ} → Used s k → At C s s′ k i → Over C s s′ k
-  at-over used a = record { sound = a .sound; words = change-outside S s′ used (a .words); ledger = λ j used′ off. a .ledger j used′ (below-slot off) }
+  at-over used a =
+      record { sound = a .sound; words = change-outside S s′ used (a .words); ledger = λ j used′ off. a .ledger j used′ (below-slot off) }
 
   -- a change of a child is a change at its slot
   pub over-at : {k i c : ℕ} → Used s k → Refers C s k i c → Over C s s′ c → At C s s′ k i
@@ -129,12 +133,14 @@ module _ {C : Codec} {s s′ : State} (S : Sound C s) where
   -- the slot still refers to the child
   pub over-refers : {k i c : ℕ} → Used s k → Refers C s k i c → Over C s s′ c → Refers C s′ k i c
   over-refers {k} {i} {c} used r o =
-      refers-keep s′ (o .ledger c (r .used) below-self) (o .ledger k used (λ d. refers-over r (suc d))) (o .words k used (refers-over r) i) r
+      refers-keep s′ (o .ledger c (r .used) below-self) (o .ledger k used (λ d. refers-over r (suc d)))
+      (o .words k used (refers-over r) i) r
 
   -- every tree that is neither over k nor under it stays: the trees of other roots
   pub over-stays : (all : ℕ) {k c : ℕ} → Over C s s′ k → Used s k → Used s c → LevelsLeft C s c all → NotUnder C s c k → NotUnder C s k c
       → treeOf C s′ all c ≡ treeOf C s all c
-  over-stays all {k} {c} o used used′ low off off′ = frame S s′ all c used′ low (λ d j under. o .words j (under .used) (under-apart used′ used off off′ under))
+  over-stays all {k} {c} o used used′ low off off′ =
+      frame S s′ all c used′ low (λ d j under. o .words j (under .used) (under-apart used′ used off off′ under))
 
   pub root-stays : (all : ℕ) {k c : ℕ} → Over C s s′ k → C .Root k (s .ledger k) → C .Root c (s .ledger c) → k ≢ c → LevelsLeft C s c all
       → treeOf C s′ all c ≡ treeOf C s all c
@@ -146,7 +152,8 @@ module _ {C : Codec} {s s′ : State} (S : Sound C s) where
 
 module _ {C : Codec} {s : State} (S : Sound C s) where
   pub at-refl : {k i : ℕ} → At C s s k i
-  at-refl = record { sound = S; words = record { slots = λ j other. refl; others = λ j used other off i. refl }; ledger = λ j used off. refl }
+  at-refl =
+      record { sound = S; words = record { slots = λ j other. refl; others = λ j used other off i. refl }; ledger = λ j used off. refl }
 
   pub over-refl : {k : ℕ} → Over C s s k
   over-refl = record { sound = S; words = λ j used off i. refl; ledger = λ j used off. refl }

@@ -1,5 +1,5 @@
 -- What a sound pool is: document 01, "Pool and ledger", by local facts alone. A `Codec` says how a ledger number is read, which tables are
--- roots, which words may stand as leaves and how a table word is made; the theory of sound pools holds for any. Assumes nothing.
+-- roots, which words may stand as leaves and how a table word is made; the theory of sound pools holds for any.
 use mathlib.Core.Path.{_≡_}
 use mathlib.Core.Logic.{_⊎_}
 use Prim.Native.Nat.{ℕ, suc, _%_, _≤_, _<_}

@@ -1,5 +1,4 @@
 -- The second step, a split: a free table is filled with leaves, entered in the ledger and linked in the place of a leaf. Sound again.
--- Assumes nothing.
 use mathlib.Core.Path.{_≡_, sym, ap, _∙_}
 use mathlib.Core.Logic.{_⊎_, inl, inr, _≢_}
 use Prim.Native.Nat.{ℕ, suc, _+_, _≤_, _<_}
@@ -29,7 +28,8 @@ module _ (C : Codec) where
     pub fits : (j : ℕ) → j < 512 → Fits C x (g j)
     pub wide : (j : ℕ) → 512 ≤ j → g j ≡ 0
 
-module _ {C : Codec} {s s′ : State} {p i f x : ℕ} {g : ℕ → ℕ} (S : Sound C s) (splits : Splits C s s′ p i f x g) (fit : SplitFits C s p i f x g)
+module _ {C : Codec} {s s′ : State} {p i f x : ℕ} {g : ℕ → ℕ} (S : Sound C s) (splits : Splits C s s′ p i f x g)
+    (fit : SplitFits C s p i f x g)
     (used : Used s p) (inside : i < 512) (old : ¬ (IsTable C s p i)) (fresh : s .ledger f ≡ 0) where
   -- a table that was in use is not the new one
   not-new : (k : ℕ) → Used s k → k ≢ f
@@ -75,7 +75,9 @@ module _ {C : Codec} {s s′ : State} {p i f x : ℕ} {g : ℕ → ℕ} (S : Sou
 
   pub split-sound : Sound C s′
   split-sound = record {
-    rooted = λ k y root. splits .ledger k (λ e. omega (arith, fresh, C .root-used k y root, ap (s .ledger) e, S .rooted k y root)) ∙ S .rooted k y root;
+    rooted =
+        λ k y root. splits .ledger k (λ e. omega (arith, fresh, C .root-used k y root, ap (s .ledger) e, S .rooted k y root))
+        ∙ S .rooted k y root;
     hangs = λ k u. hang k u (eq-or k f);
     names = λ k j u t. name k j u t (eq-or k f) (same-slot-or k j p i);
     leaves = λ k j u l nt. leafy k j u l nt (eq-or k f) (same-slot-or k j p i);
@@ -90,18 +92,24 @@ module _ {C : Codec} {s s′ : State} {p i f x : ℕ} {g : ℕ → ℕ} (S : Sou
       keep k ne u (inl root) = inl (rw (splits .ledger k ne) root)
       keep k ne u (inr h) =
           let over = not-new (parent C s k) (h .used) in
-          inr (hangs-keep s′ (splits .ledger k ne) (splits .ledger (parent C s k) over) (splits .words (parent C s k) (slotIn C s k) over (hangs-elsewhere old u h)) h)
+          inr
+          (hangs-keep s′ (splits .ledger k ne) (splits .ledger (parent C s k) over)
+          (splits .words (parent C s k) (slotIn C s k) over (hangs-elsewhere old u h)) h)
 
       hang : (k : ℕ) → Used s′ k → (k ≡ f) ⊎ (k ≢ f) → C .Root k (s′ .ledger k) ⊎ Hangs C s′ k
       hang k u (inl e) = inr (rw e (new-refers .hung))
       hang k u (inr ne) = keep k ne (before k ne u) (S .hangs k (before k ne u))
 
-      name : (k j : ℕ) → Used s′ k → IsTable C s′ k j → (k ≡ f) ⊎ (k ≢ f) → SameSlot k j p i ⊎ (¬ (SameSlot k j p i)) → (c : ℕ) × Refers C s′ k j c
+      name : (k j : ℕ) → Used s′ k → IsTable C s′ k j → (k ≡ f) ⊎ (k ≢ f) → SameSlot k j p i ⊎ (¬ (SameSlot k j p i))
+          → (c : ℕ) × Refers C s′ k j c
       name k j u t (inl e) at = absurd (plain j (rw (← splits .number, ← e) (t .0), rw (← splits .filled j, ← e) (t .1)))
       name k j u t (inr ne) (inl e) = (f, rw (e .0, e .1) new-refers)
       name k j u t (inr ne) (inr off) =
-          let n = S .names k j (before k ne u) (rw (splits .ledger k ne, levelIn) at (t .0), rw (splits .words k j ne off) at (t .1)) in
-          (n .0, refers-keep s′ (splits .ledger (n .0) (not-new (n .0) (n .1 .used))) (splits .ledger k ne) (splits .words k j ne off) (n .1))
+          let n = S .names k j (before k ne u) (rw (splits .ledger k ne, levelIn) at (t .0), rw (splits .words k j ne off) at (t .1)) in (
+            n .0,
+            refers-keep s′ (splits .ledger (n .0) (not-new (n .0) (n .1 .used))) (splits .ledger k ne) (splits .words k j ne off)
+                (n .1),
+          )
 
       leafy : (k j : ℕ) → Used s′ k → j < 512 → ¬ (IsTable C s′ k j) → (k ≡ f) ⊎ (k ≢ f) → SameSlot k j p i ⊎ (¬ (SameSlot k j p i))
           → C .Leaf (s′ .ledger k) (s′ .word k j)

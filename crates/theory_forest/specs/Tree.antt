@@ -1,5 +1,4 @@
 -- Trees of words, and how a tree is read off the words of a pool. Nothing here knows the ledger or asks that the pool be sound.
--- Assumes nothing.
 use mathlib.Core.Path.{_≡_, refl, ap, fun-ext}
 use mathlib.Core.Bool.{true, false, cond}
 use mathlib.Core.Logic.{_⊎_, inl, inr, _≢_}

@@ -1,4 +1,4 @@
--- Up the tree by the ledger: which tables lie under which. Since each table has one way up, subtrees are apart for free. Assumes nothing.
+-- Up the tree by the ledger: which tables lie under which. Since each table has one way up, subtrees are apart for free.
 use mathlib.Core.Path.{_≡_, refl, sym, ap, _∙_, subst}
 use mathlib.Core.Logic.{_⊎_, inl, inr, _≢_}
 use Prim.Native.Nat.{ℕ, zero, suc, _+_, _-_, _≤_, _<_}
@@ -157,7 +157,13 @@ module _ {C : Codec} {s : State} where
       go (suc d) j under =
           let back = under-back S under in
           let via = go d (parent C s j) (back .1) in
-          record { slot = via .slot; top = via .top; deep = suc (via .deep); refers = via .refers; under = under-step (under .used) (back .0) (via .under) }
+          record {
+            slot = via .slot;
+            top = via .top;
+            deep = suc (via .deep);
+            refers = via .refers;
+            under = under-step (under .used) (back .0) (via .under);
+          }
 
   -- does j lie under c? One number of steps is possible, so one comparison decides it.
   pub under-or : (c j : ℕ) → ((d : ℕ) × Under C s c d j) ⊎ NotUnder C s c j

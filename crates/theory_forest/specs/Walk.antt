@@ -1,4 +1,4 @@
--- A walk of the words is a walk of the tree that they show. Nothing is asked of the pool. Assumes nothing.
+-- A walk of the words is a walk of the tree that they show. Nothing is asked of the pool.
 use mathlib.Core.Path.{_≡_, refl}
 use mathlib.Core.Bool.{Bool, true, false, cond}
 use Prim.Native.Nat.{ℕ, zero, suc, _%_}
@@ -35,11 +35,13 @@ module _ (slots : ℕ → ℕ) where
         t = node (λ i. entry child depth w (w (child x) i))
 
         go : (b : Bool) → walkWord depth w (w (child x) (slots depth)) ≡ walkTree depth (entry child depth w (w (child x) (slots depth)))
-            → cond b (walkWord depth w (w (child x) (slots depth))) (record { word = x; depth = suc depth }) ≡ walkTree (suc depth) (cond b t (leaf x))
+            → cond b (walkWord depth w (w (child x) (slots depth))) (record { word = x; depth = suc depth })
+            ≡ walkTree (suc depth) (cond b t (leaf x))
         go true ih = ih
         go false ih = refl
 
     -- down from table k
-    pub walk-tree : (depth : ℕ) (w : ℕ → ℕ → ℕ) (k : ℕ) → walkWord depth w (w k (slots depth)) ≡ walkTree (suc depth) (treeAt child depth w k)
+    pub walk-tree : (depth : ℕ) (w : ℕ → ℕ → ℕ) (k : ℕ)
+        → walkWord depth w (w k (slots depth)) ≡ walkTree (suc depth) (treeAt child depth w k)
     unfolding walkTree treeAt
     walk-tree depth w k = walk-entry depth w (w k (slots depth))

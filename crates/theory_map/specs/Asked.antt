@@ -1,4 +1,4 @@
--- What refusals 2 to 7 leave of a map: flags from the set, whole pages inside the root's span, frames below 2^48. Assumes nothing.
+-- What refusals 2 to 7 leave of a map: flags from the set, whole pages inside the root's span, frames below 2^48.
 use mathlib.Core.Path.{_≡_, refl, sym, ap, _∙_}
 use mathlib.Core.Bool.{Bool, true, false, cond, _&&_, _||_}
 use mathlib.Core.Logic.{_⊎_, inl, inr}
@@ -23,7 +23,8 @@ use Rattle.pool.specs.declared.Refusal.{Refusal}
 use Rattle.pool.specs.declared.Refusal.the-variants.{End, InvalidFlags, FlagSet, RegionBackwards, AddressRange, Frame}
 use Rattle.pool.specs.declared.Outcome.{Outcome}
 use Rattle.pool.specs.declared.Outcome.the-variants.{Accepted, Refused}
-use Rattle.region_verify.specs.Verify.{endFits, span as wide, inRange, verify, lower-start, lower-end, upper-start, verify-forwards, verified-forwards}
+use Rattle.region_verify.specs.Verify.{endFits, span as wide, inRange, verify, lower-start, lower-end, upper-start, verify-forwards}
+use Rattle.region_verify.specs.Verify.{verified-forwards}
 use Rattle.map_rules.specs.declared.Map.{Map}
 use Rattle.map_rules.specs.Fit.{Fit}
 use Rattle.map_verify.specs.Ask.{askedMap, frameAsked, first as firstOf, verifyMap, passes, only-plain, asked-fit, up-pages}
@@ -43,7 +44,8 @@ no-refusal e q = let z : _≡_ {A = ℕ} 0 1 = cc in omega arith
 lower-ends : (level : ℕ) (r : MemoryRegion) → inRange Lower level r ≡ Accepted → r .end .0 ≤ 512 * sizeAt level
 lower-ends level r ok = go (le-or (2 ^ 63) (r .start .0)) (le-or (r .end .0) (512 * sizeAt level))
   where
-    go : (2 ^ 63 ≤ r .start .0) ⊎ (r .start .0 < 2 ^ 63) → (r .end .0 ≤ 512 * sizeAt level) ⊎ (512 * sizeAt level < r .end .0) → r .end .0 ≤ 512 * sizeAt level
+    go : (2 ^ 63 ≤ r .start .0) ⊎ (r .start .0 < 2 ^ 63) → (r .end .0 ≤ 512 * sizeAt level) ⊎ (512 * sizeAt level < r .end .0)
+        → r .end .0 ≤ 512 * sizeAt level
     go (inl l) b = absurd (no-refusal (lower-start Lower level r refl refl l) ok)
     go (inr l) (inl b) = b
     go (inr l) (inr b) = absurd (no-refusal (lower-end Lower level r refl refl l b) ok)
@@ -51,14 +53,16 @@ lower-ends level r ok = go (le-or (2 ^ 63) (r .start .0)) (le-or (r .end .0) (51
 upper-starts : (level : ℕ) (r : MemoryRegion) → inRange Upper level r ≡ Accepted → 2 ^ 64 - 512 * sizeAt level ≤ r .start .0
 upper-starts level r ok = go (le-or (r .start .0) (2 ^ 64 - 1 - 512 * sizeAt level))
   where
-    go : (r .start .0 ≤ 2 ^ 64 - 1 - 512 * sizeAt level) ⊎ (2 ^ 64 - 1 - 512 * sizeAt level < r .start .0) → 2 ^ 64 - 512 * sizeAt level ≤ r .start .0
+    go : (r .start .0 ≤ 2 ^ 64 - 1 - 512 * sizeAt level) ⊎ (2 ^ 64 - 1 - 512 * sizeAt level < r .start .0)
+        → 2 ^ 64 - 512 * sizeAt level ≤ r .start .0
     go (inl l) = absurd (no-refusal (upper-start Upper level r refl refl l) ok)
     go (inr l) = let h = size-high level in omega arith
 
 -- its pages, in the root's table
 root-pages : (range : VaRange) (depth : ℕ) (r : MemoryRegion) → depth ≤ 3 → inRange range (3 - depth) r ≡ Accepted
     → r .start .0 ≤ r .end .0 → r .end .0 < 2 ^ 64 → r .end .0 % 4096 ≡ 0
-    → (first (suc depth) (rootOf range depth) ≤ r .start .0 / 4096) × (r .end .0 / 4096 ≤ first (suc depth) (rootOf range depth) + pagesIn (suc depth))
+    → (first (suc depth) (rootOf range depth) ≤ r .start .0 / 4096)
+    × (r .end .0 / 4096 ≤ first (suc depth) (rootOf range depth) + pagesIn (suc depth))
 unfolding rootOf first
 root-pages Lower depth r low ok some small paged =
     let e = lower-ends (3 - depth) r ok in
@@ -84,7 +88,8 @@ pages-inside h start end frame low ok paged =
     let r : MemoryRegion = rounded start end in
     let some = verified-forwards h r ok in
     let e : h .level ≡ 3 - (3 - h .level) = omega arith in
-    let range : inRange (h .range) (3 - (3 - h .level)) r ≡ Accepted = ap (λ (l : ℕ). inRange (h .range) l r) (sym e) ∙ verify-forwards h r some ∙ ok in
+    let range : inRange (h .range) (3 - (3 - h .level)) r ≡ Accepted =
+    ap (λ (l : ℕ). inRange (h .range) l r) (sym e) ∙ verify-forwards h r some ∙ ok in
     let pages = root-pages (h .range) (3 - h .level) r (omega arith) range some (aligned-below end) (up-pages end) in
     record { startPage = down-paged 3 start; endPage = up-pages end; framePage = paged; low = pages .0; high = pages .1 }
 
@@ -93,7 +98,10 @@ pub flags-allowed : (h : Handle) (f : ℕ) → only (flagSet h) f ≡ true → f
 unfolding only
 flags-allowed h f from clear =
     let sub : SubBits f (flagSet h) = eqb→eq (bitAnd f (flagSet h)) f (rw from tt) in
-    record { plain = record { bits = only-plain h f from; clear = clear; wide = omega (arith, and-le-r f (flagSet h), set-below h) }; from = sub }
+    record {
+      plain = record { bits = only-plain h f from; clear = clear; wide = omega (arith, and-le-r f (flagSet h), set-below h) };
+      from = sub;
+    }
 
 -- ---- what is left of a call
 
@@ -135,14 +143,18 @@ range-early : (range : VaRange) (level : ℕ) (r : MemoryRegion) → Early (inRa
 unfolding inRange
 range-early Lower level r =
     let ends : Bool = ltb (wide level) (r .end .0) in
-    cond-early (leb (2 ^ 63) (r .start .0)) (Refused (AddressRange (r .start))) (cond ends (Refused (AddressRange (r .end))) Accepted) (lit< tt)
+    cond-early (leb (2 ^ 63) (r .start .0)) (Refused (AddressRange (r .start))) (cond ends (Refused (AddressRange (r .end))) Accepted)
+    (lit< tt)
     (cond-early ends (Refused (AddressRange (r .end))) Accepted (lit< tt) tt)
 range-early Upper level r =
-    cond-early (ltb (r .start .0) (2 ^ 63) || ltb (r .start .0) (2 ^ 64 - wide level)) (Refused (AddressRange (r .start))) Accepted (lit< tt) tt
+    cond-early (ltb (r .start .0) (2 ^ 63) || ltb (r .start .0) (2 ^ 64 - wide level)) (Refused (AddressRange (r .start))) Accepted
+    (lit< tt) tt
 
 pub verify-early : (h : Handle) (r : MemoryRegion) → Early (verify h r)
 unfolding verify
-verify-early h r = cond-early (ltb (r .end .0) (r .start .0)) (Refused (RegionBackwards r)) (inRange (h .range) (h .level) r) (lit< tt) (range-early (h .range) (h .level) r)
+verify-early h r =
+    cond-early (ltb (r .end .0) (r .start .0)) (Refused (RegionBackwards r)) (inRange (h .range) (h .level) r) (lit< tt)
+    (range-early (h .range) (h .level) r)
 
 frame-early : (frame length : ℕ) → Early (frameAsked frame length)
 unfolding frameAsked

@@ -1,5 +1,5 @@
--- The call of map on a pool that refusals 1 to 8 leave: it is refused 9 exactly when the tree's count exceeds what is free, and otherwise it leaves a sound
--- pool whose root shows the tree after the map. Assumes nothing.
+-- The call of map on a pool that refusals 1 to 8 leave: it is refused 9 exactly when the tree's count exceeds what is free, and otherwise
+-- it leaves a sound pool whose root shows the tree after the map.
 use mathlib.Core.Path.{_≡_, refl, sym, ap, subst, _∙_}
 use mathlib.Core.Bool.{true}
 use mathlib.Core.Logic.{_⊎_, inl, inr}
@@ -32,7 +32,8 @@ use Rattle.theory_tree.specs.Rules.{Given}
 use Rattle.theory_tree.specs.Document.{document-is}
 use Rattle.theory_tree.specs.Needed.{document-needs}
 use Rattle.theory_tree.specs.Root.{mapTree, mapMade}
-use Rattle.theory_map.specs.Terms.{MapArguments, mapAnswer, Maps, mapAsked, MapPassed, depthOf, rootIn, mapPagesOf, treeAfterMap, madeBy}
+use Rattle.theory_map.specs.Terms.{MapArguments, mapAnswer, Maps, mapAsked, MapPassed, depthOf, rootIn, mapPagesOf, treeAfterMap}
+use Rattle.theory_map.specs.Terms.{madeBy}
 use Rattle.theory_map.specs.Stand.{Allowed}
 use Rattle.theory_map.specs.Moves.{Ready, Worked, root-ready, root-node}
 use Rattle.theory_map.specs.Pieces.{doneTable, takesTable, Area}
@@ -65,12 +66,14 @@ module _ {h : Handle} {c : MapArguments} {s : St} (passed : MapPassed h c s) whe
   takes-made : takesTable m (depthOf h) (rootTree h s) ≡ madeBy h c s
   takes-made =
       subst (λ (t : Tree). takesTable m (depthOf h) t ≡ mapMade (depthOf h) (rootIn h) (mapPagesOf c) t) (sym (root-node h s))
-      (document-needs (m .flags) (m .blocks) (depthOf h) (rootIn h) (m .region .start .0) (m .region .end .0) (m .frame .0) _ (omega arith) (area .inside))
+      (document-needs (m .flags) (m .blocks) (depthOf h) (rootIn h) (m .region .start .0) (m .region .end .0) (m .frame .0) _ (omega arith)
+      (area .inside))
 
   done-tree : doneTable m (depthOf h) (rootTree h s) ≡ treeAfterMap h c s
   done-tree =
       subst (λ (t : Tree). doneTable m (depthOf h) t ≡ mapTree (depthOf h) (rootIn h) (mapPagesOf c) t) (sym (root-node h s))
-      (document-is (m .flags) (m .blocks) (depthOf h) (rootIn h) (m .region .start .0) (m .region .end .0) (m .frame .0) _ (omega arith) (area .inside))
+      (document-is (m .flags) (m .blocks) (depthOf h) (rootIn h) (m .region .start .0) (m .region .end .0) (m .frame .0) _ (omega arith)
+      (area .inside))
 
   -- REFUSAL 9'S COUNT IS THE TREE'S
   pub needed-made : needed (depthOf h) h s 0 m ≡ madeBy h c s
@@ -79,8 +82,11 @@ module _ {h : Handle} {c : MapArguments} {s : St} (passed : MapPassed h c s) whe
   -- ---- with room
 
   module _ (room : madeBy h c s ≤ free (s .ledger)) where
-    worked : Worked (shaped-placed (passed .shape)) s (stateAfter h c s) (depthOf h) 0 (doneTable m (depthOf h) (rootTree h s)) (takesTable m (depthOf h) (rootTree h s))
-    worked = range-works (shaped-placed (passed .shape)) (depthOf h) (omega arith) (rootIn h) 0 m s allowed area ready (omega (arith, takes-made))
+    worked : Worked (shaped-placed (passed .shape)) s (stateAfter h c s) (depthOf h) 0 (doneTable m (depthOf h) (rootTree h s))
+        (takesTable m (depthOf h) (rootTree h s))
+    worked =
+        range-works (shaped-placed (passed .shape)) (depthOf h) (omega arith) (rootIn h) 0 m s allowed area ready
+        (omega (arith, takes-made))
 
     pub after-shaped : Shaped h (stateAfter h c s)
     after-shaped = shaped-keep h s (stateAfter h c s) (passed .shape) (worked .same-words) (worked .same-tables)
@@ -105,20 +111,26 @@ module _ {h : Handle} {c : MapArguments} {s : St} (passed : MapPassed h c s) whe
   sound-is = is-true (soundb h s) (sound-decide (passed .shape) (passed .pool))
 
   asked-is : mapSound h (mapAsked c) s ≡ mapAnswer h c s
-  asked-is = call-asked h (c .start) (c .end) (c .frame) (c .flags) (c .constraints) s (is-true (shaped h s) (says-shaped h s (passed .shape))) refl (passed .asks)
+  asked-is =
+      call-asked h (c .start) (c .end) (c .frame) (c .flags) (c .constraints) s
+      (is-true (shaped h s) (says-shaped h s (passed .shape))) refl (passed .asks)
 
   -- refusal 9
   pub call-full : free (s .ledger) < madeBy h c s → mapAnswer h c s ≡ refused (WantOfRoom (madeBy h c s) (free (s .ledger))) s
   call-full full = sym (sound-full h (mapAsked c) s sound-is (sym (needed-made passed)) refl full ∙ asked-is)
 
   -- accepted
-  pub call-maps : madeBy h c s ≤ free (s .ledger) → mapAnswer h c s ≡ out (counted.Tables (used (stateAfter h c s .ledger))) (stateAfter h c s)
-  call-maps room = sym (put-down h (mapAsked c) s refl refl ∙ sound-mapped h (mapAsked c) s sound-is (sym (needed-made passed)) refl room ∙ asked-is)
+  pub call-maps : madeBy h c s ≤ free (s .ledger)
+      → mapAnswer h c s ≡ out (counted.Tables (used (stateAfter h c s .ledger))) (stateAfter h c s)
+  call-maps room =
+      sym (put-down h (mapAsked c) s refl refl ∙ sound-mapped h (mapAsked c) s sound-is (sym (needed-made passed)) refl room ∙ asked-is)
 
 -- what is answered otherwise than by refusals 1 to 8 was left by them
-passed-by : (h : Handle) (c : MapArguments) (s : St) {x : Out Counted} → mapAnswer h c s ≡ x → ((r : Refusal) → number r < 9 → refused r s ≡ x → ⊥) → MapPassed h c s
+passed-by : (h : Handle) (c : MapArguments) (s : St) {x : Out Counted} → mapAnswer h c s ≡ x
+    → ((r : Refusal) → number r < 9 → refused r s ≡ x → ⊥) → MapPassed h c s
 passed-by h c s {x} is later =
-    byBool (shaped h s) shape (λ e. absurd (later Shape (lit< tt) (call-misshaped h (c .start) (c .end) (c .frame) (c .flags) (c .constraints) s e ∙ is)))
+    byBool (shaped h s) shape
+    (λ e. absurd (later Shape (lit< tt) (call-misshaped h (c .start) (c .end) (c .frame) (c .flags) (c .constraints) s e ∙ is)))
   where
     pool : shaped h s ≡ true → verifyMap h (c .end) (mapAsked c) ≡ Accepted → MapPassed h c s
     pool e ok =
@@ -141,7 +153,8 @@ passed-by h c s {x} is later =
 answer-of : {r : Refusal} {s s′ : St} {y : Counted} → refused r s ≡ out y s′ → counted.Refused r ≡ y
 answer-of e = ap (λ (x : Out Counted). x .answer) e
 
-module _ (h : Handle) (c : MapArguments) (s : St) {a b : ℕ} {s′ : St} (is : mapAnswer h c s ≡ out (counted.Refused (WantOfRoom a b)) s′) where
+module _ (h : Handle) (c : MapArguments) (s : St) {a b : ℕ} {s′ : St}
+    (is : mapAnswer h c s ≡ out (counted.Refused (WantOfRoom a b)) s′) where
   pub full-passed : MapPassed h c s
   full-passed = passed-by h c s is (λ r early e.
       let same : r ≡ WantOfRoom a b = let p = answer-of e in cc in
@@ -152,7 +165,10 @@ module _ (h : Handle) (c : MapArguments) (s : St) {a b : ℕ} {s′ : St} (is : 
   full-more = go (le-or (madeBy h c s) (free (s .ledger)))
     where
       go : (madeBy h c s ≤ free (s .ledger)) ⊎ (free (s .ledger) < madeBy h c s) → free (s .ledger) < madeBy h c s
-      go (inl room) = absurd (let p = ap (λ (x : Out Counted). x .answer) (sym is ∙ call-maps full-passed room) in let z : _≡_ {A = ℕ} 0 1 = cc in omega arith)
+      go (inl room) =
+          absurd
+          (let p = ap (λ (x : Out Counted). x .answer) (sym is ∙ call-maps full-passed room) in let z : _≡_ {A = ℕ} 0 1 = cc in
+          omega arith)
       go (inr more) = more
 
 -- ---- accepted
@@ -173,7 +189,8 @@ module _ {h : Handle} {c : MapArguments} {s s′ : St} {n : ℕ} (maps : Maps h 
 
   pub call-count : n ≡ used (s′ .ledger)
   call-count =
-      let p : counted.Tables n ≡ counted.Tables (used (stateAfter h c s .ledger)) = ap (λ (x : Out Counted). x .answer) (sym (maps .answers) ∙ call-maps call-passed call-room) in
+      let p : counted.Tables n ≡ counted.Tables (used (stateAfter h c s .ledger)) =
+      ap (λ (x : Out Counted). x .answer) (sym (maps .answers) ∙ call-maps call-passed call-room) in
       let e : n ≡ used (stateAfter h c s .ledger) = cc in
       e ∙ ap (λ (x : St). used (x .ledger)) (sym call-state)
 

@@ -1,5 +1,5 @@
--- One chunk of a table of a sound pool: what the rules do on lists is what they do on the tree of its slot, and takes no more tables than that needs.
--- Assumes nothing.
+-- One chunk of a table of a sound pool: what the rules do on lists is what they do on the tree of its slot, and takes no more tables than
+-- that needs.
 use mathlib.Core.Path.{_≡_, refl, sym, ap, subst, subst₂, _∙_}
 use Prim.Native.Nat.{ℕ, suc, _+_, _-_, _≤_, _<_}
 use native.Mathlib.Omega.{arith}
@@ -28,28 +28,37 @@ use Rattle.theory_sound.specs.Codec.{Placed, codecOf, view, word-in, treeFrom}
 use Rattle.theory_tree.specs.Visit.{down as goDown, opened, splits, fillTree}
 use Rattle.theory_tree.specs.Shown.{FineTree}
 use Rattle.theory_map.specs.Leaf.{slot-fine}
-use Rattle.theory_map.specs.Rule.{saysOf, LeafRule, keeps, writes, splits as leaf-splits, TableRule, drops, enters, page-rule, leaf-rule, table-rule}
+use Rattle.theory_map.specs.Rule.{saysOf, LeafRule, keeps, writes, splits as leaf-splits, TableRule, drops, enters, page-rule}
+use Rattle.theory_map.specs.Rule.{leaf-rule, table-rule}
 use Rattle.theory_map.specs.Stand.{Allowed, Piece, write-stands}
 use Rattle.theory_map.specs.Moves.{slotShows, Ready, Slotted, Worked, kept, stored, dropped}
 use Rattle.theory_map.specs.Down.{SlotHolds, holds-table, holds-leaf, holds, opens}
-use Rattle.theory_map.specs.Pieces.{doneTo, takes, doneTable, takesTable, done-keep, done-write, done-down, takes-down, Area, piece-area}
+use Rattle.theory_map.specs.Pieces.{doneTo, takes, doneTable, takesTable, done-keep, done-write, done-down, takes-down, Area}
+use Rattle.theory_map.specs.Pieces.{piece-area}
 
 -- what opening a leaf or a table takes
-pub takes-split : (m : Map) (depth w : ℕ) → saysOf m (suc depth) (leaf w) ≡ goDown → takes m (suc depth) (leaf w) ≡ 1 + takesTable m depth (fillTree depth w)
+pub takes-split : (m : Map) (depth w : ℕ) → saysOf m (suc depth) (leaf w) ≡ goDown
+    → takes m (suc depth) (leaf w) ≡ 1 + takesTable m depth (fillTree depth w)
 unfolding splits opened
 takes-split m depth w e = takes-down m depth (leaf w) e
 
-pub takes-enter : (m : Map) (depth : ℕ) (f : ℕ → Tree) → saysOf m (suc depth) (node f) ≡ goDown → takes m (suc depth) (node f) ≡ takesTable m depth (node f)
+pub takes-enter : (m : Map) (depth : ℕ) (f : ℕ → Tree) → saysOf m (suc depth) (node f) ≡ goDown
+    → takes m (suc depth) (node f) ≡ takesTable m depth (node f)
 unfolding splits opened
-takes-enter m depth f e = let z : takes m (suc depth) (node f) ≡ 0 + takesTable m depth (node f) = takes-down m depth (node f) e in omega arith
+takes-enter m depth f e =
+    let z : takes m (suc depth) (node f) ≡ 0 + takesTable m depth (node f) = takes-down m depth (node f) e in omega arith
 
 module _ {h : Handle} (placed : Placed h) where
   -- a map of a table with `depth` levels below its own does on lists what it does on the table's tree
   abbrev pub Works : ℕ → Type 0
-  Works depth = (q k : ℕ) (m : Map) (s : St) → Allowed h (m .flags) → Area depth q m → Ready placed s depth k → takesTable m depth (treeFrom h s depth k) ≤ free (s .ledger)
-      → Worked placed s (mapRange depth h k m s) depth k (doneTable m depth (treeFrom h s depth k)) (takesTable m depth (treeFrom h s depth k))
+  Works depth =
+      (q k : ℕ) (m : Map) (s : St) → Allowed h (m .flags) → Area depth q m → Ready placed s depth k
+      → takesTable m depth (treeFrom h s depth k) ≤ free (s .ledger)
+      → Worked placed s (mapRange depth h k m s) depth k (doneTable m depth (treeFrom h s depth k))
+      (takesTable m depth (treeFrom h s depth k))
 
-  module _ (q k : ℕ) (m : Map) (s : St) (depth : ℕ) (allowed : Allowed h (m .flags)) (piece : Piece depth q m) (R : Ready placed s depth k) where
+  module _ (q k : ℕ) (m : Map) (s : St) (depth : ℕ) (allowed : Allowed h (m .flags)) (piece : Piece depth q m)
+      (R : Ready placed s depth k) where
     abbrev pub level : ℕ
     level = 3 - depth
 
@@ -78,7 +87,8 @@ module _ {h : Handle} (placed : Placed h) where
       by-leaf : LeafRule level m depth w → (ruleOf level m w ≡ Down → saysOf m depth (leaf w) ≡ goDown → Done (leaf w)) → Done (leaf w)
       by-leaf (keeps r e) down =
           subst₂ (λ (s′ : St) (t : Tree). Slotted placed s s′ depth k i t (takes m depth (leaf w)))
-          (chunk-keep h k level m s refl refl r) (shows-leaf ∙ sym (done-keep m depth (leaf w) e)) (kept placed R i (takes m depth (leaf w)))
+          (chunk-keep h k level m s refl refl r) (shows-leaf ∙ sym (done-keep m depth (leaf w) e))
+          (kept placed R i (takes m depth (leaf w)))
       by-leaf (writes x r e) down =
           subst₂ (λ (s′ : St) (t : Tree). Slotted placed s s′ depth k i t (takes m depth (leaf w)))
           (chunk-write h k level m s refl refl x r) (sym (done-write m depth x (leaf w) e))
@@ -88,7 +98,8 @@ module _ {h : Handle} (placed : Placed h) where
 
   -- ---- above the lowest level
 
-  module _ (q k : ℕ) (m : Map) (s : St) (depth : ℕ) (works : Works depth) (allowed : Allowed h (m .flags)) (piece : Piece (suc depth) q m) (R : Ready placed s (suc depth) k) where
+  module _ (q k : ℕ) (m : Map) (s : St) (depth : ℕ) (works : Works depth) (allowed : Allowed h (m .flags)) (piece : Piece (suc depth) q m)
+      (R : Ready placed s (suc depth) k) where
     abbrev l : ℕ
     l = 3 - suc depth
 
@@ -116,7 +127,8 @@ module _ {h : Handle} (placed : Placed h) where
 
     -- ---- down, after a split if there is no table
 
-    by-down : let t = slotShows h s (suc depth) k j in takes m (suc depth) t ≤ free (s .ledger) → ruleOf l m x ≡ Down → saysOf m (suc depth) t ≡ goDown → Goal t
+    by-down : let t = slotShows h s (suc depth) k j in takes m (suc depth) t ≤ free (s .ledger) → ruleOf l m x ≡ Down
+        → saysOf m (suc depth) t ≡ goDown → Goal t
     by-down room r e =
         let t : Tree = slotShows h s (suc depth) k j in
         let all = takes-down m depth t e in
@@ -124,9 +136,13 @@ module _ {h : Handle} (placed : Placed h) where
         let fewer = O .room in
         let W = works q (O .table) m (O .state) allowed (piece-area piece) (O .ready)
         (subst (λ (u : Tree). takesTable m depth u ≤ free (O .state .ledger)) (sym (O .shows)) (omega arith)) in
-        let W′ = subst (λ (u : Tree). Worked placed (O .state) (mapRange depth h (O .table) m (O .state)) depth (O .table) (doneTable m depth u) (takesTable m depth u)) (O .shows) W in
+        let W′ = subst
+        (λ (u : Tree). Worked placed (O .state) (mapRange depth h (O .table) m (O .state)) depth (O .table) (doneTable m depth u)
+        (takesTable m depth u))
+        (O .shows) W in
         subst (λ (s′ : St). Slotted placed s s′ (suc depth) k j (doneTo m (suc depth) t) (takes m (suc depth) t)) (goes-in r (O .found))
-        (subst₂ (λ (u : Tree) (c : ℕ). Slotted placed s (mapRange depth h (O .table) m (O .state)) (suc depth) k j u c) (sym (done-down m depth t e)) (sym all) (O .back W′))
+        (subst₂ (λ (u : Tree) (c : ℕ). Slotted placed s (mapRange depth h (O .table) m (O .state)) (suc depth) k j u c)
+        (sym (done-down m depth t e)) (sym all) (O .back W′))
 
     -- ---- a table
 
@@ -134,7 +150,8 @@ module _ {h : Handle} (placed : Placed h) where
       abbrev g : ℕ → Tree
       g i = slotShows h s depth e i
 
-      by-table : slotShows h s (suc depth) k j ≡ node g → TableRule l m (suc depth) x g → takes m (suc depth) (slotShows h s (suc depth) k j) ≤ free (s .ledger)
+      by-table : slotShows h s (suc depth) k j ≡ node g → TableRule l m (suc depth) x g
+          → takes m (suc depth) (slotShows h s (suc depth) k j) ≤ free (s .ledger)
           → Goal (slotShows h s (suc depth) k j)
       by-table shows (drops rule says) room =
           let fine = subst (FineTree (suc depth)) shows (slot-fine placed (R .pool) (suc depth) k j (R .used) (R .low) slot) in
@@ -143,7 +160,8 @@ module _ {h : Handle} (placed : Placed h) where
           ∙ drop-table h l x (storeAt k j (m .flags) s) refl e leads
           ∙ chunk-drop h k l m s refl refl (m .flags) rule in
           subst Goal (sym shows)
-          (subst₂ (λ (s′ : St) (t : Tree). Slotted placed s s′ (suc depth) k j t (takes m (suc depth) (node g))) put (sym (done-write m (suc depth) (m .flags) (node g) says))
+          (subst₂ (λ (s′ : St) (t : Tree). Slotted placed s s′ (suc depth) k j t (takes m (suc depth) (node g))) put
+          (sym (done-write m (suc depth) (m .flags) (node g) says))
           (dropped placed R j slot (takes m (suc depth) (node g)) (m .flags) r
           (write-stands h (suc depth) q (levelAt s k) (m .flags) m (node g) allowed piece (R .low) fine says)))
       by-table shows (enters rule says) room = by-down room rule (ap (saysOf m (suc depth)) shows ∙ says)
@@ -152,7 +170,8 @@ module _ {h : Handle} (placed : Placed h) where
     up-works room = go (holds placed R j slot)
       where
         go : SlotHolds placed s depth k j → Goal (slotShows h s (suc depth) k j)
-        go (holds-table e r both leads shows) = by-table e r leads shows (table-rule m depth x (omega (arith, R .low)) (λ i. slotShows h s depth e i) both) room
+        go (holds-table e r both leads shows) =
+            by-table e r leads shows (table-rule m depth x (omega (arith, R .low)) (λ i. slotShows h s depth e i) both) room
         go (holds-leaf old other shows) =
             subst Goal (sym shows) (by-leaf q k m s (suc depth) allowed piece R old (leaf-rule m depth x (omega (arith, R .low)) other)
             (λ r e. subst Goal shows (by-down room r (ap (saysOf m (suc depth)) shows ∙ e))))
@@ -160,9 +179,12 @@ module _ {h : Handle} (placed : Placed h) where
   -- ---- ONE CHUNK
 
   abbrev pub ChunkWorks : ℕ → Type 0
-  ChunkWorks depth = (q k : ℕ) (m : Map) (s : St) → Allowed h (m .flags) → Piece depth q m → Ready placed s depth k → let i = entryIndex (3 - depth) (m .region .start .0) in
+  ChunkWorks depth =
+      (q k : ℕ) (m : Map) (s : St) → Allowed h (m .flags) → Piece depth q m → Ready placed s depth k
+      → let i = entryIndex (3 - depth) (m .region .start .0) in
       takes m depth (slotShows h s depth k i) ≤ free (s .ledger)
-      → Slotted placed s (mapStep h k (3 - depth) m s) depth k i (doneTo m depth (slotShows h s depth k i)) (takes m depth (slotShows h s depth k i))
+      → Slotted placed s (mapStep h k (3 - depth) m s) depth k i (doneTo m depth (slotShows h s depth k i))
+      (takes m depth (slotShows h s depth k i))
 
   -- at the lowest level nothing goes down
   pub page-works : ChunkWorks 0

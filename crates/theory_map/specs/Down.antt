@@ -1,5 +1,5 @@
--- Rule 5: the way down from a slot of a sound pool's table, "splitting first if there is no table": to the table that is there or to a new one, and what work
--- done in it does to the slot. Assumes nothing.
+-- Rule 5: the way down from a slot of a sound pool's table, "splitting first if there is no table": to the table that is there or to a new
+-- one, and what work done in it does to the slot.
 use mathlib.Core.Path.{_≡_, refl, sym, ap, subst, _∙_}
 use mathlib.Core.Logic.{_⊎_, inl, inr, _≢_}
 use Prim.Native.Nat.{ℕ, suc, _+_, _-_, _%_, _≤_, _<_}
@@ -40,7 +40,8 @@ module _ {h : Handle} (placed : Placed h) where
     holds-table : (e : ℕ) → Refers (codecOf h placed) (view s) k i e → wordAt s k i % 4 ≡ 3
         → subOf (h .base .0) (tables s) (3 - suc depth) (wordAt s k i) ≡ Table e
         → slotShows h s (suc depth) k i ≡ node (λ j. slotShows h s depth e j) → SlotHolds s depth k i
-    holds-leaf : ¬ (TableWord (levelAt s k) (wordAt s k i)) → wordAt s k i % 4 ≢ 3 → slotShows h s (suc depth) k i ≡ leaf (wordAt s k i) → SlotHolds s depth k i
+    holds-leaf : ¬ (TableWord (levelAt s k) (wordAt s k i)) → wordAt s k i % 4 ≢ 3 → slotShows h s (suc depth) k i ≡ leaf (wordAt s k i)
+        → SlotHolds s depth k i
 
   -- the table below slot i of table k, as it stands then: table `table` of the pool `state`
   pub record Opens (s : St) (depth k i : ℕ) : Type 0 where
@@ -62,7 +63,8 @@ module _ {h : Handle} (placed : Placed h) where
 
     table-there : (e : ℕ) → Refers (codecOf h placed) (view s) k i e → w % 4 ≡ 3 → SlotHolds s depth k i
     table-there e r both = holds-table e r both
-        (rw (sym (word-in s k i inside) ∙ r .says) (sub-link (h .base .0) (tables s) e level (omega arith) (R .shape .paged) (R .shape .ended) (used-in s e (r .used))))
+        (rw (sym (word-in s k i inside) ∙ r .says)
+        (sub-link (h .base .0) (tables s) e level (omega arith) (R .shape .paged) (R .shape .ended) (used-in s e (r .used))))
         (slot-refers depth r ∙ treeAt-node (childOf (h .base .0)) depth (slotWord s) e)
 
     pub holds : SlotHolds s depth k i
@@ -70,7 +72,8 @@ module _ {h : Handle} (placed : Placed h) where
       where
         go : (w % 4 ≡ 3) ⊎ (w % 4 ≢ 3) → SlotHolds s depth k i
         go (inl both) =
-            let n = pool-sound placed (R .pool) .names k i (R .used) (omega (arith, R .low), ap (λ (y : ℕ). y % 4) (word-in s k i inside) ∙ both) in
+            let n = pool-sound placed (R .pool) .names k i (R .used)
+            (omega (arith, R .low), ap (λ (y : ℕ). y % 4) (word-in s k i inside) ∙ both) in
             table-there (n .0) (n .1) both
         go (inr other) =
             let old : ¬ (TableWord (levelAt s k) w) = λ table. other (table .1) in
@@ -109,5 +112,7 @@ module _ {h : Handle} (placed : Placed h) where
                   ready = taken-ready placed R i inside old f found;
                   shows = taken-shows placed R i inside old f found ∙ sym (ap (opened depth) shows ∙ splits-leaf depth w .1);
                   room = omega (arith, take-free h k (level + 1) i (fillOf level w) s f found);
-                  back = λ {s′} {cost} {t} W. subst (λ (n : ℕ). Slotted placed s s′ (suc depth) k i t (n + cost)) (sym one) (split placed R i inside old f found W);
+                  back =
+                      λ {s′} {cost} {t} W. subst (λ (n : ℕ). Slotted placed s s′ (suc depth) k i t (n + cost)) (sym one)
+                      (split placed R i inside old f found W);
                 }

@@ -1,5 +1,5 @@
--- The leaves of a sound pool are fine words, so its root shows a fine tree; and a fine word with flags from the set may stand where it is fine.
--- Assumes nothing.
+-- The leaves of a sound pool are fine words, so its root shows a fine tree; and a fine word with flags from the set may stand where it is
+-- fine.
 use mathlib.Core.Path.{_≡_, ap, subst, _∙_}
 use Prim.Native.Nat.{ℕ, _+_, _-_, _/_, _%_, _^_, _≤_, _<_}
 use native.Mathlib.Omega.{arith}
@@ -44,8 +44,10 @@ module _ {h : Handle} (placed : Placed h) {s : St} (P : SoundPool h s) where
   table-fine depth k used low = tree-fine {C = codecOf h placed} (pool-sound placed P) good depth k used low
 
   -- slot by slot
-  pub slot-fine : (depth k i : ℕ) → InUse s k → levelAt s k + depth ≡ 3 → i < 512 → FineTree depth (entry (childOf (h .base .0)) depth (slotWord s) (slotWord s k i))
-  slot-fine depth k i used low inside = subst (FineTable depth) (treeAt-node (childOf (h .base .0)) depth (slotWord s) k) (table-fine depth k used low) i inside
+  pub slot-fine : (depth k i : ℕ) → InUse s k → levelAt s k + depth ≡ 3 → i < 512
+      → FineTree depth (entry (childOf (h .base .0)) depth (slotWord s) (slotWord s k i))
+  slot-fine depth k i used low inside =
+      subst (FineTable depth) (treeAt-node (childOf (h .base .0)) depth (slotWord s) k) (table-fine depth k used low) i inside
 
   -- the root is in use
   pub root-used : InUse s 0
@@ -56,12 +58,14 @@ module _ {h : Handle} (placed : Placed h) {s : St} (P : SoundPool h s) where
   root-fine = table-fine (3 - h .level) 0 root-used (root-left placed P)
 
 -- the flags of a leaf are from the set
-pub leaf-from : {h : Handle} {s : St} → SoundPool h s → (k i : ℕ) → i < 512 → InUse s k → ¬ (TableWord (levelAt s k) (wordAt s k i)) → SubBits (plainFlags (wordAt s k i)) (flagSet h)
+pub leaf-from : {h : Handle} {s : St} → SoundPool h s → (k i : ℕ) → i < 512 → InUse s k → ¬ (TableWord (levelAt s k) (wordAt s k i))
+    → SubBits (plainFlags (wordAt s k i)) (flagSet h)
 leaf-from {h} {s} P k i inside used old = P .leaves k i inside used old .flags
 
 -- ---- a fine word with flags from the set may stand
 
-pub fine-stands : (h : Handle) (depth level v : ℕ) → level + depth ≡ 3 → Fine depth v → SubBits (plainFlags v) (flagSet h) → Stands h level v
+pub fine-stands : (h : Handle) (depth level v : ℕ) → level + depth ≡ 3 → Fine depth v → SubBits (plainFlags v) (flagSet h)
+    → Stands h level v
 fine-stands h depth level v low fine flags = record {
   plain = λ table. let c = fine .clear (omega (arith, table .0)) in omega (arith, table .1);
   leaf = record {

@@ -1,5 +1,5 @@
--- Something done with each chunk of a table's region, one after the other: where each does on lists what it does on the tree of its slot, all of them do so on
--- the table's tree, with no more tables than the tree's count. Assumes nothing.
+-- Something done with each chunk of a table's region, one after the other: where each does on lists what it does on the tree of its slot,
+-- all of them do so on the table's tree, with no more tables than the tree's count.
 use mathlib.Core.Path.{_≡_, refl, sym, ap, _∙_}
 use mathlib.Core.Bool.{true, false, cond}
 use mathlib.Core.List.{List, [], _∷_}
@@ -41,7 +41,8 @@ through f (c ∷ cs) frame x = through f cs (frame + (c .end .0 - c .start .0)) 
 module _ {h : Handle} (placed : Placed h) where
   -- ---- a table after a step at one of its slots
 
-  module _ {s s′ : St} {depth k i cost : ℕ} (change : Tree → Tree) (R : Ready placed s depth k) (S : Slotted placed s s′ depth k i (change (slotShows h s depth k i)) cost) where
+  module _ {s s′ : St} {depth k i cost : ℕ} (change : Tree → Tree) (R : Ready placed s depth k)
+      (S : Slotted placed s s′ depth k i (change (slotShows h s depth k i)) cost) where
     others : (j : ℕ) → j ≢ i → slotShows h s′ depth k j ≡ slotShows h s depth k j
     others j other = change-slot (pool-sound placed (R .pool)) (view s′) depth (S .step .move .at .words) (R .used) (R .low) other
 
@@ -61,11 +62,13 @@ module _ {h : Handle} (placed : Placed h) where
 
   -- ---- the chunks, one after the other
 
-  module _ {S : Type 0} (stateOf : S → St) (each : MemoryRegion → ℕ → S → S) (eachTree : MemoryRegion → ℕ → Tree → Tree) (count : MemoryRegion → ℕ → Tree → ℕ)
+  module _ {S : Type 0} (stateOf : S → St) (each : MemoryRegion → ℕ → S → S) (eachTree : MemoryRegion → ℕ → Tree → Tree)
+      (count : MemoryRegion → ℕ → Tree → ℕ)
       (depth q k : ℕ) (m : Map) where
     -- each chunk does on lists what it does on the tree of its slot
     abbrev pub EachWorks : Type 0
-    EachWorks = (c : MemoryRegion) (p : ℕ) (x : S) → Piece depth (child q (slotAt depth c)) (chunkMap m c p) → Ready placed (stateOf x) depth k
+    EachWorks =
+        (c : MemoryRegion) (p : ℕ) (x : S) → Piece depth (child q (slotAt depth c)) (chunkMap m c p) → Ready placed (stateOf x) depth k
         → let i = entryIndex (3 - depth) (c .start .0) in let t = slotShows h (stateOf x) depth k i in
         count c p t ≤ free (stateOf x .ledger) → Slotted placed (stateOf x) (stateOf (each c p x)) depth k i (eachTree c p t) (count c p t)
 
@@ -74,12 +77,15 @@ module _ {h : Handle} (placed : Placed h) where
       pub slotted : let i = entryIndex (3 - depth) (c .start .0) in let u = slotShows h (stateOf x) depth k i in
           Slotted placed (stateOf x) (stateOf (each c p x)) depth k i (eachTree c p u) (count c p u)
       pub ready : Ready placed (stateOf (each c p x)) depth k
-      pub same : (j : ℕ) → suc (slotAt depth c) ≤ j → slotTree (treeFrom h (stateOf (each c p x)) depth k) j ≡ slotTree (treeFrom h (stateOf x) depth k) j
+      pub same : (j : ℕ) → suc (slotAt depth c) ≤ j
+          → slotTree (treeFrom h (stateOf (each c p x)) depth k) j ≡ slotTree (treeFrom h (stateOf x) depth k) j
       pub rest : let p′ = p + (c .end .0 - c .start .0) in
           tallied depth count cs p′ (treeFrom h (stateOf (each c p x)) depth k) ≡ tallied depth count cs p′ (treeFrom h (stateOf x) depth k)
-      pub room : tallied depth count cs (p + (c .end .0 - c .start .0)) (treeFrom h (stateOf (each c p x)) depth k) ≤ free (stateOf (each c p x) .ledger)
+      pub room : tallied depth count cs (p + (c .end .0 - c .start .0)) (treeFrom h (stateOf (each c p x)) depth k)
+          ≤ free (stateOf (each c p x) .ledger)
 
-    pub stepped : depth ≤ 3 → EachWorks → (c : MemoryRegion) (cs : List MemoryRegion) (a p : ℕ) (x : S) → Pieces depth q m a p (c ∷ cs) → Ready placed (stateOf x) depth k
+    pub stepped : depth ≤ 3 → EachWorks → (c : MemoryRegion) (cs : List MemoryRegion) (a p : ℕ) (x : S) → Pieces depth q m a p (c ∷ cs)
+        → Ready placed (stateOf x) depth k
         → tallied depth count (c ∷ cs) p (treeFrom h (stateOf x) depth k) ≤ free (stateOf x .ledger) → Stepped c cs p x
     unfolding tallied
     stepped low works c cs a p x all R room =
@@ -92,18 +98,21 @@ module _ {h : Handle} (placed : Placed h) where
         let S : Slotted placed s s₁ depth k i (eachTree c p (slotShows h s depth k i)) (count c p (slotShows h s depth k i)) =
         works c p x (all .0 .piece) R (omega arith) in
         let index = index-slot depth (c .start .0) low in
-        let same : (j : ℕ) → suc (slotAt depth c) ≤ j → slotTree (treeFrom h s₁ depth k) j ≡ slotTree t j = λ j l. slots-after (eachTree c p) R S j (λ e. omega arith) in
+        let same : (j : ℕ) → suc (slotAt depth c) ≤ j → slotTree (treeFrom h s₁ depth k) j ≡ slotTree t j =
+        λ j l. slots-after (eachTree c p) R S j (λ e. omega arith) in
         let rest : tallied depth count cs p′ (treeFrom h s₁ depth k) ≡ tallied depth count cs p′ t =
         tallied-from depth q m low count cs (suc (slotAt depth c)) p′ (treeFrom h s₁ depth k) t (all .1) same in
         let spare = S .spare in
         record { slotted = S; ready = slotted-ready placed R S; same = same; rest = rest; room = omega arith }
 
-    pub loop : depth ≤ 3 → EachWorks → (cs : List MemoryRegion) (a p : ℕ) (x : S) → Pieces depth q m a p cs → Ready placed (stateOf x) depth k
+    pub loop : depth ≤ 3 → EachWorks → (cs : List MemoryRegion) (a p : ℕ) (x : S) → Pieces depth q m a p cs
+        → Ready placed (stateOf x) depth k
         → let t = treeFrom h (stateOf x) depth k in
         tallied depth count cs p t ≤ free (stateOf x .ledger)
         → Worked placed (stateOf x) (stateOf (through each cs p x)) depth k (sweep depth eachTree cs p t) (tallied depth count cs p t)
     unfolding through sweep tallied
-    loop low works [] a p x all R room = record { work = work-skip (pool-sound placed (R .pool)) depth k; same-tables = refl; same-words = refl; spare = omega arith }
+    loop low works [] a p x all R room =
+        record { work = work-skip (pool-sound placed (R .pool)) depth k; same-tables = refl; same-words = refl; spare = omega arith }
     loop low works (c ∷ cs) a p x all R room =
         let p′ : ℕ = p + (c .end .0 - c .start .0) in
         let first = stepped low works c cs a p x all R room in

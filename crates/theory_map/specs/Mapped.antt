@@ -1,5 +1,6 @@
--- DEMANDS 2 AND 3, of the call itself. `mapAnswer` is the definition that the contract of the public call cites, `walkOf` the Arm walk of the words; nothing is asked of the
--- pool but that the call is accepted (`Maps`), which it is in a sound pool alone. `Terms` has the words that are used here. Assumes nothing.
+-- DEMANDS 2 AND 3, of the call itself. `mapAnswer` is the definition that the contract of the public call cites, `walkOf` the Arm walk of
+-- the words; nothing is asked of the pool but that the call is accepted (`Maps`), which it is in a sound pool alone. `Terms` has the words
+-- that are used here.
 use mathlib.Core.Path.{_≡_, refl, sym, ap, _∙_}
 use mathlib.Core.List.{List, [], _∷_, map, List·Permᴰ·swap, Permᴰ·symm}
 use mathlib.Core.Logic.{_↔_}
@@ -24,11 +25,13 @@ use Rattle.theory_walk.specs.AsBefore.{walkOf, mapped, hole, shown}
 use Rattle.theory_tree.specs.Walk.{seen}
 use Rattle.theory_tree.specs.Order.{Reorders, Each, Pairs, each-reorders, pairs-reorders, madeAll}
 use Rattle.theory_tree.specs.Demands.{region-mapped, region-holes, others-as-before, tables-after, valid-map-frees-none}
-use Rattle.theory_map.specs.Terms.{MapArguments, mapAnswer, Maps, mapAsked, Asks, ShapedSound, MapPassed, InMapRegion, frameFor, Valid, RegionsApart, InTurn, next, InSpan, depthOf, rootIn, mapPagesOf, treeAfterMap}
+use Rattle.theory_map.specs.Terms.{MapArguments, mapAnswer, Maps, mapAsked, Asks, ShapedSound, MapPassed, InMapRegion, frameFor}
+use Rattle.theory_map.specs.Terms.{Valid, RegionsApart, InTurn, next, InSpan, depthOf, rootIn, mapPagesOf, treeAfterMap}
 use Rattle.theory_map.specs.Terms.{madeBy, freedBy}
 use Rattle.theory_map.specs.Leaf.{root-fine}
 use Rattle.theory_map.specs.Shown.{inBytes, walk-shown}
-use Rattle.theory_map.specs.Call.{stateAfter, given, needed-made, call-full, call-maps, full-passed, full-more, call-passed, call-room, call-count, call-shaped, call-sound}
+use Rattle.theory_map.specs.Call.{stateAfter, given, needed-made, call-full, call-maps, full-passed, full-more, call-passed}
+use Rattle.theory_map.specs.Call.{call-room, call-count, call-shaped, call-sound}
 use Rattle.theory_map.specs.Call.{call-tree}
 use Rattle.theory_map.specs.Place.{region-page, page-region, region-spans, frame-is, span-spans}
 use Rattle.theory_map.specs.Order.{apart-flip, order-accepted, order-walks, order-tables, order-shown, turn-enough}
@@ -42,7 +45,9 @@ module _ {h : Handle} {c : MapArguments} {s s′ : St} {n : ℕ} (maps : Maps h 
 
   -- what is shown afterwards
   after-shown : (va : ℕ) → shown (walkOf h s′ va) ≡ inBytes (seen (suc (depthOf h)) (treeAfterMap h c s) (va / 4096))
-  after-shown va = walk-shown (call-shaped maps) (call-sound maps) va ∙ ap (λ (t : Tree). inBytes (seen (suc (depthOf h)) t (va / 4096))) (call-tree maps)
+  after-shown va =
+      walk-shown (call-shaped maps) (call-sound maps) va
+      ∙ ap (λ (t : Tree). inBytes (seen (suc (depthOf h)) t (va / 4096))) (call-tree maps)
 
   module _ (va : ℕ) where
     -- each page of the region walks to its frame and flags;
@@ -51,7 +56,9 @@ module _ {h : Handle} {c : MapArguments} {s s′ : St} {n : ℕ} (maps : Maps h 
     map-region-walks at v =
         let passed = call-passed maps in
         after-shown va
-        ∙ ap inBytes (region-mapped (depthOf h) (rootIn h) (rootTree h s) (root-fine (shaped-placed (passed .shape)) (passed .pool)) (mapPagesOf c) (given passed) (va / 4096)
+        ∙ ap inBytes
+        (region-mapped (depthOf h) (rootIn h) (rootTree h s) (root-fine (shaped-placed (passed .shape)) (passed .pool)) (mapPagesOf c)
+        (given passed) (va / 4096)
         (region-spans passed va at) (region-page passed va at) (valid-of (c .flags) v))
         ∙ ap (mapped (c .flags)) (frame-is passed va at)
 
@@ -61,7 +68,9 @@ module _ {h : Handle} {c : MapArguments} {s s′ : St} {n : ℕ} (maps : Maps h 
     map-region-holes at v =
         let passed = call-passed maps in
         after-shown va
-        ∙ ap inBytes (region-holes (depthOf h) (rootIn h) (rootTree h s) (root-fine (shaped-placed (passed .shape)) (passed .pool)) (mapPagesOf c) (given passed) (va / 4096)
+        ∙ ap inBytes
+        (region-holes (depthOf h) (rootIn h) (rootTree h s) (root-fine (shaped-placed (passed .shape)) (passed .pool)) (mapPagesOf c)
+        (given passed) (va / 4096)
         (region-spans passed va at) (region-page passed va at) (valid-none (c .flags) v))
 
     -- every other address of the span walks as before;
@@ -69,7 +78,9 @@ module _ {h : Handle} {c : MapArguments} {s s′ : St} {n : ℕ} (maps : Maps h 
     map-elsewhere-as-before at other =
         let passed = call-passed maps in
         after-shown va
-        ∙ ap inBytes (others-as-before (depthOf h) (rootIn h) (rootTree h s) (root-fine (shaped-placed (passed .shape)) (passed .pool)) (mapPagesOf c) (given passed) (va / 4096)
+        ∙ ap inBytes
+        (others-as-before (depthOf h) (rootIn h) (rootTree h s) (root-fine (shaped-placed (passed .shape)) (passed .pool))
+        (mapPagesOf c) (given passed) (va / 4096)
         (span-spans h va (passed .shape .level) at) (λ of. other (page-region passed va of)))
         ∙ sym (walk-shown (passed .shape) (passed .pool) va)
 
@@ -100,10 +111,12 @@ module _ (h : Handle) (c : MapArguments) (s : St) where
   )
 
   -- it carries both numbers, and leaves the state as it was;
-  pub map-refusal-9-carries : {a b : ℕ} {s′ : St} → mapAnswer h c s ≡ out (Refused (WantOfRoom a b)) s′ → (a ≡ madeBy h c s) × (b ≡ free (s .ledger)) × (s′ ≡ s)
+  pub map-refusal-9-carries : {a b : ℕ} {s′ : St} → mapAnswer h c s ≡ out (Refused (WantOfRoom a b)) s′
+      → (a ≡ madeBy h c s) × (b ≡ free (s .ledger)) × (s′ ≡ s)
   map-refusal-9-carries {a} {b} is =
       let same = sym is ∙ call-full (full-passed h c s is) (full-more h c s is) in
-      let p : Refused (WantOfRoom a b) ≡ Refused (WantOfRoom (madeBy h c s) (free (s .ledger))) = ap (λ (x : Out Counted). x .answer) same in
+      let p : Refused (WantOfRoom a b) ≡ Refused (WantOfRoom (madeBy h c s) (free (s .ledger))) =
+      ap (λ (x : Out Counted). x .answer) same in
       (let e : a ≡ madeBy h c s = cc in e, let e : b ≡ free (s .ledger) = cc in e, ap (λ (x : Out Counted). x .state) same)
 
   -- the count by the rules is what the map makes;
@@ -128,18 +141,21 @@ pub record EitherOrder (h : Handle) (cs ds : List MapArguments) (s : St) : Type 
   pub tables : (s′ t′ : St) → InTurn h cs s s′ → InTurn h ds s t′ → used (s′ .ledger) ≡ used (t′ .ledger)
 
 -- any number of them, in any order (Q-13), in a pool that refusals 1 and 8 leave;
-pub maps-any-order : (h : Handle) (cs ds : List MapArguments) (s : St) → ShapedSound h s → Reorders cs ds → Pairs RegionsApart cs → Each Valid cs → EitherOrder h cs ds s
+pub maps-any-order : (h : Handle) (cs ds : List MapArguments) (s : St) → ShapedSound h s → Reorders cs ds → Pairs RegionsApart cs
+    → Each Valid cs → EitherOrder h cs ds s
 maps-any-order h cs ds s law reorders apart valid = record {
   accepted = (
     λ at. order-accepted law reorders apart valid (at .1),
-    λ at. order-accepted law (Permᴰ·symm reorders) (pairs-reorders RegionsApart apart-flip reorders apart) (each-reorders Valid reorders valid) (at .1),
+    λ at. order-accepted law (Permᴰ·symm reorders) (pairs-reorders RegionsApart apart-flip reorders apart)
+        (each-reorders Valid reorders valid) (at .1),
   );
   walks = λ s′ t′ turn turn′. order-walks law reorders apart turn turn′ valid;
   tables = λ s′ t′ turn turn′. order-tables law reorders apart turn turn′ valid;
 }
 
 -- two of them, whatever the pool
-pub maps-commute : (h : Handle) (c d : MapArguments) (s : St) → RegionsApart c d → Valid c → Valid d → EitherOrder h (c ∷ d ∷ []) (d ∷ c ∷ []) s
+pub maps-commute : (h : Handle) (c d : MapArguments) (s : St) → RegionsApart c d → Valid c → Valid d
+    → EitherOrder h (c ∷ d ∷ []) (d ∷ c ∷ []) s
 maps-commute h c d s apart vc vd = record {
   accepted = (λ at. both (law (at .1)) .accepted .0 at, λ at. both (law (at .1)) .accepted .1 at);
   walks = λ s′ t′ turn turn′. both (law turn) .walks s′ t′ turn turn′;
@@ -156,10 +172,12 @@ maps-commute h c d s apart vc vd = record {
 
 module _ (h : Handle) (cs : List MapArguments) (s : St) (law : ShapedSound h s) where
   -- where as many tables are free at entry as the calls of a list make, want of room aside, none of them is refused 9;
-  pub maps-enough-room : Each (Asks h) cs → madeAll (depthOf h) (rootIn h) (map mapPagesOf cs) (rootTree h s) ≤ free (s .ledger) → (s′ : St) × InTurn h cs s s′
+  pub maps-enough-room : Each (Asks h) cs → madeAll (depthOf h) (rootIn h) (map mapPagesOf cs) (rootTree h s) ≤ free (s .ledger)
+      → (s′ : St) × InTurn h cs s s′
   maps-enough-room asks room = turn-enough h cs s law asks room
 
   -- where all are accepted in two orders, every address of the span shows the same kind of answer, frame and flags
-  pub maps-any-order-shown : (ds : List MapArguments) (s′ t′ : St) → Reorders cs ds → Pairs RegionsApart cs → InTurn h cs s s′ → InTurn h ds s t′ → (va : ℕ) → InSpan h va
+  pub maps-any-order-shown : (ds : List MapArguments) (s′ t′ : St) → Reorders cs ds → Pairs RegionsApart cs → InTurn h cs s s′
+      → InTurn h ds s t′ → (va : ℕ) → InSpan h va
       → shown (walkOf h s′ va) ≡ shown (walkOf h t′ va)
   maps-any-order-shown ds s′ t′ reorders apart turn turn′ va at = order-shown law reorders apart turn turn′ va at

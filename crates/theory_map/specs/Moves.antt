@@ -1,4 +1,4 @@
--- What a rule does to a slot of a sound pool, as a move with its count: how many tables fewer may be free after it. Assumes nothing.
+-- What a rule does to a slot of a sound pool, as a move with its count: how many tables fewer may be free after it.
 use mathlib.Core.Path.{_≡_, refl, sym, subst, _∙_}
 use mathlib.Core.List.{List}
 use Prim.Native.Nat.{ℕ, suc, _+_, _-_, _≤_, _<_}
@@ -65,7 +65,12 @@ module _ {h : Handle} (placed : Placed h) where
   pub slotted-ready : {s s′ : St} {depth k i cost : ℕ} {t : Tree} → Ready s depth k → Slotted s s′ depth k i t cost → Ready s′ depth k
   slotted-ready {s} {s′} {depth} {k} R S =
       let own : numberAt s′ k ≡ numberAt s k = step-own (R .pool) (S .step) (R .used) in
-      record { shape = step-shaped (R .pool) (S .step) (R .shape); pool = step-pool (R .pool) (S .step); used = rw own (R .used); low = rw own (R .low) }
+      record {
+        shape = step-shaped (R .pool) (S .step) (R .shape);
+        pool = step-pool (R .pool) (S .step);
+        used = rw own (R .used);
+        low = rw own (R .low);
+      }
 
   module _ {s : St} {depth k : ℕ} (R : Ready s depth k) (i cost : ℕ) where
     -- rule 2: nothing is done
@@ -76,8 +81,10 @@ module _ {h : Handle} (placed : Placed h) where
     }
 
     -- rules 1 and 3: a word is written
-    pub stored : (v : ℕ) → i < 512 → ¬ (TableWord (levelAt s k) (wordAt s k i)) → Stands h (levelAt s k) v → Slotted s (storeAt k i v s) depth k i (leaf v) cost
-    stored v inside old stands = record { step = store-step placed (R .pool) k i v (R .used) inside depth (R .low) old stands; spare = omega arith }
+    pub stored : (v : ℕ) → i < 512 → ¬ (TableWord (levelAt s k) (wordAt s k i)) → Stands h (levelAt s k) v
+        → Slotted s (storeAt k i v s) depth k i (leaf v) cost
+    stored v inside old stands =
+        record { step = store-step placed (R .pool) k i v (R .used) inside depth (R .low) old stands; spare = omega arith }
 
   module _ {s : St} {depth k : ℕ} (R : Ready s (suc depth) k) (i : ℕ) (inside : i < 512) where
     -- rule 4: a word is written and the subtree freed
@@ -93,9 +100,15 @@ module _ {h : Handle} (placed : Placed h) where
         }
 
     -- rule 5 at a table: the work is done below
-    pub entered : {s′ : St} {e cost : ℕ} {t : Tree} → Refers (codecOf h placed) (view s) k i e → Worked s s′ depth e t cost → Slotted s s′ (suc depth) k i t cost
+    pub entered : {s′ : St} {e cost : ℕ} {t : Tree} → Refers (codecOf h placed) (view s) k i e → Worked s s′ depth e t cost
+        → Slotted s s′ (suc depth) k i t cost
     entered r W = record {
-      step = record { move = move-down (pool-sound placed (R .pool)) depth (R .used) r (W .work); same-tables = W .same-tables; same-words = W .same-words };
+      step =
+          record {
+            move = move-down (pool-sound placed (R .pool)) depth (R .used) r (W .work);
+            same-tables = W .same-tables;
+            same-words = W .same-words;
+          };
       spare = W .spare;
     }
 
@@ -168,7 +181,8 @@ module _ {h : Handle} (placed : Placed h) where
       pub taken-shows : treeFrom h after depth f ≡ fillTree depth w
       taken-shows =
           let low : levelOf (numberOf k (level + 1) i) + depth ≡ 3 = rw at-level (omega (arith, R .low)) in
-          new-tree (pool-sound placed (R .pool)) splits fit (R .used) inside none fresh depth low ∙ fill-tree depth w (omega (arith, R .low))
+          new-tree (pool-sound placed (R .pool)) splits fit (R .used) inside none fresh depth low
+          ∙ fill-tree depth w (omega (arith, R .low))
 
       pub split : {s′ : St} {cost : ℕ} {t : Tree} → Worked after s′ depth f t cost → Slotted s s′ (suc depth) k i t (1 + cost)
       split W = record {

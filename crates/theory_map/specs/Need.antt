@@ -1,4 +1,4 @@
--- Refusal 9's count on lists is the count on trees: the new tables that the document's loop takes. Assumes nothing.
+-- Refusal 9's count on lists is the count on trees: the new tables that the document's loop takes.
 use mathlib.Core.Path.{_≡_, refl, sym, ap, ap₂, subst, _∙_}
 use mathlib.Core.List.{List, [], _∷_}
 use mathlib.Core.Logic.{_⊎_, inl, inr, _≢_}
@@ -17,7 +17,8 @@ use Rattle.map_rules.specs.declared.Map.{Map}
 use Rattle.map_rules.specs.declared.Rule.{Rule}
 use Rattle.map_rules.specs.declared.Rule.the-variants.{Write, Keep, Drop, Down}
 use Rattle.map_rules.specs.Rules.{ruleOf, fillOf, chunkMap}
-use Rattle.map_count_spec.specs.Needed.{ifDown, sumOf, sumChunks, childWord, neededLeaf, needBelow, needChunk, needTable, needed, slot-below}
+use Rattle.map_count_spec.specs.Needed.{ifDown, sumOf, sumChunks, childWord, neededLeaf, needBelow, needChunk, needTable, needed}
+use Rattle.map_count_spec.specs.Needed.{slot-below}
 use Rattle.theory_forest.specs.Tree.{Tree, leaf, node, treeAt-node}
 use Rattle.theory_forest.specs.Sound.{Refers}
 use Rattle.theory_forest.specs.Frame.{slot-refers}
@@ -56,14 +57,17 @@ abbrev count : Map → ℕ → MemoryRegion → ℕ → Tree → ℕ
 count m depth c p u = trees.needed (documentRule (m .flags) (m .blocks)) depth c p u
 
 sum-tally : (m : Map) (depth : ℕ) (f : Map → ℕ) (t : Tree)
-    → ((c : MemoryRegion) (p : ℕ) → f (chunkMap m c p) ≡ takes (chunkMap m c p) depth (trees.slotTree t (entryIndex (3 - depth) (c .start .0))))
-    → (cs : List MemoryRegion) (p : ℕ) → sumOf (λ c frame. f (chunkMap m c frame)) cs p ≡ trees.tallied depth (λ d x u. count m depth d x u) cs p t
+    → ((c : MemoryRegion) (p : ℕ)
+    → f (chunkMap m c p) ≡ takes (chunkMap m c p) depth (trees.slotTree t (entryIndex (3 - depth) (c .start .0))))
+    → (cs : List MemoryRegion) (p : ℕ)
+    → sumOf (λ c frame. f (chunkMap m c frame)) cs p ≡ trees.tallied depth (λ d x u. count m depth d x u) cs p t
 unfolding sumOf trees.tallied
 sum-tally m depth f t each [] p = refl
 sum-tally m depth f t each (c ∷ cs) p = ap₂ _+_ (each c p) (sum-tally m depth f t each cs (p + (c .end .0 - c .start .0)))
 
 sum-takes : (m : Map) (depth : ℕ) (f : Map → ℕ) (t : Tree)
-    → ((c : MemoryRegion) (p : ℕ) → f (chunkMap m c p) ≡ takes (chunkMap m c p) depth (trees.slotTree t (entryIndex (3 - depth) (c .start .0))))
+    → ((c : MemoryRegion) (p : ℕ)
+    → f (chunkMap m c p) ≡ takes (chunkMap m c p) depth (trees.slotTree t (entryIndex (3 - depth) (c .start .0))))
     → sumChunks (3 - depth) f m ≡ takesTable m depth t
 unfolding sumChunks trees.neededTable
 sum-takes m depth f t each = sum-tally m depth f t each (chunks (3 - depth) (m .region .start .0) (m .region .end .0)) (m .frame .0)
@@ -75,7 +79,8 @@ child-fill : (depth w a : ℕ) → suc depth ≤ 3 → childWord (3 - suc depth)
 unfolding childWord
 child-fill depth w a low =
     let up : 3 - suc depth + 1 ≡ 3 - depth = omega arith in
-    ap (λ (l : ℕ). getD (fillOf (3 - suc depth) w) (entryIndex l a) 0) up ∙ fill-at depth w low (entryIndex (3 - depth) a) (slot-below (3 - depth) a)
+    ap (λ (l : ℕ). getD (fillOf (3 - suc depth) w) (entryIndex l a) 0) up
+    ∙ fill-at depth w low (entryIndex (3 - depth) a) (slot-below (3 - depth) a)
 
 pub slot-fill : (depth w i : ℕ) → i < 512 → trees.slotTree (fillTree depth w) i ≡ leaf (fillWord depth w i)
 unfolding trees.slotTree
@@ -99,13 +104,15 @@ unfolding neededLeaf trees.needed
 leaf-needs zero m w low fine = refl
 leaf-needs (suc depth) m w low fine = go (leaf-rule m depth w low (λ both. omega (arith, fine .clear (omega arith)))) (leaf-needs depth)
   where
-    go : LeafRule (3 - suc depth) m (suc depth) w → ((m : Map) (w : ℕ) → depth ≤ 3 → Fine depth w → neededLeaf depth m w ≡ takes m depth (leaf w))
+    go : LeafRule (3 - suc depth) m (suc depth) w
+        → ((m : Map) (w : ℕ) → depth ≤ 3 → Fine depth w → neededLeaf depth m w ≡ takes m depth (leaf w))
         → neededLeaf (suc depth) m w ≡ takes m (suc depth) (leaf w)
     go (keeps r e) below = needed-keep m depth w r ∙ sym (takes-keep m (suc depth) (leaf w) e)
     go (writes x r e) below = needed-write m depth w x r ∙ sym (takes-write m (suc depth) x (leaf w) e)
     go (splits r e) below =
         needed-split m depth w r
-        ∙ ap (λ (n : ℕ). 1 + n) (sum-takes m depth (λ c. neededLeaf depth c (childWord (3 - suc depth) w (c .region .start .0))) (fillTree depth w) (λ c p.
+        ∙ ap (λ (n : ℕ). 1 + n)
+        (sum-takes m depth (λ c. neededLeaf depth c (childWord (3 - suc depth) w (c .region .start .0))) (fillTree depth w) (λ c p.
         let i : ℕ = entryIndex (3 - depth) (c .start .0) in
         let inside = slot-below (3 - depth) (c .start .0) in
         ap (neededLeaf depth (chunkMap m c p)) (child-fill depth w (c .start .0) low)
@@ -127,7 +134,8 @@ module _ (rec : ℕ → Map → ℕ) (count : Map → ℕ → ℕ) (h : Handle) 
   unfolding needChunk needBelow ifDown
   chunk-leaf r e = rw (r, e)
 
-  chunk-table : (j : ℕ) → ruleOf level m w ≡ Down → subOf (h .base .0) (tables s) level w ≡ Table j → needChunk rec count h s k level m ≡ rec j m
+  chunk-table : (j : ℕ) → ruleOf level m w ≡ Down → subOf (h .base .0) (tables s) level w ≡ Table j
+      → needChunk rec count h s k level m ≡ rec j m
   unfolding needChunk needBelow ifDown
   chunk-table j r e = rw (r, e)
 
@@ -146,7 +154,8 @@ if-drop x n = refl
 module _ {h : Handle} (placed : Placed h) where
   -- what is known of the tables one level down
   abbrev Counts : ℕ → Type 0
-  Counts depth = (k : ℕ) (m : Map) (s : St) → Ready placed s depth k → needTable neededLeaf depth h s k m ≡ takesTable m depth (treeFrom h s depth k)
+  Counts depth =
+      (k : ℕ) (m : Map) (s : St) → Ready placed s depth k → needTable neededLeaf depth h s k m ≡ takesTable m depth (treeFrom h s depth k)
 
   module _ (depth k : ℕ) (m : Map) (s : St) (R : Ready placed s (suc depth) k) (counts : Counts depth) where
     abbrev level : ℕ
@@ -180,10 +189,12 @@ module _ {h : Handle} (placed : Placed h) where
         go (keeps r e) = chunk-not _ _ h s k level m Keep r if-keep ∙ sym (takes-keep m (suc depth) (leaf x) e)
         go (writes y r e) = chunk-not _ _ h s k level m (Write y) r (if-write y) ∙ sym (takes-write m (suc depth) y (leaf x) e)
         go (splits r e) =
-            chunk-leaf _ _ h s k level m r (sym (sub-leaf (h .base .0) (tables s) level x (λ table. other (table .1)))) ∙ leaf-needs (suc depth) m x low fine
+            chunk-leaf _ _ h s k level m r (sym (sub-leaf (h .base .0) (tables s) level x (λ table. other (table .1))))
+            ∙ leaf-needs (suc depth) m x low fine
 
     by-table : (e : ℕ) → Refers (codecOf h placed) (view s) k i e → x % 4 ≡ 3 → needs ≡ takes m (suc depth) (slotShows h s (suc depth) k i)
-    by-table e r both = go (table-rule m depth x low (λ j. slotShows h s depth e j) both) ∙ ap (takes m (suc depth)) (sym (slot-refers depth r ∙ is-node))
+    by-table e r both =
+        go (table-rule m depth x low (λ j. slotShows h s depth e j) both) ∙ ap (takes m (suc depth)) (sym (slot-refers depth r ∙ is-node))
       where
         is-node : treeFrom h s depth e ≡ node (λ j. slotShows h s depth e j)
         is-node = treeAt-node (childOf (h .base .0)) depth (slotWord s) e
@@ -193,8 +204,10 @@ module _ {h : Handle} (placed : Placed h) where
             rw (sym (word-in s k i inside) ∙ r .says)
             (sub-link (h .base .0) (tables s) e level (omega arith) (R .shape .paged) (R .shape .ended) (used-in s e (r .used)))
 
-        go : TableRule level m (suc depth) x (λ j. slotShows h s depth e j) → needs ≡ takes m (suc depth) (node (λ j. slotShows h s depth e j))
-        go (drops rule says) = chunk-not _ _ h s k level m (Drop (m .flags)) rule (if-drop (m .flags)) ∙ sym (takes-write m (suc depth) (m .flags) _ says)
+        go : TableRule level m (suc depth) x (λ j. slotShows h s depth e j)
+            → needs ≡ takes m (suc depth) (node (λ j. slotShows h s depth e j))
+        go (drops rule says) =
+            chunk-not _ _ h s k level m (Drop (m .flags)) rule (if-drop (m .flags)) ∙ sym (takes-write m (suc depth) (m .flags) _ says)
         go (enters rule says) =
             chunk-table _ _ h s k level m e rule leads ∙ counts e m s (entered-ready placed R i inside r) ∙ ap (takesTable m depth) is-node
             ∙ sym (takes-enter m depth (λ j. slotShows h s depth e j) says)
@@ -204,7 +217,8 @@ module _ {h : Handle} (placed : Placed h) where
       where
         go : (x % 4 ≡ 3) ⊎ (x % 4 ≢ 3) → needs ≡ takes m (suc depth) (slotShows h s (suc depth) k i)
         go (inl both) =
-            let n = pool-sound placed (R .pool) .names k i (R .used) (omega (arith, R .low), ap (λ (y : ℕ). y % 4) (word-in s k i inside) ∙ both) in
+            let n = pool-sound placed (R .pool) .names k i (R .used)
+            (omega (arith, R .low), ap (λ (y : ℕ). y % 4) (word-in s k i inside) ∙ both) in
             by-table (n .0) (n .1) both
         go (inr other) = by-leaf other
 
@@ -222,6 +236,7 @@ module _ {h : Handle} (placed : Placed h) where
       ∙ ap (takes (chunkMap m c p) (suc depth)) (sym (slot-of h s (suc depth) k (entryIndex (3 - suc depth) (c .start .0)))))
 
   -- REFUSAL 9'S COUNT
-  pub needed-is : (depth k : ℕ) (m : Map) (s : St) → Ready placed s depth k → needed depth h s k m ≡ takesTable m depth (treeFrom h s depth k)
+  pub needed-is : (depth k : ℕ) (m : Map) (s : St) → Ready placed s depth k
+      → needed depth h s k m ≡ takesTable m depth (treeFrom h s depth k)
   unfolding needed
   needed-is depth k m s R = table-needs depth k m s R

@@ -1,5 +1,5 @@
--- Calls one after the other are the maps of a list on the root's tree: accepted where each passes and there is room on the way. So a list of VALID calls whose
--- regions share no page may be reordered (Q-13); demand 3 is the case of two. Assumes nothing.
+-- Calls one after the other are the maps of a list on the root's tree: accepted where each passes and there is room on the way. So a list
+-- of VALID calls whose regions share no page may be reordered (Q-13); demand 3 is the case of two.
 use mathlib.Core.Path.{_≡_, refl, sym, ap, subst₂, _∙_}
 use mathlib.Core.List.{List, [], _∷_, map, Permᴰ·map}
 use Prim.Native.Nat.{ℕ, suc, _*_, _-_, _/_, _≤_}
@@ -22,12 +22,15 @@ use Rattle.theory_tree.specs.Walk.{seen}
 use Rattle.theory_tree.specs.Shown.{FineTable}
 use Rattle.theory_tree.specs.Rules.{Given}
 use Rattle.theory_tree.specs.Commute.{Apart as ApartPages}
-use Rattle.theory_tree.specs.Order.{RoomFor, run, madeAll, run-reorders, room-reorders, ValidMap, Each, Pairwise, Pairs, Reorders, each-reorders}
+use Rattle.theory_tree.specs.Order.{RoomFor, run, madeAll, run-reorders, room-reorders, ValidMap, Each, Pairwise, Pairs, Reorders}
+use Rattle.theory_tree.specs.Order.{each-reorders}
 use Rattle.theory_tree.specs.Demands.{any-order-seen, enough-room}
-use Rattle.theory_map.specs.Terms.{MapArguments, Maps, Asks, ShapedSound, MapPassed, Valid, RegionsApart, InTurn, none, next, InSpan, depthOf, rootIn, mapPagesOf}
+use Rattle.theory_map.specs.Terms.{MapArguments, Maps, Asks, ShapedSound, MapPassed, Valid, RegionsApart, InTurn, none, next, InSpan}
+use Rattle.theory_map.specs.Terms.{depthOf, rootIn, mapPagesOf}
 use Rattle.theory_map.specs.Leaf.{root-fine}
 use Rattle.theory_map.specs.Shown.{inBytes, walk-shown}
-use Rattle.theory_map.specs.Call.{stateAfter, given, call-maps, call-passed, call-room, call-shaped, call-sound, call-tree, call-tables}
+use Rattle.theory_map.specs.Call.{stateAfter, given, call-maps, call-passed, call-room, call-shaped, call-sound, call-tree}
+use Rattle.theory_map.specs.Call.{call-tables}
 use Rattle.theory_map.specs.Place.{page-region, span-spans}
 
 passes : {h : Handle} {c : MapArguments} {s : St} → ShapedSound h s → Asks h c → MapPassed h c s
@@ -52,10 +55,14 @@ module _ (h : Handle) where
 
   turn-room : {cs : List MapArguments} {s s′ : St} → ShapedSound h s → InTurn h cs s s′ → roomFor (tables s) cs (rootTree h s)
   turn-room law none = tt
-  turn-room law (next {cs = cs} maps rest) =
-      (omega (arith, call-room maps, spare law), subst₂ (λ (n : ℕ) (t : Tree). roomFor n cs t) (call-tables maps) (call-tree maps) (turn-room (turn-lawful maps) rest))
+  turn-room law (next {cs = cs} maps rest) = (
+    omega (arith, call-room maps, spare law),
+    subst₂ (λ (n : ℕ) (t : Tree). roomFor n cs t) (call-tables maps) (call-tree maps)
+        (turn-room (turn-lawful maps) rest),
+  )
 
-  turn-tree : {cs : List MapArguments} {s s′ : St} → InTurn h cs s s′ → rootTree h s′ ≡ run (depthOf h) (rootIn h) (map mapPagesOf cs) (rootTree h s)
+  turn-tree : {cs : List MapArguments} {s s′ : St} → InTurn h cs s s′
+      → rootTree h s′ ≡ run (depthOf h) (rootIn h) (map mapPagesOf cs) (rootTree h s)
   unfolding run
   turn-tree none = refl
   turn-tree (next {cs = cs} maps rest) = turn-tree rest ∙ ap (run (depthOf h) (rootIn h) (map mapPagesOf cs)) (call-tree maps)
@@ -66,19 +73,24 @@ module _ (h : Handle) where
 
   -- ---- a list with room is accepted
 
-  room-turn : (cs : List MapArguments) (s : St) → ShapedSound h s → Each (Asks h) cs → roomFor (tables s) cs (rootTree h s) → (s′ : St) × InTurn h cs s s′
+  room-turn : (cs : List MapArguments) (s : St) → ShapedSound h s → Each (Asks h) cs → roomFor (tables s) cs (rootTree h s)
+      → (s′ : St) × InTurn h cs s s′
   room-turn [] s law asks room = (s, none)
   room-turn (c ∷ cs) s law asks room =
       let t : St = stateAfter h c s in
-      let maps : Maps h c s (used (t .ledger)) t = record { answers = call-maps (passes law (asks .0)) (omega (arith, room .0, spare law)) } in
-      after maps (room-turn cs t (turn-lawful maps) (asks .1) (subst₂ (λ (n : ℕ) (u : Tree). roomFor n cs u) (sym (call-tables maps)) (sym (call-tree maps)) (room .1)))
+      let maps : Maps h c s (used (t .ledger)) t =
+      record { answers = call-maps (passes law (asks .0)) (omega (arith, room .0, spare law)) } in
+      after maps
+      (room-turn cs t (turn-lawful maps) (asks .1)
+      (subst₂ (λ (n : ℕ) (u : Tree). roomFor n cs u) (sym (call-tables maps)) (sym (call-tree maps)) (room .1)))
     where
       after : {t : St} {n : ℕ} → Maps h c s n t → (s′ : St) × InTurn h cs t s′ → (s′ : St) × InTurn h (c ∷ cs) s s′
       after maps (s′, rest) = (s′, next maps rest)
 
   -- ---- in pages
 
-  pages-apart : {c d : MapArguments} {s : St} → MapPassed h c s → MapPassed h d s → RegionsApart c d → ApartPages (mapPagesOf c) (mapPagesOf d)
+  pages-apart : {c d : MapArguments} {s : St} → MapPassed h c s → MapPassed h d s → RegionsApart c d
+      → ApartPages (mapPagesOf c) (mapPagesOf d)
   pages-apart one two apart page a b e f =
       let same : page * 4096 / 4096 ≡ page = omega arith in
       apart (page * 4096)
@@ -96,9 +108,11 @@ module _ (h : Handle) where
     all-valid (c ∷ cs) asks valid =
         (record { given = given (passes {c = c} law (asks .0)); valid = valid-of (c .flags) (valid .0) }, all-valid cs (asks .1) (valid .1))
 
-    all-apart : (c : MapArguments) (cs : List MapArguments) → Asks h c → Each (Asks h) cs → Each (RegionsApart c) cs → Each (ApartPages (mapPagesOf c)) (map mapPagesOf cs)
+    all-apart : (c : MapArguments) (cs : List MapArguments) → Asks h c → Each (Asks h) cs → Each (RegionsApart c) cs
+        → Each (ApartPages (mapPagesOf c)) (map mapPagesOf cs)
     all-apart c [] own asks apart = tt
-    all-apart c (d ∷ cs) own asks apart = (pages-apart (passes law own) (passes law (asks .0)) (apart .0), all-apart c cs own (asks .1) (apart .1))
+    all-apart c (d ∷ cs) own asks apart =
+        (pages-apart (passes law own) (passes law (asks .0)) (apart .0), all-apart c cs own (asks .1) (apart .1))
 
     pairwise-pages : (cs : List MapArguments) → Each (Asks h) cs → Pairs RegionsApart cs → Pairwise (map mapPagesOf cs)
     pairwise-pages [] asks apart = tt
@@ -109,7 +123,8 @@ apart-flip c d apart va at of = apart va of at
 
 -- ---- in another order
 
-module _ {h : Handle} {s : St} (law : ShapedSound h s) {cs ds : List MapArguments} (reorders : Reorders cs ds) (apart : Pairs RegionsApart cs) where
+module _ {h : Handle} {s : St} (law : ShapedSound h s) {cs ds : List MapArguments} (reorders : Reorders cs ds)
+    (apart : Pairs RegionsApart cs) where
   fine : FineTable (depthOf h) (rootTree h s)
   fine = root-fine (shaped-placed (law .shape)) (law .pool)
 
@@ -120,7 +135,8 @@ module _ {h : Handle} {s : St} (law : ShapedSound h s) {cs ds : List MapArgument
       let in-use = used-tree (law .shape) (law .pool) in
       let sum = used-free (s .ledger) in
       room-turn h ds s law (each-reorders (Asks h) reorders asks)
-      (room-reorders (depthOf h) (rootIn h) (tables s) (Permᴰ·map mapPagesOf reorders) (pairwise-pages h s law cs asks apart) (all-valid h s law cs asks valid) (rootTree h s) fine
+      (room-reorders (depthOf h) (rootIn h) (tables s) (Permᴰ·map mapPagesOf reorders) (pairwise-pages h s law cs asks apart)
+      (all-valid h s law cs asks valid) (rootTree h s) fine
       (omega arith) (turn-room h law turn))
 
   module _ {s′ t′ : St} (turn : InTurn h cs s s′) (turn′ : InTurn h ds s t′) where
@@ -129,7 +145,8 @@ module _ {h : Handle} {s : St} (law : ShapedSound h s) {cs ds : List MapArgument
     order-tree valid =
         let asks = turn-asks h turn in
         turn-tree h turn
-        ∙ run-reorders (depthOf h) (rootIn h) (Permᴰ·map mapPagesOf reorders) (pairwise-pages h s law cs asks apart) (all-valid h s law cs asks valid) (rootTree h s) fine
+        ∙ run-reorders (depthOf h) (rootIn h) (Permᴰ·map mapPagesOf reorders) (pairwise-pages h s law cs asks apart)
+        (all-valid h s law cs asks valid) (rootTree h s) fine
         ∙ sym (turn-tree h turn′)
 
     pub order-walks : Each Valid cs → (va : ℕ) → walkOf h s′ va ≡ walkOf h t′ va
@@ -154,7 +171,9 @@ module _ {h : Handle} {s : St} (law : ShapedSound h s) {cs ds : List MapArgument
         let two = turn-sound h law turn′ in
         walk-shown (one .shape) (one .pool) va
         ∙ ap (λ (t : Tree). inBytes (seen (suc (depthOf h)) t (va / 4096))) (turn-tree h turn)
-        ∙ ap inBytes (any-order-seen (depthOf h) (rootIn h) (rootTree h s) fine (map mapPagesOf cs) (map mapPagesOf ds) (Permᴰ·map mapPagesOf reorders)
+        ∙ ap inBytes
+        (any-order-seen (depthOf h) (rootIn h) (rootTree h s) fine (map mapPagesOf cs) (map mapPagesOf ds)
+        (Permᴰ·map mapPagesOf reorders)
         (pairwise-pages h s law cs asks apart) (all-given h s law cs asks) (va / 4096) (span-spans h va (law .shape .level) at))
         ∙ ap (λ (t : Tree). inBytes (seen (suc (depthOf h)) t (va / 4096))) (sym (turn-tree h turn′))
         ∙ sym (walk-shown (two .shape) (two .pool) va)

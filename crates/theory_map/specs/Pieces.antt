@@ -1,5 +1,5 @@
--- The chunks of a region in a table, one after the other: each in one entry, in slots that ascend. And what the document's loop does with a chunk, by
--- its rule. Assumes nothing.
+-- The chunks of a region in a table, one after the other: each in one entry, in slots that ascend. And what the document's loop does with a
+-- chunk, by its rule.
 use mathlib.Core.Path.{_≡_, refl, sym, ap, ap₂, subst}
 use mathlib.Core.List.{List, [], _∷_}
 use mathlib.Core.Logic.{_⊎_, inl, inr}
@@ -48,11 +48,13 @@ unfolding chunked obey
 done-write m zero x t e = rw e
 done-write m (suc depth) x t e = rw e
 
-pub done-down : (m : Map) (depth : ℕ) (t : Tree) → saysOf m (suc depth) t ≡ goDown → doneTo m (suc depth) t ≡ doneTable m depth (opened depth t)
+pub done-down : (m : Map) (depth : ℕ) (t : Tree) → saysOf m (suc depth) t ≡ goDown
+    → doneTo m (suc depth) t ≡ doneTable m depth (opened depth t)
 unfolding chunked chunkedTable obey
 done-down m depth t e = rw e
 
-pub takes-down : (m : Map) (depth : ℕ) (t : Tree) → saysOf m (suc depth) t ≡ goDown → takes m (suc depth) t ≡ splits t + takesTable m depth (opened depth t)
+pub takes-down : (m : Map) (depth : ℕ) (t : Tree) → saysOf m (suc depth) t ≡ goDown
+    → takes m (suc depth) t ≡ splits t + takesTable m depth (opened depth t)
 unfolding needed neededTable counted
 takes-down m depth t e = rw e
 
@@ -86,7 +88,8 @@ module _ (depth q : ℕ) (m : Map) (low : depth ≤ 3) where
   abbrev Past : ℕ → ℕ → ℕ → Type 0
   Past a s e = (i : ℕ) → i < a → s < e → first depth (child q i) + pagesIn depth ≤ s / 4096
 
-  pieces-from : (n a s e p : ℕ) → met (3 - depth) s e ≡ n → Inside (first (suc depth) q) (pagesIn (suc depth)) s e p → p + (e - s) ≤ 2 ^ 48 → Past a s e
+  pieces-from : (n a s e p : ℕ) → met (3 - depth) s e ≡ n → Inside (first (suc depth) q) (pagesIn (suc depth)) s e p → p + (e - s) ≤ 2 ^ 48
+      → Past a s e
       → Pieces depth q m a p (chunks (3 - depth) s e)
   pieces-from zero a s e p n I room past = go (le-or e s)
     where
@@ -99,7 +102,8 @@ module _ (depth q : ℕ) (m : Map) (low : depth ≤ 3) where
       i = slotOfPage (s / 4096) depth
 
       go : (e ≤ s) ⊎ (s < e)
-          → ((z : ℕ) → met (3 - depth) z e ≡ n → Inside (first (suc depth) q) (pagesIn (suc depth)) z e (p + (z - s)) → p + (z - s) + (e - z) ≤ 2 ^ 48 → Past (suc i) z e
+          → ((z : ℕ) → met (3 - depth) z e ≡ n → Inside (first (suc depth) q) (pagesIn (suc depth)) z e (p + (z - s))
+          → p + (z - s) + (e - z) ≤ 2 ^ 48 → Past (suc i) z e
           → Pieces depth q m (suc i) (p + (z - s)) (chunks (3 - depth) z e))
           → Pieces depth q m a p (chunks (3 - depth) s e)
       go (inl h) ih = subst (Pieces depth q m a p) (sym (chunks-none (3 - depth) s e h)) tt
@@ -119,15 +123,19 @@ module _ (depth q : ℕ) (m : Map) (low : depth ≤ 3) where
           from c (inl l) = l
           from c (inr l) = absurd (let x = past i l h in omega (arith, c .chunk .high, c .more, c .chunk .startPage, c .chunk .endPage))
 
-          next : (z : ℕ) → FirstCut depth q s e p z i → (j : ℕ) → z < e → (j ≡ i) ⊎ (¬ (j ≡ i)) → j < suc i → first depth (child q j) + pagesIn depth ≤ z / 4096
+          next : (z : ℕ) → FirstCut depth q s e p z i → (j : ℕ) → z < e → (j ≡ i) ⊎ (¬ (j ≡ i)) → j < suc i
+              → first depth (child q j) + pagesIn depth ≤ z / 4096
           next z c j more (inl same) l =
               let end : first depth (child q i) + pagesIn depth ≤ z / 4096 = omega (arith, c .ends, c .rest .startPage, c .rest .endPage) in
               rw same end
           next z c j more (inr other) l = let o = child-order depth q j i (omega arith) in omega (arith, c .chunk .low, c .more)
 
   -- THE CHUNKS OF A TABLE'S REGION
-  pub pieces : (p : ℕ) (c : MemoryRegion) → Area depth q (chunkMap m c p) → Pieces depth q m 0 p (chunks (3 - depth) (c .start .0) (c .end .0))
-  pieces p c area = pieces-from (met (3 - depth) (c .start .0) (c .end .0)) 0 (c .start .0) (c .end .0) p refl (area .inside) (area .room) (λ i l. absurd (omega arith))
+  pub pieces : (p : ℕ) (c : MemoryRegion) → Area depth q (chunkMap m c p)
+      → Pieces depth q m 0 p (chunks (3 - depth) (c .start .0) (c .end .0))
+  pieces p c area =
+      pieces-from (met (3 - depth) (c .start .0) (c .end .0)) 0 (c .start .0) (c .end .0) p refl (area .inside) (area .room)
+      (λ i l. absurd (omega arith))
 
   -- what the chunks take depends on the slots from a on
   pub tallied-from : (each : MemoryRegion → ℕ → Tree → ℕ) (cs : List MemoryRegion) (a p : ℕ) (t u : Tree) → Pieces depth q m a p cs
@@ -139,4 +147,5 @@ module _ (depth q : ℕ) (m : Map) (low : depth ≤ 3) where
       let at = index-slot depth (c .start .0) low in
       let here : slotTree t i ≡ slotTree u i = same i (omega (arith, all .0 .from)) in
       ap₂ _+_ (ap (each c p) here)
-      (tallied-from each cs (suc (slotAt depth c)) (p + (c .end .0 - c .start .0)) t u (all .1) (λ j l. same j (omega (arith, all .0 .from))))
+      (tallied-from each cs (suc (slotAt depth c)) (p + (c .end .0 - c .start .0)) t u (all .1)
+      (λ j l. same j (omega (arith, all .0 .from))))

@@ -1,4 +1,4 @@
--- Addresses of the call's region and of the root's span, in pages of the root's tree. Assumes nothing.
+-- Addresses of the call's region and of the root's span, in pages of the root's tree.
 use mathlib.Core.Path.{_≡_, refl, ap, _∙_}
 use mathlib.Core.Bool.{true}
 use Prim.Native.Nat.{ℕ, suc, _+_, _*_, _-_, _/_, _^_, _≤_, _<_}
@@ -30,7 +30,8 @@ module _ (r : MemoryRegion) {b n p : ℕ} (I : Inside b n (r .start .0) (r .end 
   pub page-in : OfRegion (r .start .0 / 4096) (r .end .0 / 4096) (va / 4096) → Holds r va
   page-in of = record { from = omega (arith, of .from, I .startPage); below = omega (arith, of .below, I .endPage) }
 
-pub page-spans : (depth q : ℕ) {start end p page : ℕ} → Inside (first (suc depth) q) (pagesIn (suc depth)) start end p → OfRegion (start / 4096) (end / 4096) page → In (suc depth) q page
+pub page-spans : (depth q : ℕ) {start end p page : ℕ} → Inside (first (suc depth) q) (pagesIn (suc depth)) start end p
+    → OfRegion (start / 4096) (end / 4096) page → In (suc depth) q page
 page-spans depth q {page = page} I of = in-of (suc depth) q page (omega (arith, I .low, of .from)) (omega (arith, I .high, of .below))
 
 -- ---- the call's region
@@ -58,12 +59,15 @@ module _ {h : Handle} {c : MapArguments} {s : St} (passed : MapPassed h c s) (va
 
 -- ---- the root's span
 
-root-spans : (range : VaRange) (depth va : ℕ) → depth ≤ 3 → spanned range (3 - depth) va ≡ true → va < 2 ^ 64 → In (suc depth) (rootOf range depth) (va / 4096)
+root-spans : (range : VaRange) (depth va : ℕ) → depth ≤ 3 → spanned range (3 - depth) va ≡ true → va < 2 ^ 64
+    → In (suc depth) (rootOf range depth) (va / 4096)
 unfolding rootOf
-root-spans Lower depth va low e word = lower-span depth va low (ltb-true va (512 * sizeAt (3 - depth)) (span-lower Lower (3 - depth) va (sizeAt (3 - depth)) refl refl ∙ e))
+root-spans Lower depth va low e word =
+    lower-span depth va low (ltb-true va (512 * sizeAt (3 - depth)) (span-lower Lower (3 - depth) va (sizeAt (3 - depth)) refl refl ∙ e))
 root-spans Upper depth va low e word =
     let h = size-high (3 - depth) in
-    let l = ltb-true (18446744073709551615 - 512 * sizeAt (3 - depth)) va (span-upper Upper (3 - depth) va (sizeAt (3 - depth)) refl refl ∙ e) in
+    let l = ltb-true (18446744073709551615 - 512 * sizeAt (3 - depth)) va
+    (span-upper Upper (3 - depth) va (sizeAt (3 - depth)) refl refl ∙ e) in
     upper-span depth va low (omega arith) word
 
 pub span-spans : (h : Handle) (va : ℕ) → h .level ≤ 3 → InSpan h va → In (suc (depthOf h)) (rootIn h) (va / 4096)

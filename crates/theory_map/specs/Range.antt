@@ -1,5 +1,5 @@
--- A map of a table of a sound pool does on lists what the document's loop does on the table's tree, with no more tables than that needs: no split meets a
--- full pool. Assumes nothing.
+-- A map of a table of a sound pool does on lists what the document's loop does on the table's tree, with no more tables than that needs: no
+-- split meets a full pool.
 use mathlib.Core.Path.{_≡_, refl, ap, subst, _∙_}
 use mathlib.Core.List.{List, [], _∷_}
 use Prim.Native.Nat.{ℕ, zero, suc, _+_, _-_, _≤_}
@@ -28,24 +28,33 @@ through-is f [] p s = refl
 through-is f (c ∷ cs) p s = through-is f cs (p + (c .end .0 - c .start .0)) (f c p s)
 
 each-is : (level : ℕ) (f : Map → St → St) (m : Map) (s : St)
-    → through (λ c frame t. f (chunkMap m c frame) t) (chunks level (m .region .start .0) (m .region .end .0)) (m .frame .0) s ≡ eachChunk level f m s
+    → through (λ c frame t. f (chunkMap m c frame) t) (chunks level (m .region .start .0) (m .region .end .0)) (m .frame .0) s
+    ≡ eachChunk level f m s
 unfolding eachChunk
-each-is level f m s = through-is (λ c frame t. f (chunkMap m c frame) t) (chunks level (m .region .start .0) (m .region .end .0)) (m .frame .0) s
+each-is level f m s =
+    through-is (λ c frame t. f (chunkMap m c frame) t) (chunks level (m .region .start .0) (m .region .end .0)) (m .frame .0) s
 
 module _ {h : Handle} (placed : Placed h) where
   table-works : (depth : ℕ) → depth ≤ 3 → ChunkWorks placed depth → Works placed depth
   unfolding chunkedTable neededTable
   table-works depth low works q k m s allowed area R room =
-      subst (λ (s′ : St). Worked placed s s′ depth k (doneTable m depth (treeFrom h s depth k)) (takesTable m depth (treeFrom h s depth k))) is
+      subst
+      (λ (s′ : St). Worked placed s s′ depth k (doneTable m depth (treeFrom h s depth k)) (takesTable m depth (treeFrom h s depth k)))
+      is
       (loop placed (λ (x : St). x) (λ c p t. mapStep h k (3 - depth) (chunkMap m c p) t)
-      (λ c p u. chunked (documentRule (m .flags) (m .blocks)) depth c p u) (λ c p u. needed (documentRule (m .flags) (m .blocks)) depth c p u) depth q k m low
+      (λ c p u. chunked (documentRule (m .flags) (m .blocks)) depth c p u)
+      (λ c p u. needed (documentRule (m .flags) (m .blocks)) depth c p u) depth q k m low
       (λ c p x piece ready enough. works (child q (slotAt depth c)) k (chunkMap m c p) x allowed piece ready enough)
-      (chunks (3 - depth) (m .region .start .0) (m .region .end .0)) 0 (m .frame .0) s (pieces depth q m low (m .frame .0) (m .region) area) R room)
+      (chunks (3 - depth) (m .region .start .0) (m .region .end .0)) 0 (m .frame .0) s
+      (pieces depth q m low (m .frame .0) (m .region) area) R room)
     where
-      is : through (λ c frame t. mapStep h k (3 - depth) (chunkMap m c frame) t) (chunks (3 - depth) (m .region .start .0) (m .region .end .0)) (m .frame .0) s ≡ mapRange depth h k m s
+      is : through (λ c frame t. mapStep h k (3 - depth) (chunkMap m c frame) t)
+          (chunks (3 - depth) (m .region .start .0) (m .region .end .0)) (m .frame .0) s
+          ≡ mapRange depth h k m s
       is =
           let e : 3 - (3 - depth) ≡ depth = omega arith in
-          each-is (3 - depth) (mapStep h k (3 - depth)) m s ∙ map-open h k (3 - depth) m s (omega arith) ∙ ap (λ (d : ℕ). mapRange d h k m s) e
+          each-is (3 - depth) (mapStep h k (3 - depth)) m s ∙ map-open h k (3 - depth) m s (omega arith)
+          ∙ ap (λ (d : ℕ). mapRange d h k m s) e
 
   -- A MAP OF A TABLE
   pub range-works : (depth : ℕ) → depth ≤ 3 → Works placed depth

@@ -1,4 +1,4 @@
--- The rules on words are the rules on trees: for an entry that is no table, and for a table. And what a split fills. Assumes nothing.
+-- The rules on words are the rules on trees: for an entry that is no table, and for a table. And what a split fills.
 use mathlib.Core.Path.{_≡_, refl, sym, ap, _∙_}
 use mathlib.Core.Bool.{true, false}
 use mathlib.Core.List.{List}
@@ -15,7 +15,8 @@ use Rattle.pool_table.specs.Table.{length-rising, rising-at}
 use Rattle.map_rules.specs.declared.Map.{Map}
 use Rattle.map_rules.specs.declared.Rule.the-variants.{Write, Keep, Drop, Down}
 use Rattle.map_rules.specs.Rules.{tableWord, rule2, blockable, ruleOf, fillOf}
-use Rattle.map_rules.specs.Laws.{rule-page, rule-keep, rule-part, rule-drop, rule-into, rule-block, rule-split, same-table, fill-hole, fill-leaf}
+use Rattle.map_rules.specs.Laws.{rule-page, rule-keep, rule-part, rule-drop, rule-into, rule-block, rule-split, same-table, fill-hole}
+use Rattle.map_rules.specs.Laws.{fill-leaf}
 use Rattle.theory_forest.specs.Tree.{Tree, leaf, node, node-ext}
 use Rattle.theory_tree.specs.Word.{fillWord}
 use Rattle.theory_tree.specs.Visit.{Rule as Says, keep, write, down as goDown, fillTree}
@@ -48,7 +49,8 @@ module _ (m : Map) (depth : ℕ) where
       unfolding documentRule
       said-part e = rw (sym (already-is level m w plain) ∙ other, e)
 
-      said-block : whole level (m .region) ≡ true → blockable level m ≡ true → saysOf m (suc depth) (leaf w) ≡ write (leafWord level (m .frame .0) (m .flags))
+      said-block : whole level (m .region) ≡ true → blockable level m ≡ true
+          → saysOf m (suc depth) (leaf w) ≡ write (leafWord level (m .frame .0) (m .flags))
       unfolding documentRule blockable
       said-block e b = rw (sym (already-is level m w plain) ∙ other, e, b)
 
@@ -149,5 +151,7 @@ module _ (depth w : ℕ) (low : suc depth ≤ 3) where
   fill-tree = node-ext (λ i. go i (le-or 512 i)) ∙ sym (fill-node depth w)
     where
       go : (i : ℕ) → (512 ≤ i) ⊎ (i < 512) → leaf (getD (fillOf (3 - suc depth) w) i 0) ≡ fillSlot depth w i
-      go i (inl past) = ap leaf (List·getD-eq-default (fillOf (3 - suc depth) w) 0 (let n = fill-length (3 - suc depth) w in omega arith)) ∙ sym (fill-past depth w i past)
+      go i (inl past) =
+          ap leaf (List·getD-eq-default (fillOf (3 - suc depth) w) 0 (let n = fill-length (3 - suc depth) w in omega arith))
+          ∙ sym (fill-past depth w i past)
       go i (inr inside) = ap leaf (fill-at i inside) ∙ sym (fill-slot depth w i inside)

@@ -1,5 +1,5 @@
--- What the Arm walk shows of an address in a sound pool ("as before": kind of answer, frame and flags) is what the root's tree shows of its page.
--- Assumes nothing.
+-- What the Arm walk shows of an address in a sound pool ("as before": kind of answer, frame and flags) is what the root's tree shows of its
+-- page.
 use mathlib.Core.Path.{_≡_, refl, sym, ap, ap₂, _∙_}
 use mathlib.Core.Bool.{true, false}
 use mathlib.Core.Logic.{inl, inr}
@@ -60,13 +60,15 @@ frame-shown depth w va low fine =
     let frame : addressOf w / 4096 ≡ frameIn w = omega arith in
     let rest = entry-rest depth (addressOf w) low (omega arith) in
     let none : addressOf w / 4096 % pagesIn depth ≡ 0 = ap (λ (x : ℕ). x % pagesIn depth) frame ∙ fine .aligned in
-    let whole : addressOf w / sizeAt (3 - depth) * sizeAt (3 - depth) ≡ addressOf w = omega (arith, down-rest (addressOf w) (sizeAt (3 - depth))) in
+    let whole : addressOf w / sizeAt (3 - depth) * sizeAt (3 - depth) ≡ addressOf w =
+    omega (arith, down-rest (addressOf w) (sizeAt (3 - depth))) in
     let offset = page-rest depth va low in
     let size : ℕ = sizeAt (3 - depth) in
     let e : addressOf w / size * size + va % size / 4096 * 4096 ≡ (frameIn w + va / 4096 % pagesIn depth) * 4096 = omega arith in
     frame-is (3 - depth) w va ∙ e
 
-seen-valid : (depth w page : ℕ) → Fine depth w → valid w ≡ true → seenIn depth w page ≡ seenMapped (plainFlags w) (frameIn w + page % pagesIn depth)
+seen-valid : (depth w page : ℕ) → Fine depth w → valid w ≡ true
+    → seenIn depth w page ≡ seenMapped (plainFlags w) (frameIn w + page % pagesIn depth)
 seen-valid depth w page fine v = seen-fine depth w page fine ∙ rw v
 
 seen-none : (depth w page : ℕ) → Fine depth w → valid w ≡ false → seenIn depth w page ≡ seenHole (plainFlags w)
@@ -80,10 +82,12 @@ says-shown depth w va low fine = byBool (valid w)
     ap shown (says-hole (3 - depth) w va (kind-clear (3 - depth) w (λ e. omega arith) (λ e. omega arith)))
     ∙ ap hole (flags-shown w) ∙ sym (ap inBytes (seen-none depth w (va / 4096) fine v)))
   where
-    both : (k : ℕ) → k ≤ 3 → Fine k w → mapped (flagsIn w) (frameOf (3 - k) w va) ≡ mapped (plainFlags w) ((frameIn w + va / 4096 % pagesIn k) * 4096)
+    both : (k : ℕ) → k ≤ 3 → Fine k w
+        → mapped (flagsIn w) (frameOf (3 - k) w va) ≡ mapped (plainFlags w) ((frameIn w + va / 4096 % pagesIn k) * 4096)
     both k l f = ap₂ mapped (flags-shown w) (frame-shown k w va l f)
 
-    some : (k : ℕ) → k ≤ 3 → Fine k w → w % 2 ≡ 1 → shown (says va (at (3 - k) w)) ≡ mapped (plainFlags w) ((frameIn w + va / 4096 % pagesIn k) * 4096)
+    some : (k : ℕ) → k ≤ 3 → Fine k w → w % 2 ≡ 1
+        → shown (says va (at (3 - k) w)) ≡ mapped (plainFlags w) ((frameIn w + va / 4096 % pagesIn k) * 4096)
     some zero l f o = let b = f .page refl o in ap shown (says-page 3 w va (omega arith)) ∙ both 0 l f
     some (suc zero) l f o =
         let b = f .clear (omega arith) in ap shown (says-block 2 w va (kind-block 2 w (inr refl) (omega arith))) ∙ both 1 l f
@@ -114,7 +118,8 @@ ends-fine : (f : ℕ → ℕ) (depth : ℕ) (t : Tree) → ((l : ℕ) → f l < 
 unfolding walkTree
 ends-fine f depth (leaf w) slots fine = record { fine = fine; low = omega arith }
 ends-fine f zero (node u) slots fine = absurd fine
-ends-fine f (suc depth) (node u) slots fine = let e = ends-fine f depth (u (f depth)) slots (fine (f depth) (slots depth)) in record { fine = e .fine; low = omega (arith, e .low) }
+ends-fine f (suc depth) (node u) slots fine =
+    let e = ends-fine f depth (u (f depth)) slots (fine (f depth) (slots depth)) in record { fine = e .fine; low = omega (arith, e .low) }
 
 -- .. below the root
 pub table-ends : (f : ℕ → ℕ) (depth : ℕ) (t : Tree) → ((l : ℕ) → f l < 512) → FineTable depth t → FineEnds depth (walkTree f (suc depth) t)
@@ -122,11 +127,13 @@ unfolding walkTree
 table-ends f depth (leaf w) slots fine = absurd fine
 table-ends f depth (node u) slots fine = ends-fine f depth (u (f depth)) slots (fine (f depth) (slots depth))
 
-ends-shown : (va : ℕ) (e : Ends) (depth : ℕ) → depth ≤ 3 → FineEnds depth e → shown (says va (reachedAt e)) ≡ inBytes (seenIn (e .depth) (e .word) (va / 4096))
+ends-shown : (va : ℕ) (e : Ends) (depth : ℕ) → depth ≤ 3 → FineEnds depth e
+    → shown (says va (reachedAt e)) ≡ inBytes (seenIn (e .depth) (e .word) (va / 4096))
 unfolding reachedAt
 ends-shown va e depth low fine = says-shown (e .depth) (e .word) va (omega (arith, fine .low)) (fine .fine)
 
-seen-ends : (depth : ℕ) (t : Tree) (page : ℕ) → let e = walkTree (slotOfPage page) depth t in seenIn (e .depth) (e .word) page ≡ seen depth t page
+seen-ends : (depth : ℕ) (t : Tree) (page : ℕ)
+    → let e = walkTree (slotOfPage page) depth t in seenIn (e .depth) (e .word) page ≡ seen depth t page
 unfolding walkIn
 seen-ends depth t page = refl
 

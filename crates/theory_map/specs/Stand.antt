@@ -1,4 +1,4 @@
--- What a map writes and a split fills may stand in a sound pool. Assumes nothing.
+-- What a map writes and a split fills may stand in a sound pool.
 use mathlib.Core.Path.{_≡_, sym, ap, subst, _∙_}
 use mathlib.Core.Bool.{Bool, true, false, not, cond, _&&_}
 use Prim.Native.Nat.{ℕ, zero, suc, _+_, _-_, _/_, _%_, _^_, _≤_, _<_}
@@ -47,7 +47,8 @@ module _ (m : Map) (flags : Plain (m .flags)) where
       (λ v. ap plainFlags (leaf-hole (m .flags) flags depth (p / 4096) v) ∙ flags-shown (m .flags) flags)
 
   -- whatever is written has the map's flags
-  says-plain : (depth x : ℕ) (t : Tree) → depth ≤ 3 → m .frame .0 % 4096 ≡ 0 → m .frame .0 < 2 ^ 48 → saysOf m depth t ≡ write x → plainFlags x ≡ m .flags
+  says-plain : (depth x : ℕ) (t : Tree) → depth ≤ 3 → m .frame .0 % 4096 ≡ 0 → m .frame .0 < 2 ^ 48 → saysOf m depth t ≡ write x
+      → plainFlags x ≡ m .flags
   unfolding documentRule
   says-plain zero x (leaf w) low paged small e =
       let same : leafWord 3 (m .frame .0) (m .flags) ≡ x = cc in ap plainFlags (sym same) ∙ written-plain 0 (m .frame .0) low paged small
@@ -57,10 +58,12 @@ module _ (m : Map) (flags : Plain (m .flags)) where
       either (already level (m .region) (m .frame .0) (m .flags) w)
       (whole level (m .region) && (eqb (m .frame .0 % sizeAt level) 0 && (m .blocks && ltb 0 level))) e
     where
-      either : (a b : Bool) → cond a keep (cond b (write (leafWord (3 - suc depth) (m .frame .0) (m .flags))) goDown) ≡ write x → plainFlags x ≡ m .flags
+      either : (a b : Bool) → cond a keep (cond b (write (leafWord (3 - suc depth) (m .frame .0) (m .flags))) goDown) ≡ write x
+          → plainFlags x ≡ m .flags
       either true b e = let z : _≡_ {A = ℕ} 0 1 = cc in absurd (omega arith)
       either false true e =
-          let same : leafWord (3 - suc depth) (m .frame .0) (m .flags) ≡ x = cc in ap plainFlags (sym same) ∙ written-plain (suc depth) (m .frame .0) low paged small
+          let same : leafWord (3 - suc depth) (m .frame .0) (m .flags) ≡ x = cc in
+          ap plainFlags (sym same) ∙ written-plain (suc depth) (m .frame .0) low paged small
       either false false e = let z : _≡_ {A = ℕ} 0 1 = cc in absurd (omega arith)
   says-plain (suc depth) x (node f) low paged small e = either (whole (3 - suc depth) (m .region) && not (valid (m .flags))) e
     where
@@ -69,13 +72,15 @@ module _ (m : Map) (flags : Plain (m .flags)) where
       either false e = let z : _≡_ {A = ℕ} 0 1 = cc in absurd (omega arith)
 
 -- it may stand where it is written
-pub write-stands : (h : Handle) (depth q level x : ℕ) (m : Map) (t : Tree) → Allowed h (m .flags) → Piece depth q m → level + depth ≡ 3 → FineTree depth t
+pub write-stands : (h : Handle) (depth q level x : ℕ) (m : Map) (t : Tree) → Allowed h (m .flags) → Piece depth q m → level + depth ≡ 3
+    → FineTree depth t
     → saysOf m depth t ≡ write x → Stands h level x
 write-stands h depth q level x m t allowed piece low fine e =
     let I = piece .inside in
     let given : Given (inPages (m .flags) (m .blocks) (m .region .start .0) (m .region .end .0) (m .frame .0)) =
     record { plain = allowed .plain; ends = omega (arith, piece .room, I .startPage, I .endPage, I .framePage) } in
-    let says = document-says (m .flags) (m .blocks) depth q (m .region .start .0) (m .region .end .0) (m .frame .0) t (omega arith) (piece .some) I in
+    let says = document-says (m .flags) (m .blocks) depth q (m .region .start .0) (m .region .end .0) (m .frame .0) t (omega arith)
+    (piece .some) I in
     let good : Good depth (write x) = subst (Good depth) (sym says ∙ e) (map-shows _ given .good depth q t fine) in
     let flags = says-plain m (allowed .plain) depth x t (omega arith) (I .framePage) (omega (arith, piece .some, piece .room)) e in
     fine-stands h depth level x low good (subst (λ (f : ℕ). SubBits f (flagSet h)) (sym flags) (allowed .from))
@@ -93,4 +98,5 @@ module _ (h : Handle) (depth w : ℕ) (fine : Fine (suc depth) w) (j : ℕ) (slo
 
   pub fill-stands : (level : ℕ) → level + depth ≡ 3 → SubBits (plainFlags w) (flagSet h) → Stands h level (fillWord depth w j)
   fill-stands level low from =
-      fine-stands h depth level (fillWord depth w j) low (fine-fill depth w fine j slot) (subst (λ (f : ℕ). SubBits f (flagSet h)) (sym fill-plain) from)
+      fine-stands h depth level (fillWord depth w j) low (fine-fill depth w fine j slot)
+      (subst (λ (f : ℕ). SubBits f (flagSet h)) (sym fill-plain) from)

@@ -1,5 +1,5 @@
--- The words in which the demands on the call are said: the call and its answer, its region, the root's span, the tables that a map makes and frees. Definitions
--- alone. Assumes nothing.
+-- The words in which the demands on the call are said: the call and its answer, its region, the root's span, the tables that a map makes
+-- and frees. Definitions alone.
 use mathlib.Core.Path.{_≡_}
 use mathlib.Core.Bool.{true}
 use mathlib.Core.List.{List, [], _∷_}

@@ -1,4 +1,4 @@
--- What refusals 2 to 6 leave of a modify: bits from the set, whole pages inside the root's span. Assumes nothing.
+-- What refusals 2 to 6 leave of a modify: bits from the set, whole pages inside the root's span.
 use mathlib.Core.Path.{_≡_, refl}
 use mathlib.Core.Bool.{Bool, true, false, cond}
 use Prim.Native.Nat.{ℕ, _-_, _/_, _%_, _≤_}

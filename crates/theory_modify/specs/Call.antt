@@ -1,5 +1,5 @@
--- The call of modify on a pool that refusals 1 to 8 leave: it is refused 9 exactly when the tree's count exceeds what is free, and where it is accepted it leaves
--- a sound pool whose root shows the tree after the modify. Assumes nothing.
+-- The call of modify on a pool that refusals 1 to 8 leave: it is refused 9 exactly when the tree's count exceeds what is free, and where it
+-- is accepted it leaves a sound pool whose root shows the tree after the modify.
 use mathlib.Core.Path.{_≡_, refl, sym, ap, subst, _∙_}
 use mathlib.Core.Bool.{Bool, true, false, true≢false}
 use mathlib.Core.List.{List, _++_}
@@ -23,8 +23,10 @@ use Rattle.modify_entry.specs.Own.{Numbered, numbered}
 use Rattle.modify_range.specs.Range.{Work, work, modifyRange}
 use Rattle.modify.specs.declared.Modified.{Modified}
 use Rattle.modify.specs.declared.Modified.the-variants as modified
-use Rattle.modify_verify.specs.Permit.{askedEdit, verifyEdit, verifySurvey, survey-full, survey-off, survey-broken, survey-short, survey-accepted}
-use Rattle.modify.specs.Call.{Modifying, modifying, refused, answerOf, editTables, modifySound, sound-not, sound-refused, sound-edited, call-misshaped, call-refused, call-asked}
+use Rattle.modify_verify.specs.Permit.{askedEdit, verifyEdit, verifySurvey, survey-full, survey-off, survey-broken, survey-short}
+use Rattle.modify_verify.specs.Permit.{survey-accepted}
+use Rattle.modify.specs.Call.{Modifying, modifying, refused, answerOf, editTables, modifySound, sound-not, sound-refused, sound-edited}
+use Rattle.modify.specs.Call.{call-misshaped, call-refused, call-asked}
 use Rattle.modify.specs.Call.{nothing}
 use Rattle.theory_forest.specs.Tree.{Tree}
 use Rattle.theory_sound.specs.Clauses.{SoundPool}
@@ -38,7 +40,8 @@ use Rattle.theory_map.specs.Leaf.{slot-fine}
 use Rattle.theory_map.specs.Moves.{slotShows, Ready, Worked, worked-shaped, worked-pool, root-ready, root-node}
 use Rattle.theory_map.specs.Pieces.{Area}
 use Rattle.theory_map.specs.Asked.{Early}
-use Rattle.theory_modify.specs.Terms.{ModifyArguments, modifyAnswer, modifyAccepted, Modifies, editAsked, ModifyPassed, surveyed, modifyPagesOf, treeAfterModify, madeByModify, numbersOf}
+use Rattle.theory_modify.specs.Terms.{ModifyArguments, modifyAnswer, modifyAccepted, Modifies, editAsked, ModifyPassed, surveyed}
+use Rattle.theory_modify.specs.Terms.{modifyPagesOf, treeAfterModify, madeByModify, numbersOf}
 use Rattle.theory_modify.specs.Numbers.{tableNumbers, occurs, firstPage}
 use Rattle.theory_modify.specs.Word.{Bits}
 use Rattle.theory_modify.specs.Range.{editTable, editTakes, areaOf, range-edits}
@@ -73,12 +76,14 @@ module _ {h : Handle} {c : ModifyArguments} {s : St} (passed : ModifyPassed h c 
   takes-made : editTakes e (depthOf h) 0 (rootTree h s) ≡ madeByModify h c s
   takes-made =
       subst (λ (t : Tree). editTakes e (depthOf h) 0 t ≡ modifyMade (depthOf h) (rootIn h) (modifyPagesOf c) t) (sym (root-node h s))
-      (document-modify-needs (e .set) (e .clear) (depthOf h) (rootIn h) (e .region .start .0) (e .region .end .0) _ (omega arith) (area .inside))
+      (document-modify-needs (e .set) (e .clear) (depthOf h) (rootIn h) (e .region .start .0) (e .region .end .0) _ (omega arith)
+      (area .inside))
 
   done-tree : editTable e (depthOf h) 0 (rootTree h s) ≡ treeAfterModify h c s
   done-tree =
       subst (λ (t : Tree). editTable e (depthOf h) 0 t ≡ modifyTree (depthOf h) (rootIn h) (modifyPagesOf c) t) (sym (root-node h s))
-      (document-modifies (e .set) (e .clear) (depthOf h) (rootIn h) (e .region .start .0) (e .region .end .0) _ (omega arith) (area .inside))
+      (document-modifies (e .set) (e .clear) (depthOf h) (rootIn h) (e .region .start .0) (e .region .end .0) _ (omega arith)
+      (area .inside))
 
   -- REFUSAL 9'S COUNT IS THE TREE'S
   pub splits-made : surveyed h c s .splits ≡ madeByModify h c s
@@ -100,13 +105,17 @@ module _ {h : Handle} {c : ModifyArguments} {s : St} (passed : ModifyPassed h c 
 
   -- exactly the entries that change
   pub numbers-tell : (y : ℕ) → e .region .start .0 / 4096 ≤ y → y < e .region .end .0 / 4096
-      → occurs (firstPage (suc (depthOf h)) (treeAfterModify h c s) y % 2 ^ 44) (numbersOf h c s) ≡ changes (e .set) (e .clear) (seen (suc (depthOf h)) (rootTree h s) y)
+      → occurs (firstPage (suc (depthOf h)) (treeAfterModify h c s) y % 2 ^ 44) (numbersOf h c s)
+      ≡ changes (e .set) (e .clear) (seen (suc (depthOf h)) (rootTree h s) y)
   numbers-tell y above under =
       let placed = shaped-placed (passed .shape) in
       ap (λ (t : Tree). occurs (firstPage (suc (depthOf h)) t y % 2 ^ 44) (numbersOf h c s)) (sym done-tree)
-      ∙ subst (λ (t : Tree). occurs (firstPage (suc (depthOf h)) (editTable e (depthOf h) 0 t) y % 2 ^ 44) (tableNumbers (e .set) (e .clear) (depthOf h) (e .region) t)
+      ∙ subst
+      (λ (t : Tree). occurs (firstPage (suc (depthOf h)) (editTable e (depthOf h) 0 t) y % 2 ^ 44)
+      (tableNumbers (e .set) (e .clear) (depthOf h) (e .region) t)
       ≡ changes (e .set) (e .clear) (seen (suc (depthOf h)) t y)) (sym (root-node h s))
-      (region-tells (e .set) (e .clear) (bits .set .plain) (bits .clear .plain) y (depthOf h) (rootIn h) (areaOf e 0) (λ i. slotShows h s (depthOf h) 0 i) (omega arith) area
+      (region-tells (e .set) (e .clear) (bits .set .plain) (bits .clear .plain) y (depthOf h) (rootIn h) (areaOf e 0)
+      (λ i. slotShows h s (depthOf h) 0 i) (omega arith) area
       (λ j inside. slot-fine placed (passed .pool) (depthOf h) 0 j (ready .used) (ready .low) inside)
       (asked-forwards h (c .start) (c .end) (c .set) (c .clear) (c .live) (passed .asks)) above under)
 
@@ -115,7 +124,9 @@ module _ {h : Handle} {c : ModifyArguments} {s : St} (passed : ModifyPassed h c 
   module _ (room : madeByModify h c s ≤ free (s .ledger)) (list : List ℕ) where
     worked : Worked (shaped-placed (passed .shape)) s (workAfter h c s list .state) (depthOf h) 0
         (editTable e (depthOf h) 0 (rootTree h s)) (editTakes e (depthOf h) 0 (rootTree h s))
-    worked = range-edits (shaped-placed (passed .shape)) (depthOf h) (omega arith) (rootIn h) 0 0 e (work s list 0) bits area ready (omega (arith, takes-made))
+    worked =
+        range-edits (shaped-placed (passed .shape)) (depthOf h) (omega arith) (rootIn h) 0 0 e (work s list 0) bits area ready
+        (omega (arith, takes-made))
 
     pub after-shaped : Shaped h (workAfter h c s list .state)
     after-shaped = worked-shaped (shaped-placed (passed .shape)) ready worked
@@ -123,9 +134,12 @@ module _ {h : Handle} {c : ModifyArguments} {s : St} (passed : ModifyPassed h c 
     pub after-sound : SoundPool h (workAfter h c s list .state)
     after-sound = worked-pool (shaped-placed (passed .shape)) ready worked
 
-    pub after-list : numbered (workAfter h c s list .count) (workAfter h c s list .list) ≡ putAll (c .live) (numbersOf h c s) (numbered 0 list)
+    pub after-list : numbered (workAfter h c s list .count) (workAfter h c s list .list)
+        ≡ putAll (c .live) (numbersOf h c s) (numbered 0 list)
     unfolding askedEdit
-    after-list = range-lists (shaped-placed (passed .shape)) (depthOf h) (omega arith) (rootIn h) 0 0 e (work s list 0) bits area ready (omega (arith, takes-made))
+    after-list =
+        range-lists (shaped-placed (passed .shape)) (depthOf h) (omega arith) (rootIn h) 0 0 e (work s list 0) bits area ready
+        (omega (arith, takes-made))
 
     pub after-tree : rootTree h (workAfter h c s list .state) ≡ treeAfterModify h c s
     after-tree = worked .work .tree ∙ done-tree
@@ -142,7 +156,8 @@ pub record Clear (h : Handle) (c : ModifyArguments) (s : St) (list : List ℕ) :
 pub data Judged (h : Handle) (c : ModifyArguments) (s : St) (list : List ℕ) : Type 0 where
   is-full : free (s .ledger) < madeByModify h c s → Judged h c s list
   is-broken : madeByModify h c s ≤ free (s .ledger) → c .live ≡ true → surveyed h c s .broken ≡ true → Judged h c s list
-  is-short : madeByModify h c s ≤ free (s .ledger) → c .live ≡ true → surveyed h c s .broken ≡ false → length list < length (numbersOf h c s) → Judged h c s list
+  is-short : madeByModify h c s ≤ free (s .ledger) → c .live ≡ true → surveyed h c s .broken ≡ false
+      → length list < length (numbersOf h c s) → Judged h c s list
   is-clear : Clear h c s list → Judged h c s list
 
 -- what refusals 9 to 11 say
@@ -155,7 +170,8 @@ unfolding modifyAccepted
 not-accepted true n k q = let z : _≡_ {A = ℕ} 0 1 = cc in omega arith
 not-accepted false n k q = let z : _≡_ {A = ℕ} 0 1 = cc in omega arith
 
-answer-of : {r : Refusal} {s s′ : St} {list list′ : List ℕ} {y : Modified} → refused r s list ≡ modifying y s′ list′ → modified.Refused r ≡ y
+answer-of : {r : Refusal} {s s′ : St} {list list′ : List ℕ} {y : Modified} → refused r s list ≡ modifying y s′ list′
+    → modified.Refused r ≡ y
 answer-of e = ap (λ (x : Modifying). x .answer) e
 
 done-is : (h : Handle) (c : ModifyArguments) (s : St) (list : List ℕ) → let w = workAfter h c s list in
@@ -168,7 +184,9 @@ module _ {h : Handle} {c : ModifyArguments} {s : St} (passed : ModifyPassed h c 
   sound-is = is-true (soundb h s) (sound-decide (passed .shape) (passed .pool))
 
   asked-is : modifySound h (editAsked c) s list ≡ modifyAnswer h c s list
-  asked-is = call-asked h (c .start) (c .end) (c .set) (c .clear) (c .live) s list (is-true (shaped h s) (says-shaped h s (passed .shape))) refl (passed .asks)
+  asked-is =
+      call-asked h (c .start) (c .end) (c .set) (c .clear) (c .live) s list (is-true (shaped h s) (says-shaped h s (passed .shape))) refl
+      (passed .asks)
 
   pub call-stopped : (r : Refusal) → verdict h c s list ≡ Refused r → modifyAnswer h c s list ≡ refused r s list
   unfolding askedEdit
@@ -180,10 +198,12 @@ module _ {h : Handle} {c : ModifyArguments} {s : St} (passed : ModifyPassed h c 
   call-done q = sym (sound-edited h (editAsked c) s list sound-is refl refl refl q ∙ asked-is) ∙ done-is h c s list
 
   -- refusal 9
-  pub call-full : free (s .ledger) < madeByModify h c s → modifyAnswer h c s list ≡ refused (WantOfRoom (madeByModify h c s) (free (s .ledger))) s list
+  pub call-full : free (s .ledger) < madeByModify h c s
+      → modifyAnswer h c s list ≡ refused (WantOfRoom (madeByModify h c s) (free (s .ledger))) s list
   call-full full =
       let m = splits-made passed in
-      call-stopped (WantOfRoom (surveyed h c s .splits) (free (s .ledger))) (sym (survey-full (free (s .ledger)) (length list) (c .live) (surveyed h c s) (omega arith)))
+      call-stopped (WantOfRoom (surveyed h c s .splits) (free (s .ledger)))
+      (sym (survey-full (free (s .ledger)) (length list) (c .live) (surveyed h c s) (omega arith)))
       ∙ ap (λ (n : ℕ). refused (WantOfRoom n (free (s .ledger))) s list) m
 
   -- accepted
@@ -205,22 +225,26 @@ module _ {h : Handle} {c : ModifyArguments} {s : St} (passed : ModifyPassed h c 
       → modifyAnswer h c s list ≡ refused (HouseRule (surveyed h c s .word)) s list
   call-broken room on broken =
       let m = splits-made passed in
-      call-stopped (HouseRule (surveyed h c s .word)) (sym (survey-broken (free (s .ledger)) (length list) (c .live) (surveyed h c s) (omega arith) on broken))
+      call-stopped (HouseRule (surveyed h c s .word))
+      (sym (survey-broken (free (s .ledger)) (length list) (c .live) (surveyed h c s) (omega arith) on broken))
 
   -- refusal 11
-  pub call-short : madeByModify h c s ≤ free (s .ledger) → c .live ≡ true → surveyed h c s .broken ≡ false → length list < length (numbersOf h c s)
+  pub call-short : madeByModify h c s ≤ free (s .ledger) → c .live ≡ true → surveyed h c s .broken ≡ false
+      → length list < length (numbersOf h c s)
       → modifyAnswer h c s list ≡ refused (Short (length (numbersOf h c s))) s list
   call-short room on kept short =
       let m = splits-made passed in
       let n = numbers-made passed kept in
-      call-stopped (Short (surveyed h c s .numbers)) (sym (survey-short (free (s .ledger)) (length list) (c .live) (surveyed h c s) (omega arith) on kept (omega arith)))
+      call-stopped (Short (surveyed h c s .numbers))
+      (sym (survey-short (free (s .ledger)) (length list) (c .live) (surveyed h c s) (omega arith) on kept (omega arith)))
       ∙ ap (λ (k : ℕ). refused (Short k) s list) n
 
   -- one of these it is
   judged : Judged h c s list
   judged = go (le-or (madeByModify h c s) (free (s .ledger)))
     where
-      long : surveyed h c s .broken ≡ false → (length (numbersOf h c s) ≤ length list) ⊎ (length list < length (numbersOf h c s)) → madeByModify h c s ≤ free (s .ledger)
+      long : surveyed h c s .broken ≡ false → (length (numbersOf h c s) ≤ length list) ⊎ (length list < length (numbersOf h c s))
+          → madeByModify h c s ≤ free (s .ledger)
           → c .live ≡ true → Judged h c s list
       long kept (inl enough) room on = is-clear (record { room = room; kept = λ q. kept; enough = λ q. enough })
       long kept (inr short) room on = is-short room on kept short
@@ -228,16 +252,20 @@ module _ {h : Handle} {c : ModifyArguments} {s : St} (passed : ModifyPassed h c 
       live : madeByModify h c s ≤ free (s .ledger) → (b : Bool) → c .live ≡ b → Judged h c s list
       live room true on = byBool (surveyed h c s .broken) (λ broken. is-broken room on broken)
           (λ kept. long kept (le-or (length (numbersOf h c s)) (length list)) room on)
-      live room false off = is-clear (record { room = room; kept = λ on. absurd (true≢false (sym on ∙ off)); enough = λ on. absurd (true≢false (sym on ∙ off)) })
+      live room false off =
+          is-clear
+          (record { room = room; kept = λ on. absurd (true≢false (sym on ∙ off)); enough = λ on. absurd (true≢false (sym on ∙ off)) })
 
       go : (madeByModify h c s ≤ free (s .ledger)) ⊎ (free (s .ledger) < madeByModify h c s) → Judged h c s list
       go (inl room) = live room (c .live) refl
       go (inr full) = is-full full
 
 -- what is answered otherwise than by refusals 1 to 8 was left by them
-passed-by : (h : Handle) (c : ModifyArguments) (s : St) (list : List ℕ) {x : Modifying} → modifyAnswer h c s list ≡ x → ((r : Refusal) → number r < 9 → refused r s list ≡ x → ⊥) → ModifyPassed h c s
+passed-by : (h : Handle) (c : ModifyArguments) (s : St) (list : List ℕ) {x : Modifying} → modifyAnswer h c s list ≡ x
+    → ((r : Refusal) → number r < 9 → refused r s list ≡ x → ⊥) → ModifyPassed h c s
 passed-by h c s list {x} is later =
-    byBool (shaped h s) shape (λ e. absurd (later Shape (lit< tt) (call-misshaped h (c .start) (c .end) (c .set) (c .clear) (c .live) s list e ∙ is)))
+    byBool (shaped h s) shape
+    (λ e. absurd (later Shape (lit< tt) (call-misshaped h (c .start) (c .end) (c .set) (c .clear) (c .live) s list e ∙ is)))
   where
     pool : shaped h s ≡ true → verifyEdit h (c .end) (editAsked c) ≡ Accepted → ModifyPassed h c s
     pool e ok =
@@ -257,7 +285,8 @@ passed-by h c s list {x} is later =
 
 -- ---- refused 9, 10, 11
 
-module _ (h : Handle) (c : ModifyArguments) (s : St) (list : List ℕ) {y : Refusal} {s′ : St} {list′ : List ℕ} (is : modifyAnswer h c s list ≡ modifying (modified.Refused y) s′ list′) where
+module _ (h : Handle) (c : ModifyArguments) (s : St) (list : List ℕ) {y : Refusal} {s′ : St} {list′ : List ℕ}
+    (is : modifyAnswer h c s list ≡ modifying (modified.Refused y) s′ list′) where
   refused-passed : 9 ≤ number y → ModifyPassed h c s
   refused-passed late = passed-by h c s list is (λ r early q.
       let same : r ≡ y = let p = answer-of q in cc in
@@ -274,7 +303,8 @@ module _ (h : Handle) (c : ModifyArguments) (s : St) (list : List ℕ) {y : Refu
       (ap (λ (x : Modifying). x .answer) (sym is ∙ call-accepted passed list fits))
 
 module _ (h : Handle) (c : ModifyArguments) (s : St) (list : List ℕ) {s′ : St} {list′ : List ℕ} where
-  pub full-back : {a b : ℕ} → modifyAnswer h c s list ≡ modifying (modified.Refused (WantOfRoom a b)) s′ list′ → ModifyPassed h c s × (free (s .ledger) < madeByModify h c s)
+  pub full-back : {a b : ℕ} → modifyAnswer h c s list ≡ modifying (modified.Refused (WantOfRoom a b)) s′ list′
+      → ModifyPassed h c s × (free (s .ledger) < madeByModify h c s)
   full-back {a} {b} is = (passed, go (judged passed list))
     where
       passed : ModifyPassed h c s
@@ -282,8 +312,10 @@ module _ (h : Handle) (c : ModifyArguments) (s : St) (list : List ℕ) {s′ : S
 
       go : Judged h c s list → free (s .ledger) < madeByModify h c s
       go (is-full full) = full
-      go (is-broken room on broken) = absurd (let e = ap number (refused-is h c s list is (call-broken passed list room on broken)) in omega arith)
-      go (is-short room on kept short) = absurd (let e = ap number (refused-is h c s list is (call-short passed list room on kept short)) in omega arith)
+      go (is-broken room on broken) =
+          absurd (let e = ap number (refused-is h c s list is (call-broken passed list room on broken)) in omega arith)
+      go (is-short room on kept short) =
+          absurd (let e = ap number (refused-is h c s list is (call-short passed list room on kept short)) in omega arith)
       go (is-clear fits) = absurd (refused-not h c s list is passed fits)
 
   pub broken-back : {w : ℕ} → modifyAnswer h c s list ≡ modifying (modified.Refused (HouseRule w)) s′ list′
@@ -293,22 +325,28 @@ module _ (h : Handle) (c : ModifyArguments) (s : St) (list : List ℕ) {s′ : S
       passed : ModifyPassed h c s
       passed = refused-passed h c s list is (lit≤ tt)
 
-      go : Judged h c s list → ModifyPassed h c s × (madeByModify h c s ≤ free (s .ledger)) × (c .live ≡ true) × (surveyed h c s .broken ≡ true)
+      go : Judged h c s list
+          → ModifyPassed h c s × (madeByModify h c s ≤ free (s .ledger)) × (c .live ≡ true) × (surveyed h c s .broken ≡ true)
       go (is-full full) = absurd (let e = ap number (refused-is h c s list is (call-full passed list full)) in omega arith)
       go (is-broken room on broken) = (passed, room, on, broken)
-      go (is-short room on kept short) = absurd (let e = ap number (refused-is h c s list is (call-short passed list room on kept short)) in omega arith)
+      go (is-short room on kept short) =
+          absurd (let e = ap number (refused-is h c s list is (call-short passed list room on kept short)) in omega arith)
       go (is-clear fits) = absurd (refused-not h c s list is passed fits)
 
   pub short-back : {n : ℕ} → modifyAnswer h c s list ≡ modifying (modified.Refused (Short n)) s′ list′
-      → ModifyPassed h c s × (madeByModify h c s ≤ free (s .ledger)) × (c .live ≡ true) × (surveyed h c s .broken ≡ false) × (length list < length (numbersOf h c s))
+      → ModifyPassed h c s × (madeByModify h c s ≤ free (s .ledger)) × (c .live ≡ true) × (surveyed h c s .broken ≡ false)
+      × (length list < length (numbersOf h c s))
   short-back {n} is = go (judged passed list)
     where
       passed : ModifyPassed h c s
       passed = refused-passed h c s list is (lit≤ tt)
 
-      go : Judged h c s list → ModifyPassed h c s × (madeByModify h c s ≤ free (s .ledger)) × (c .live ≡ true) × (surveyed h c s .broken ≡ false) × (length list < length (numbersOf h c s))
+      go : Judged h c s list
+          → ModifyPassed h c s × (madeByModify h c s ≤ free (s .ledger)) × (c .live ≡ true) × (surveyed h c s .broken ≡ false)
+          × (length list < length (numbersOf h c s))
       go (is-full full) = absurd (let e = ap number (refused-is h c s list is (call-full passed list full)) in omega arith)
-      go (is-broken room on broken) = absurd (let e = ap number (refused-is h c s list is (call-broken passed list room on broken)) in omega arith)
+      go (is-broken room on broken) =
+          absurd (let e = ap number (refused-is h c s list is (call-broken passed list room on broken)) in omega arith)
       go (is-short room on kept short) = (passed, room, on, kept, short)
       go (is-clear fits) = absurd (refused-not h c s list is passed fits)
 
@@ -333,7 +371,8 @@ module _ {h : Handle} {c : ModifyArguments} {s s′ : St} {list list′ : List �
   abbrev w : Work
   w = workAfter h c s list
 
-  done : modifying (modifyAccepted (c .live) n k) s′ list′ ≡ modifying (modifyAccepted (c .live) (used (w .state .ledger)) (w .count)) (w .state) (w .list)
+  done : modifying (modifyAccepted (c .live) n k) s′ list′
+      ≡ modifying (modifyAccepted (c .live) (used (w .state .ledger)) (w .count)) (w .state) (w .list)
   done = sym (modifies .answers) ∙ call-accepted call-passed list call-clear
 
   pub call-state : s′ ≡ w .state
@@ -366,7 +405,9 @@ module _ {h : Handle} {c : ModifyArguments} {s s′ : St} {list list′ : List �
 
   pub call-off : c .live ≡ false → list′ ≡ list
   call-off off =
-      call-list ∙ ap (λ (x : Numbered). x .list) (after-list call-passed (call-clear .room) list ∙ ap (λ (live : Bool). putAll live (numbersOf h c s) (numbered 0 list)) off
+      call-list
+      ∙ ap (λ (x : Numbered). x .list)
+      (after-list call-passed (call-clear .room) list ∙ ap (λ (live : Bool). putAll live (numbersOf h c s) (numbered 0 list)) off
       ∙ put-off (numbersOf h c s) (numbered 0 list))
 
   module _ (on : c .live ≡ true) where

@@ -1,5 +1,5 @@
--- The house rule bit by bit (document 01, "Putting down a map", Modify): `survey::House.mayChange` allows a change exactly if no bit outside "0, 7, 10, 11, 51, 53, 54
--- and 55 to 58" differs. Assumes nothing.
+-- The house rule bit by bit (document 01, "Putting down a map", Modify): `survey::House.mayChange` allows a change exactly if no bit
+-- outside "0, 7, 10, 11, 51, 53, 54 and 55 to 58" differs.
 use mathlib.Core.Path.{_≡_, refl, sym, ap, _∙_}
 use mathlib.Core.Bool.{Bool, true, false, cond, _&&_, _||_}
 use mathlib.Core.Logic.{_⊎_, inl, inr, _≢_, _↔_}
@@ -50,7 +50,8 @@ and-bit : (a b i : ℕ) → bit i (bitAnd a b) ≡ min (bit i a) (bit i b)
 and-bit a b i = ap (λ (x : ℕ). x % 2) (and-shr a b i) ∙ and-odd (a / 2 ^ i) (b / 2 ^ i)
 
 xor-odd : (a b : ℕ) → bitXor a b % 2 ≡ differ (a % 2) (b % 2)
-xor-odd a b = ap (λ (x : ℕ). x % 2) (xor-step a b) ∙ digits-mod (bitXor (a / 2) (b / 2)) (differ-two (a % 2) (b % 2) (omega arith) (omega arith))
+xor-odd a b =
+    ap (λ (x : ℕ). x % 2) (xor-step a b) ∙ digits-mod (bitXor (a / 2) (b / 2)) (differ-two (a % 2) (b % 2) (omega arith) (omega arith))
 
 xor-bit : (a b i : ℕ) → bit i (bitXor a b) ≡ differ (bit i a) (bit i b)
 xor-bit a b i = ap (λ (x : ℕ). x % 2) (xor-shr a b i) ∙ xor-odd (a / 2 ^ i) (b / 2 ^ i)
@@ -71,10 +72,12 @@ lacks = bin-ind (λ (n : ℕ). (m : ℕ) → bitAnd n m ≢ n → Lacks n m) (λ
     low : (n m : ℕ) → min (n % 2) (m % 2) ≢ n % 2 → Lacks n m
     low n m other = record { place = 0; set = omega arith; clear = omega arith }
 
-    step : (n m : ℕ) → bitAnd n m ≢ n → (bitAnd (n / 2) (m / 2) ≢ n / 2 → Lacks (n / 2) (m / 2)) → (bitAnd (n / 2) (m / 2) ≡ n / 2) ⊎ (bitAnd (n / 2) (m / 2) ≢ n / 2) → Lacks n m
+    step : (n m : ℕ) → bitAnd n m ≢ n → (bitAnd (n / 2) (m / 2) ≢ n / 2 → Lacks (n / 2) (m / 2))
+        → (bitAnd (n / 2) (m / 2) ≡ n / 2) ⊎ (bitAnd (n / 2) (m / 2) ≢ n / 2) → Lacks n m
     step n m other below (inl same) = low n m (λ e. other (let s = and-step n m in omega arith))
     step n m other below (inr more) =
-        let l = below more in record { place = suc (l .place); set = sym (half-bit n (l .place)) ∙ l .set; clear = sym (half-bit m (l .place)) ∙ l .clear }
+        let l = below more in
+        record { place = suc (l .place); set = sym (half-bit n (l .place)) ∙ l .set; clear = sym (half-bit m (l .place)) ∙ l .clear }
 
 -- ---- the change
 
@@ -98,7 +101,9 @@ module _ (h : Handle) (old new : ℕ) where
         l .place,
         l .clear,
         λ same.
-            let z : bit (l .place) f ≡ 0 = xor-bit old new (l .place) ∙ ap (λ (x : ℕ). differ x (bit (l .place) new)) same ∙ differ-self (bit (l .place) new) (omega arith) in
+            let z : bit (l .place) f ≡ 0 =
+            xor-bit old new (l .place) ∙ ap (λ (x : ℕ). differ x (bit (l .place) new)) same
+            ∙ differ-self (bit (l .place) new) (omega arith) in
             omega (arith, z, l .set),
       )
 
@@ -108,7 +113,8 @@ module _ (h : Handle) (old new : ℕ) where
 mask-low : (i : ℕ) → i < 59 → bit i 0x07E8_0000_0000_0C81 ≡ cond (houseBit i) 1 0
 unfolding allBelow houseBit
 mask-low i l =
-    eqb→eq (bit i 0x07E8_0000_0000_0C81) (cond (houseBit i) 1 0) (all-to 59 (λ j. eqb (bit j 0x07E8_0000_0000_0C81) (cond (houseBit j) 1 0)) tt i l)
+    eqb→eq (bit i 0x07E8_0000_0000_0C81) (cond (houseBit i) 1 0)
+    (all-to 59 (λ j. eqb (bit j 0x07E8_0000_0000_0C81) (cond (houseBit j) 1 0)) tt i l)
 
 mask-high : (i : ℕ) → 59 ≤ i → bit i 0x07E8_0000_0000_0C81 ≡ 0
 mask-high i l =
@@ -149,5 +155,6 @@ pub house-rule-bits : (h : Handle) (old new : ℕ) → (mayChange h old new ≡ 
 house-rule-bits h old new = (
   λ may i out. may-same h old new may i (mask-bits h i ∙ ap (λ (b : Bool). cond b 1 0) out),
   λ same. byBool {A = mayChange h old new ≡ true} (mayChange h old new) (λ may. may)
-      (λ bits. let d = not-differs h old new bits in absurd (d .2 (same (d .0) (bit-out (houseBit (d .0)) (sym (mask-bits h (d .0)) ∙ d .1))))),
+      (λ bits. let d = not-differs h old new bits in
+      absurd (d .2 (same (d .0) (bit-out (houseBit (d .0)) (sym (mask-bits h (d .0)) ∙ d .1))))),
 )

@@ -1,5 +1,5 @@
--- Where the house rule is kept, a survey's count of numbers is the length of what the modify lists: no valid entry is split, and a split of a hole lists nothing.
--- Assumes nothing.
+-- Where the house rule is kept, a survey's count of numbers is the length of what the modify lists: no valid entry is split, and a split of
+-- a hole lists nothing.
 use mathlib.Core.Path.{_≡_, refl, sym, ap, ap₂, subst, _∙_}
 use mathlib.Core.Bool.{true, false, true≢false}
 use mathlib.Core.List.{List, [], _∷_, _++_, append-nil}
@@ -28,7 +28,8 @@ use Rattle.modify_entry.specs.Word.{editWord}
 use Rattle.modify_entry.specs.Each.{eachOf, eachChunk, chunkEdit}
 use Rattle.modify_survey.specs.declared.Survey.{Survey}
 use Rattle.modify_survey.specs.House.{mayChange}
-use Rattle.modify_survey.specs.Find.{splitsIn, breach, ifBlock, surveyPart, surveyWhole, surveyEntry, surveyChunk, surveyRange, entry-whole, entry-part}
+use Rattle.modify_survey.specs.Find.{splitsIn, breach, ifBlock, surveyPart, surveyWhole, surveyEntry, surveyChunk, surveyRange, entry-whole}
+use Rattle.modify_survey.specs.Find.{entry-part}
 use Rattle.theory_forest.specs.Tree.{Tree, leaf, treeAt-node}
 use Rattle.theory_forest.specs.Keep.{slot-leaf}
 use Rattle.theory_sound.specs.Codec.{Placed, codecOf, childOf, slotWord, view, word-in, treeFrom}
@@ -50,7 +51,8 @@ use Rattle.theory_modify.specs.Word.{hole-stays, valid-edited}
 use Rattle.theory_modify.specs.Range.{areaOf}
 use Rattle.theory_modify.specs.Splits.{chunk-leaf, chunk-table}
 use Rattle.theory_modify.specs.Numbers.{gathered, changedNumber, ownNumbers, lowerNumbers, tableNumbers}
-use Rattle.theory_modify.specs.Gathered.{number-changed, number-same, number-hole, own-whole, own-part, own-none, lower-whole, lower-part, lower-into, leaf-number, leaf-page}
+use Rattle.theory_modify.specs.Gathered.{number-changed, number-same, number-hole, own-whole, own-part, own-none, lower-whole}
+use Rattle.theory_modify.specs.Gathered.{lower-part, lower-into, leaf-number, leaf-page}
 use Rattle.theory_modify.specs.Gathered.{gathered-both, gathered-none}
 
 -- ---- a split of a hole lists nothing
@@ -62,7 +64,8 @@ module _ (set clear : ℕ) where
   page-number : (c : MemoryRegion) (w : ℕ) → ownNumbers set clear 0 c (leaf w) ≡ changedNumber set clear c w
   page-number c w = sym (leaf-page set clear c (leaf w)) ∙ leaf-number set clear c w
 
-  pub hole-none : (depth : ℕ) (c : MemoryRegion) (w : ℕ) → suc depth ≤ 3 → valid w ≡ false → tableNumbers set clear depth c (fillTree depth w) ≡ []
+  pub hole-none : (depth : ℕ) (c : MemoryRegion) (w : ℕ) → suc depth ≤ 3 → valid w ≡ false
+      → tableNumbers set clear depth c (fillTree depth w) ≡ []
   unfolding tableNumbers
   hole-none zero c w low v =
       gathered-none 0 (ownNumbers set clear 0) (chunks 3 (c .start .0) (c .end .0)) (fillTree 0 w) (λ d.
@@ -75,10 +78,12 @@ module _ (set clear : ℕ) where
       (gathered-none (suc depth) (lowerNumbers set clear (λ d u. tableNumbers set clear depth d u) depth) cs (fillTree (suc depth) w) (λ d.
       let i : ℕ = entryIndex (3 - suc depth) (d .start .0) in
       let x : ℕ = fillWord (suc depth) w i in
-      ap (lowerNumbers set clear (λ b u. tableNumbers set clear depth b u) depth d) (slot-fill (suc depth) w i (slot-below (3 - suc depth) (d .start .0)))
+      ap (lowerNumbers set clear (λ b u. tableNumbers set clear depth b u) depth d)
+      (slot-fill (suc depth) w i (slot-below (3 - suc depth) (d .start .0)))
       ∙ byBool (whole (3 - suc depth) d)
       (λ e. lower-whole set clear (λ b u. tableNumbers set clear depth b u) depth d x e)
-      (λ e. lower-part set clear (λ b u. tableNumbers set clear depth b u) depth d x e ∙ ap (tableNumbers set clear depth d) (opens-leaf depth x)
+      (λ e. lower-part set clear (λ b u. tableNumbers set clear depth b u) depth d x e
+      ∙ ap (tableNumbers set clear depth d) (opens-leaf depth x)
       ∙ hole-none depth d x (omega arith) (fill-hole (suc depth) w i low v))))
       (gathered-none (suc depth) (ownNumbers set clear (suc depth)) cs (fillTree (suc depth) w) (λ d.
       let i : ℕ = entryIndex (3 - suc depth) (d .start .0) in
@@ -111,9 +116,13 @@ module _ (depth q : ℕ) (m : Map) (f : MemoryRegion → Survey → Survey) (num
       let rest = fold-adds each cs (suc (slotAt depth c)) (p + (c .end .0 - c .start .0)) (f c v) (all .1) ok in
       let here = each c p v (all .0 .piece) (rest .kept) in
       let u : Tree = slotTree t (entryIndex (3 - depth) (c .start .0)) in
-      record { kept = here .kept; numbers = omega (arith, rest .numbers, here .numbers, length-append (numbers c u) (gathered depth numbers cs t)) }
+      record {
+        kept = here .kept;
+        numbers = omega (arith, rest .numbers, here .numbers, length-append (numbers c u) (gathered depth numbers cs t));
+      }
 
-  chunks-add : EachAdds → (r : MemoryRegion) (p : ℕ) (v : Survey) → Pieces depth q m 0 p (chunks (3 - depth) (r .start .0) (r .end .0)) → eachChunk (3 - depth) f r v .broken ≡ false
+  chunks-add : EachAdds → (r : MemoryRegion) (p : ℕ) (v : Survey) → Pieces depth q m 0 p (chunks (3 - depth) (r .start .0) (r .end .0))
+      → eachChunk (3 - depth) f r v .broken ≡ false
       → AddsNumbers v (eachChunk (3 - depth) f r v) (length (gathered depth numbers (chunks (3 - depth) (r .start .0) (r .end .0)) t))
   unfolding eachChunk
   chunks-add each r p v all ok = fold-adds each (chunks (3 - depth) (r .start .0) (r .end .0)) 0 p v all ok
@@ -125,7 +134,10 @@ module _ (h : Handle) (level : ℕ) (e : Edit) (w : ℕ) (v : Survey) where
   unfolding surveyWhole
   whole-kept same ok =
       let is : surveyWhole h level e w v ≡ v = rw (eq-eqb (editWord level e w) w same) in
-      record { kept = sym (ap (λ (x : Survey). x .broken) is) ∙ ok; numbers = ap (λ (x : Survey). x .numbers) is ∙ (let z : v .numbers ≡ v .numbers + 0 = omega arith in z) }
+      record {
+        kept = sym (ap (λ (x : Survey). x .broken) is) ∙ ok;
+        numbers = ap (λ (x : Survey). x .numbers) is ∙ (let z : v .numbers ≡ v .numbers + 0 = omega arith in z);
+      }
 
   abbrev more : Survey
   more = record { splits = v .splits; numbers = v .numbers + 1; broken = v .broken; word = v .word }
@@ -173,19 +185,23 @@ module _ (h : Handle) (e : Edit) (c : MemoryRegion) (w : ℕ) (v : Survey) where
   -- its number, if its word changes
   changed-adds : (depth : ℕ) → depth ≤ 3 → Fine depth w → surveyWhole h (3 - depth) (chunkEdit e c) w v .broken ≡ false
       → AddsNumbers v (surveyWhole h (3 - depth) (chunkEdit e c) w v) (length (changedNumber (e .set) (e .clear) c w))
-  changed-adds depth low fine ok = byBool (valid w) (λ y. go y (valid-edited (chunkEdit e c) w depth low fine y) (eq-or (editWord (3 - depth) (chunkEdit e c) w) w))
+  changed-adds depth low fine ok =
+      byBool (valid w) (λ y. go y (valid-edited (chunkEdit e c) w depth low fine y) (eq-or (editWord (3 - depth) (chunkEdit e c) w) w))
       (λ n. none (number-hole (e .set) (e .clear) c w n) (hole-stays (chunkEdit e c) w (3 - depth) n))
     where
       none : changedNumber (e .set) (e .clear) c w ≡ [] → editWord (3 - depth) (chunkEdit e c) w ≡ w
           → AddsNumbers v (surveyWhole h (3 - depth) (chunkEdit e c) w v) (length (changedNumber (e .set) (e .clear) c w))
-      none z same = subst (λ (xs : List ℕ). AddsNumbers v (surveyWhole h (3 - depth) (chunkEdit e c) w v) (length xs)) (sym z) (whole-kept h (3 - depth) (chunkEdit e c) w v same ok)
+      none z same =
+          subst (λ (xs : List ℕ). AddsNumbers v (surveyWhole h (3 - depth) (chunkEdit e c) w v) (length xs)) (sym z)
+          (whole-kept h (3 - depth) (chunkEdit e c) w v same ok)
 
       go : valid w ≡ true → editWord (3 - depth) (chunkEdit e c) w ≡ edited (e .set) (e .clear) w
           → (editWord (3 - depth) (chunkEdit e c) w ≡ w) ⊎ (editWord (3 - depth) (chunkEdit e c) w ≢ w)
           → AddsNumbers v (surveyWhole h (3 - depth) (chunkEdit e c) w v) (length (changedNumber (e .set) (e .clear) c w))
       go y is (inl same) = none (number-same (e .set) (e .clear) c w y (sym is ∙ same)) same
       go y is (inr other) =
-          subst (λ (xs : List ℕ). AddsNumbers v (surveyWhole h (3 - depth) (chunkEdit e c) w v) (length xs)) (sym (number-changed (e .set) (e .clear) c w y (λ q. other (is ∙ q))))
+          subst (λ (xs : List ℕ). AddsNumbers v (surveyWhole h (3 - depth) (chunkEdit e c) w v) (length xs))
+          (sym (number-changed (e .set) (e .clear) c w y (λ q. other (is ∙ q))))
           (whole-one h (3 - depth) (chunkEdit e c) w v other ok)
 
   page-adds : Fine 0 w → whole 3 c ≡ true → surveyEntry h 3 (chunkEdit e c) w v .broken ≡ false
@@ -203,29 +219,37 @@ module _ (h : Handle) (e : Edit) (c : MemoryRegion) (w : ℕ) (v : Survey) where
     abbrev entryNumbers : Tree → List ℕ
     entryNumbers u = lowerNumbers (e .set) (e .clear) rec depth c u ++ ownNumbers (e .set) (e .clear) (suc depth) c u
 
-    leaf-adds : surveyEntry h (3 - suc depth) (chunkEdit e c) w v .broken ≡ false → AddsNumbers v (surveyEntry h (3 - suc depth) (chunkEdit e c) w v) (length (entryNumbers (leaf w)))
+    leaf-adds : surveyEntry h (3 - suc depth) (chunkEdit e c) w v .broken ≡ false
+        → AddsNumbers v (surveyEntry h (3 - suc depth) (chunkEdit e c) w v) (length (entryNumbers (leaf w)))
     leaf-adds ok = byBool (whole (3 - suc depth) c) all part
       where
         level : ℕ
         level = 3 - suc depth
 
-        all : whole (3 - suc depth) c ≡ true → AddsNumbers v (surveyEntry h (3 - suc depth) (chunkEdit e c) w v) (length (entryNumbers (leaf w)))
+        all : whole (3 - suc depth) c ≡ true
+            → AddsNumbers v (surveyEntry h (3 - suc depth) (chunkEdit e c) w v) (length (entryNumbers (leaf w)))
         all a =
             let is = entry-whole h level (chunkEdit e c) w v a in
             subst (λ (xs : List ℕ). AddsNumbers v (surveyEntry h level (chunkEdit e c) w v) (length xs))
-            (sym (ap₂ (λ (x y : List ℕ). x ++ y) (lower-whole (e .set) (e .clear) rec depth c w a) (own-whole (e .set) (e .clear) depth c w a)))
+            (sym
+            (ap₂ (λ (x y : List ℕ). x ++ y) (lower-whole (e .set) (e .clear) rec depth c w a)
+            (own-whole (e .set) (e .clear) depth c w a)))
             (subst (λ (x : Survey). AddsNumbers v x (length (changedNumber (e .set) (e .clear) c w))) is
             (changed-adds (suc depth) low fine (ap (λ (x : Survey). x .broken) is ∙ ok)))
 
-        part : whole (3 - suc depth) c ≡ false → AddsNumbers v (surveyEntry h (3 - suc depth) (chunkEdit e c) w v) (length (entryNumbers (leaf w)))
+        part : whole (3 - suc depth) c ≡ false
+            → AddsNumbers v (surveyEntry h (3 - suc depth) (chunkEdit e c) w v) (length (entryNumbers (leaf w)))
         part a =
             let is = entry-part h level (chunkEdit e c) w v a in
             let kept : surveyPart level c w v .broken ≡ false = ap (λ (x : Survey). x .broken) is ∙ ok in
-            let hole : valid w ≡ false = byBool {A = valid w ≡ false} (valid w) (λ y. absurd (true≢false (sym (part-block level c w v (valid-block depth w low fine y)) ∙ kept)))
+            let hole : valid w ≡ false =
+            byBool {A = valid w ≡ false} (valid w)
+            (λ y. absurd (true≢false (sym (part-block level c w v (valid-block depth w low fine y)) ∙ kept)))
             (λ n. n) in
             subst (λ (xs : List ℕ). AddsNumbers v (surveyEntry h level (chunkEdit e c) w v) (length xs))
             (sym (ap₂ (λ (x y : List ℕ). x ++ y)
-            (lower-part (e .set) (e .clear) rec depth c w a ∙ ap (rec c) (opens-leaf depth w) ∙ hole-none (e .set) (e .clear) depth c w low hole)
+            (lower-part (e .set) (e .clear) rec depth c w a ∙ ap (rec c) (opens-leaf depth w)
+            ∙ hole-none (e .set) (e .clear) depth c w low hole)
             (own-part (e .set) (e .clear) depth c w a)))
             (subst (λ (x : Survey). AddsNumbers v x 0) is (part-adds level c w v kept))
 
@@ -242,14 +266,19 @@ page-whole q m piece =
 
 module _ {h : Handle} (placed : Placed h) where
   abbrev Counts : ℕ → Type 0
-  Counts depth = (q k p : ℕ) (e : Edit) (s : St) (v : Survey) → Area depth q (areaOf e p) → Ready placed s depth k → surveyRange depth h s k e v .broken ≡ false
+  Counts depth =
+      (q k p : ℕ) (e : Edit) (s : St) (v : Survey) → Area depth q (areaOf e p) → Ready placed s depth k
+      → surveyRange depth h s k e v .broken ≡ false
       → AddsNumbers v (surveyRange depth h s k e v) (length (tableNumbers (e .set) (e .clear) depth (e .region) (treeFrom h s depth k)))
 
   chunk-adds : (depth q k : ℕ) (e : Edit) (s : St) → Ready placed s (suc depth) k → Counts depth → (c : MemoryRegion) (p : ℕ) (v : Survey)
       → Piece (suc depth) q (areaOf (chunkEdit e c) p)
-      → let i = entryIndex (3 - suc depth) (c .start .0) in let x = surveyChunk (λ j n y. surveyRange depth h s j n y) h s k (3 - suc depth) e c v in
+      → let i = entryIndex (3 - suc depth) (c .start .0) in
+      let x = surveyChunk (λ j n y. surveyRange depth h s j n y) h s k (3 - suc depth) e c v in
       x .broken ≡ false
-      → AddsNumbers v x (length (lowerNumbers (e .set) (e .clear) (λ d u. tableNumbers (e .set) (e .clear) depth d u) depth c (slotShows h s (suc depth) k i)
+      → AddsNumbers v x
+      (length
+      (lowerNumbers (e .set) (e .clear) (λ d u. tableNumbers (e .set) (e .clear) depth d u) depth c (slotShows h s (suc depth) k i)
       ++ ownNumbers (e .set) (e .clear) (suc depth) c (slotShows h s (suc depth) k i)))
   chunk-adds depth q k e s R counts c p v piece ok = go (holds placed R i inside)
     where
@@ -271,7 +300,8 @@ module _ {h : Handle} (placed : Placed h) where
       go : SlotHolds placed s depth k i → AddsNumbers v x (length (numbers (slotShows h s (suc depth) k i)))
       go (holds-table j r both leads shows) =
           let is = chunk-table (λ a n y. surveyRange depth h s a n y) h s k (3 - suc depth) e c v j leads in
-          let adds = counts q j p (chunkEdit e c) s v (record { inside = piece .inside; room = piece .room }) (entered-ready placed R i inside r)
+          let adds = counts q j p (chunkEdit e c) s v (record { inside = piece .inside; room = piece .room })
+          (entered-ready placed R i inside r)
           (sym (ap (λ (y : Survey). y .broken) is) ∙ ok) in
           let tree = treeAt-node (childOf (h .base .0)) depth (slotWord s) j in
           let same : numbers (slotShows h s (suc depth) k i) ≡ rec c (treeFrom h s depth j) =
@@ -280,7 +310,8 @@ module _ {h : Handle} (placed : Placed h) where
           subst (λ (xs : List ℕ). AddsNumbers v x (length xs)) (sym same)
           (subst (λ (y : Survey). AddsNumbers v y (length (rec c (treeFrom h s depth j)))) (sym is) adds)
       go (holds-leaf old other shows) =
-          let is = chunk-leaf (λ a n y. surveyRange depth h s a n y) h s k (3 - suc depth) e c v (sym (sub-leaf (h .base .0) (tables s) (3 - suc depth) _ (λ q. other (q .1)))) in
+          let is = chunk-leaf (λ a n y. surveyRange depth h s a n y) h s k (3 - suc depth) e c v
+          (sym (sub-leaf (h .base .0) (tables s) (3 - suc depth) _ (λ q. other (q .1)))) in
           let fine = subst (FineTree (suc depth)) shows (slot-fine placed (R .pool) (suc depth) k i (R .used) (R .low) inside) in
           subst (λ (u : Tree). AddsNumbers v x (length (numbers u))) (sym shows)
           (subst (λ (y : Survey). AddsNumbers v y (length (numbers (leaf (wordAt s k i))))) (sym is)
@@ -293,24 +324,33 @@ module _ {h : Handle} (placed : Placed h) where
       chunks-add 0 q (areaOf e p) (surveyChunk (λ j n x. x) h s k 3 e) (ownNumbers (e .set) (e .clear) 0) (treeFrom h s 0 k)
       (λ c y x piece kept. page c y x piece kept) (e .region) p v (pieces 0 q (areaOf e p) low p (e .region) area) ok
     where
-      page : (c : MemoryRegion) (y : ℕ) (x : Survey) → Piece 0 (child q (slotAt 0 c)) (chunkMap (areaOf e p) c y) → surveyChunk (λ j n z. z) h s k 3 e c x .broken ≡ false
-          → AddsNumbers x (surveyChunk (λ j n z. z) h s k 3 e c x) (length (ownNumbers (e .set) (e .clear) 0 c (slotTree (treeFrom h s 0 k) (entryIndex 3 (c .start .0)))))
+      page : (c : MemoryRegion) (y : ℕ) (x : Survey) → Piece 0 (child q (slotAt 0 c)) (chunkMap (areaOf e p) c y)
+          → surveyChunk (λ j n z. z) h s k 3 e c x .broken ≡ false
+          → AddsNumbers x (surveyChunk (λ j n z. z) h s k 3 e c x)
+          (length (ownNumbers (e .set) (e .clear) 0 c (slotTree (treeFrom h s 0 k) (entryIndex 3 (c .start .0)))))
       page c y x piece kept =
           let i : ℕ = entryIndex 3 (c .start .0) in
           let inside = slot-below 3 (c .start .0) in
           let is = chunk-leaf (λ j n z. z) h s k 3 e c x (sym (sub-leaf (h .base .0) (tables s) 3 _ (λ q. omega (arith, q .0)))) in
-          let shows = slot-leaf (codecOf h placed) (view s) 0 k i (R .low) (word-in s k i inside) (λ table. omega (arith, R .low, table .0)) in
+          let shows = slot-leaf (codecOf h placed) (view s) 0 k i (R .low) (word-in s k i inside)
+          (λ table. omega (arith, R .low, table .0)) in
           let fine = subst (FineTree 0) shows (slot-fine placed (R .pool) 0 k i (R .used) (R .low) inside) in
-          subst (λ (u : Tree). AddsNumbers x (surveyChunk (λ j n z. z) h s k 3 e c x) (length (ownNumbers (e .set) (e .clear) 0 c u))) (sym (slot-of h s 0 k i ∙ shows))
+          subst (λ (u : Tree). AddsNumbers x (surveyChunk (λ j n z. z) h s k 3 e c x) (length (ownNumbers (e .set) (e .clear) 0 c u)))
+          (sym (slot-of h s 0 k i ∙ shows))
           (subst (λ (z : Survey). AddsNumbers x z (length (ownNumbers (e .set) (e .clear) 0 c (leaf (wordAt s k i))))) (sym is)
-          (page-adds h e c (wordAt s k i) x fine (page-whole (child q (slotAt 0 c)) (chunkMap (areaOf e p) c y) piece) (sym (ap (λ (z : Survey). z .broken) is) ∙ kept)))
+          (page-adds h e c (wordAt s k i) x fine (page-whole (child q (slotAt 0 c)) (chunkMap (areaOf e p) c y) piece)
+          (sym (ap (λ (z : Survey). z .broken) is) ∙ kept)))
   survey-numbers (suc depth) low q k p e s v area R ok =
       let t : Tree = treeFrom h s (suc depth) k in
       let cs : List MemoryRegion = chunks (3 - suc depth) (e .region .start .0) (e .region .end .0) in
-      let lower : MemoryRegion → Tree → List ℕ = lowerNumbers (e .set) (e .clear) (λ d u. tableNumbers (e .set) (e .clear) depth d u) depth in
+      let lower : MemoryRegion → Tree → List ℕ =
+      lowerNumbers (e .set) (e .clear) (λ d u. tableNumbers (e .set) (e .clear) depth d u) depth in
       let own : MemoryRegion → Tree → List ℕ = ownNumbers (e .set) (e .clear) (suc depth) in
-      let adds = chunks-add (suc depth) q (areaOf e p) (surveyChunk (λ j n x. surveyRange depth h s j n x) h s k (3 - suc depth) e) (λ c u. lower c u ++ own c u) t
-      (λ c y x piece kept. subst (λ (u : Tree). AddsNumbers x (surveyChunk (λ j n z. surveyRange depth h s j n z) h s k (3 - suc depth) e c x) (length (lower c u ++ own c u)))
+      let adds = chunks-add (suc depth) q (areaOf e p) (surveyChunk (λ j n x. surveyRange depth h s j n x) h s k (3 - suc depth) e)
+      (λ c u. lower c u ++ own c u) t
+      (λ c y x piece kept. subst
+      (λ (u : Tree). AddsNumbers x (surveyChunk (λ j n z. surveyRange depth h s j n z) h s k (3 - suc depth) e c x)
+      (length (lower c u ++ own c u)))
       (sym (slot-of h s (suc depth) k (entryIndex (3 - suc depth) (c .start .0))))
       (chunk-adds depth (child q (slotAt (suc depth) c)) k e s R (survey-numbers depth (omega arith)) c y x
       (record { inside = piece .inside; some = piece .some; room = piece .room }) kept))

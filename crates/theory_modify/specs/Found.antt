@@ -1,4 +1,4 @@
--- The survey's scan finds the lowest page whose entry breaks the house rule, on the tree that the words show (document 01, refusal 10). Assumes nothing.
+-- The survey's scan finds the lowest page whose entry breaks the house rule, on the tree that the words show (document 01, refusal 10).
 use mathlib.Core.Path.{_≡_, refl, sym, ap, subst, _∙_}
 use mathlib.Core.Bool.{Bool, true, false}
 use mathlib.Core.List.{List}
@@ -26,13 +26,15 @@ use Rattle.modify_entry.specs.Word.{ofKind, editWord}
 use Rattle.modify_entry.specs.Each.{eachOf, eachChunk, chunkEdit}
 use Rattle.modify_survey.specs.declared.Survey.{Survey}
 use Rattle.modify_survey.specs.House.{mayChange}
-use Rattle.modify_survey.specs.Find.{splitsIn, breach, breach-kept, breach-first, surveyPart, surveyWhole, surveyEntry, surveyChunk, surveyRange, part-block, part-other, whole-same}
+use Rattle.modify_survey.specs.Find.{splitsIn, breach, breach-kept, breach-first, surveyPart, surveyWhole, surveyEntry, surveyChunk}
+use Rattle.modify_survey.specs.Find.{surveyRange, part-block, part-other, whole-same}
 use Rattle.modify_survey.specs.Find.{whole-allowed, whole-breach, entry-whole, entry-part}
 use Rattle.theory_forest.specs.Tree.{Tree, leaf, node, treeAt-node}
 use Rattle.theory_forest.specs.Walk.{Ends, walkTree}
 use Rattle.theory_forest.specs.Keep.{slot-leaf}
 use Rattle.theory_sound.specs.Codec.{Placed, codecOf, childOf, slotWord, view, word-in, treeFrom}
-use Rattle.theory_tree.specs.Page.{pagesIn, first, child, child-order, slotOfPage, slot-lt, end-rest, multiple-child, in-of, in-rest, entry-rest}
+use Rattle.theory_tree.specs.Page.{pagesIn, first, child, child-order, slotOfPage, slot-lt, end-rest, multiple-child, in-of, in-rest}
+use Rattle.theory_tree.specs.Page.{entry-rest}
 use Rattle.theory_tree.specs.Fine.{Fine}
 use Rattle.theory_tree.specs.Shown.{FineTree}
 use Rattle.theory_tree.specs.Chunks.{index-slot}
@@ -58,7 +60,8 @@ pub record WithinPages (lo hi n y : ℕ) : Type 0 where
 abbrev pub newWord : ℕ → ℕ → ℕ → ℕ → ℕ
 newWord set clear level w = ofKind (kindOf level w) (edited set clear w) w
 
--- an edit of the pages from lo up to hi breaks the house rule at page y, whose walk ends in x: the valid word w would be split, or a bit that may not change does
+-- an edit of the pages from lo up to hi breaks the house rule at page y, whose walk ends in x: the valid word w would be split, or a bit
+-- that may not change does
 pub record Broken (h : Handle) (set clear lo hi : ℕ) (x : Ends) (y w : ℕ) : Type 0 where
   pub word : x .word ≡ w
   pub valid : valid w ≡ true
@@ -82,7 +85,8 @@ clash : {b : Bool} → b ≡ true → b ≡ false → ⊥
 clash p q = let e = sym p ∙ q in let z : _≡_ {A = ℕ} 0 1 = cc in omega arith
 
 -- one part after the other
-finds-join : {B : ℕ → ℕ → Type 0} {lo mid hi : ℕ} {v u x : Survey} → lo ≤ mid → mid ≤ hi → Finds B lo mid v u → Finds B mid hi u x → Finds B lo hi v x
+finds-join : {B : ℕ → ℕ → Type 0} {lo mid hi : ℕ} {v u x : Survey} → lo ≤ mid → mid ≤ hi → Finds B lo mid v u → Finds B mid hi u x
+    → Finds B lo hi v x
 finds-join {B} {lo} {mid} {hi} {v} {u} {x} l m F G = record {
   stays = λ e. let a = F .stays e in let b = G .stays (a .0) in (b .0, b .1 ∙ a .1);
   none = λ e n y w k b at. byBool (u .broken)
@@ -92,7 +96,13 @@ finds-join {B} {lo} {mid} {hi} {v} {u} {x} l m F G = record {
       (λ broken.
       let f = F .some e broken in
       let same = G .stays broken .1 in
-      record { page = f .page; from = f .from; below = omega (arith, f .below); here = subst (B (f .page)) (sym same) (f .here); least = f .least })
+      record {
+        page = f .page;
+        from = f .from;
+        below = omega (arith, f .below);
+        here = subst (B (f .page)) (sym same) (f .here);
+        least = f .least;
+      })
       (λ fine.
       let g = G .some fine n in
       record {
@@ -109,7 +119,8 @@ finds-join {B} {lo} {mid} {hi} {v} {u} {x} l m F G = record {
     side (inr q) f g = f q
 
 -- said otherwise
-finds-as : {B C : ℕ → ℕ → Type 0} {lo hi : ℕ} {v x : Survey} → ((y w : ℕ) → lo ≤ y → y < hi → B y w → C y w) → ((y w : ℕ) → lo ≤ y → y < hi → C y w → B y w)
+finds-as : {B C : ℕ → ℕ → Type 0} {lo hi : ℕ} {v x : Survey} → ((y w : ℕ) → lo ≤ y → y < hi → B y w → C y w)
+    → ((y w : ℕ) → lo ≤ y → y < hi → C y w → B y w)
     → Finds B lo hi v x → Finds C lo hi v x
 finds-as there back F = record {
   stays = F .stays;
@@ -126,13 +137,16 @@ finds-as there back F = record {
 }
 
 -- nothing breaks
-finds-none : {B : ℕ → ℕ → Type 0} {lo hi : ℕ} {v x : Survey} → x .broken ≡ v .broken → x .word ≡ v .word → ((y w : ℕ) → lo ≤ y → y < hi → B y w → ⊥) → Finds B lo hi v x
+finds-none : {B : ℕ → ℕ → Type 0} {lo hi : ℕ} {v x : Survey} → x .broken ≡ v .broken → x .word ≡ v .word
+    → ((y w : ℕ) → lo ≤ y → y < hi → B y w → ⊥) → Finds B lo hi v x
 finds-none a b not = record { stays = λ e. (a ∙ e, b); none = λ e n. not; some = λ e n. absurd (clash n (a ∙ e)) }
 
 -- the first page breaks
-finds-breach : {B : ℕ → ℕ → Type 0} {lo hi : ℕ} {v : Survey} (w : ℕ) (x : Survey) → x .broken ≡ v .broken → x .word ≡ v .word → lo < hi → B lo w → Finds B lo hi v (breach w x)
+finds-breach : {B : ℕ → ℕ → Type 0} {lo hi : ℕ} {v : Survey} (w : ℕ) (x : Survey) → x .broken ≡ v .broken → x .word ≡ v .word → lo < hi
+    → B lo w → Finds B lo hi v (breach w x)
 finds-breach {B} {lo} {hi} {v} w x a b space at = record {
-  stays = λ e. let old = sym (breach-kept w x (a ∙ e)) in (ap (λ (z : Survey). z .broken) old ∙ a ∙ e, ap (λ (z : Survey). z .word) old ∙ b);
+  stays =
+      λ e. let old = sym (breach-kept w x (a ∙ e)) in (ap (λ (z : Survey). z .broken) old ∙ a ∙ e, ap (λ (z : Survey). z .word) old ∙ b);
   none = λ e n. absurd (clash (ap (λ (z : Survey). z .broken) (sym (breach-first w x (a ∙ e)))) n);
   some = λ e n.
       let named : breach w x .word ≡ w = ap (λ (z : Survey). z .word) (sym (breach-first w x (a ∙ e))) in
@@ -195,7 +209,8 @@ module _ (depth n y lo mid hi : ℕ) (low : depth ≤ 3) (small : n ≤ depth) (
 within-wider : {lo lo′ hi hi′ n y : ℕ} → lo′ ≤ lo → hi ≤ hi′ → WithinPages lo hi n y → WithinPages lo′ hi′ n y
 within-wider a b W = record { from = omega (arith, W .from); upto = omega (arith, W .upto) }
 
-broken-as : {h : Handle} {set clear lo hi lo′ hi′ : ℕ} (x : Ends) {y w : ℕ} → (WithinPages lo′ hi′ (x .depth) y → WithinPages lo hi (x .depth) y) → Broken h set clear lo hi x y w
+broken-as : {h : Handle} {set clear lo hi lo′ hi′ : ℕ} (x : Ends) {y w : ℕ}
+    → (WithinPages lo′ hi′ (x .depth) y → WithinPages lo hi (x .depth) y) → Broken h set clear lo hi x y w
     → Broken h set clear lo′ hi′ x y w
 broken-as {h} {set} {clear} {lo} {hi} {lo′} {hi′} x {y} {w} back B = record { word = B .word; valid = B .valid; rule = either (B .rule) }
   where
@@ -215,10 +230,12 @@ module _ (h : Handle) (set clear depth q : ℕ) (m : Map) (low : depth ≤ 3) (f
 
   abbrev EachFinds : Type 0
   EachFinds = (c : MemoryRegion) (p : ℕ) (x : Survey) → Piece depth (child q (slotAt depth c)) (chunkMap m c p)
-      → Finds (λ y w. Broken h set clear (c .start .0 / 4096) (c .end .0 / 4096) (endsIn c y) y w) (c .start .0 / 4096) (c .end .0 / 4096) x (f c x)
+      → Finds (λ y w. Broken h set clear (c .start .0 / 4096) (c .end .0 / 4096) (endsIn c y) y w) (c .start .0 / 4096) (c .end .0 / 4096) x
+      (f c x)
 
   -- a chunk ends where the region does or its entry
-  ends-at : {level e z : ℕ} {cs : List MemoryRegion} → Tiles level e z cs → (i p : ℕ) → Pieces depth q m (suc i) p cs → z ≤ e → z / 4096 ≤ first depth (child q i) + pagesIn depth
+  ends-at : {level e z : ℕ} {cs : List MemoryRegion} → Tiles level e z cs → (i p : ℕ) → Pieces depth q m (suc i) p cs → z ≤ e
+      → z / 4096 ≤ first depth (child q i) + pagesIn depth
       → (z / 4096 ≡ e / 4096) ⊎ (z / 4096 % pagesIn depth ≡ 0)
   ends-at (none l) i p all under high = inl (omega arith)
   ends-at (more {s = z} {m = b} above fits inside rest) i p all under high =
@@ -227,19 +244,23 @@ module _ (h : Handle) (set clear depth q : ℕ) (m : Map) (low : depth ≤ 3) (f
       inr (ap (λ (n : ℕ). n % pagesIn depth) end ∙ end-rest depth (child q i))
 
   -- a chunk's page stands in the chunk's slot
-  ends-same : (c : MemoryRegion) (p y : ℕ) → Piece depth (child q (slotAt depth c)) (chunkMap m c p) → c .start .0 / 4096 ≤ y → y < c .end .0 / 4096 → endsIn c y ≡ endsOf y
+  ends-same : (c : MemoryRegion) (p y : ℕ) → Piece depth (child q (slotAt depth c)) (chunkMap m c p) → c .start .0 / 4096 ≤ y
+      → y < c .end .0 / 4096 → endsIn c y ≡ endsOf y
   ends-same c p y piece l b =
       let at = in-of depth (child q (slotAt depth c)) y (omega (arith, piece .inside .low)) (omega (arith, piece .inside .high)) in
-      ap (λ (i : ℕ). walkTree (slotOfPage y) depth (slots i)) (index-slot depth (c .start .0) low ∙ sym (slot-in depth q (slotAt depth c) y (slot-lt (c .start .0 / 4096) depth) at))
+      ap (λ (i : ℕ). walkTree (slotOfPage y) depth (slots i))
+      (index-slot depth (c .start .0) low ∙ sym (slot-in depth q (slotAt depth c) y (slot-lt (c .start .0 / 4096) depth) at))
 
-  fold-finds : EachFinds → {level s e : ℕ} {cs : List MemoryRegion} → Tiles level e s cs → (a p : ℕ) (x : Survey) → Pieces depth q m a p cs → s ≤ e
+  fold-finds : EachFinds → {level s e : ℕ} {cs : List MemoryRegion} → Tiles level e s cs → (a p : ℕ) (x : Survey) → Pieces depth q m a p cs
+      → s ≤ e
       → Finds (λ y w. Broken h set clear (s / 4096) (e / 4096) (endsOf y) y w) (s / 4096) (e / 4096) x (eachOf f cs x)
   unfolding eachOf
   fold-finds each (none l) a p x all some = finds-none refl refl (λ y w k b at. omega arith)
   fold-finds each {e = e} (more {s = s} {m = z} {l = cs} above under fits rest) a p x all some =
       let c : MemoryRegion = region s z in
       let piece : Piece depth (child q (slotAt depth c)) (chunkMap m c p) = all .0 .piece in
-      let ends : (z / 4096 ≡ e / 4096) ⊎ (z / 4096 % pagesIn depth ≡ 0) = ends-at rest (slotAt depth c) (p + (z - s)) (all .1) under (piece .inside .high) in
+      let ends : (z / 4096 ≡ e / 4096) ⊎ (z / 4096 % pagesIn depth ≡ 0) =
+      ends-at rest (slotAt depth c) (p + (z - s)) (all .1) under (piece .inside .high) in
       let small : (y : ℕ) → endsOf y .depth ≤ depth = λ y. walk-low (slotOfPage y) depth (slots (slotOfPage y depth)) in
       let here = each c p x piece in
       let later = fold-finds each rest (suc (slotAt depth c)) (p + (z - s)) (f c x) (all .1) under in
@@ -251,7 +272,8 @@ module _ (h : Handle) (set clear depth q : ℕ) (m : Map) (low : depth ≤ 3) (f
       (broken-as (endsOf y) (within-wider (omega arith) (omega arith)) at))
       here)
       (finds-as
-      (λ y w k b at. broken-as (endsOf y) (within-later depth (endsOf y .depth) y (s / 4096) (z / 4096) (e / 4096) low (small y) ends k b) at)
+      (λ y w k b at. broken-as (endsOf y)
+      (within-later depth (endsOf y .depth) y (s / 4096) (z / 4096) (e / 4096) low (small y) ends k b) at)
       (λ y w k b at. broken-as (endsOf y) (within-wider (omega arith) (omega arith)) at)
       later)
 
@@ -320,7 +342,9 @@ module _ (h : Handle) (e : Edit) (c : MemoryRegion) (w : ℕ) (v : Survey) where
         where
           go : (¬ (WithinPages lo hi depth y)) ⊎ (mayChange h u (newWord (e .set) (e .clear) level u) ≡ false) → ⊥
           go (inl split) = split (within y k b)
-          go (inr bits) = clash may (ap (mayChange h w) (sym same-new) ∙ ap (λ (x : ℕ). mayChange h x (newWord (e .set) (e .clear) level x)) (B .word) ∙ bits)
+          go (inr bits) =
+              clash may
+              (ap (mayChange h w) (sym same-new) ∙ ap (λ (x : ℕ). mayChange h x (newWord (e .set) (e .clear) level x)) (B .word) ∙ bits)
 
       abbrev more-numbers : Survey
       more-numbers = record { splits = v .splits; numbers = v .numbers + 1; broken = v .broken; word = v .word }
@@ -343,17 +367,21 @@ module _ (h : Handle) (e : Edit) (c : MemoryRegion) (w : ℕ) (v : Survey) where
               })))
 
   -- covered in part: a valid one is split
-  module _ (depth q p : ℕ) (low : suc depth ≤ 3) (fine : Fine (suc depth) w) (piece : Piece (suc depth) q (areaOf (chunkEdit e c) p)) (part : whole (3 - suc depth) c ≡ false) where
+  module _ (depth q p : ℕ) (low : suc depth ≤ 3) (fine : Fine (suc depth) w) (piece : Piece (suc depth) q (areaOf (chunkEdit e c) p))
+      (part : whole (3 - suc depth) c ≡ false) where
     abbrev under : ℕ
     under = 3 - suc depth
 
     splits-it : ¬ (WithinPages lo hi (suc depth) lo)
     splits-it W =
         let mine = in-rest (suc depth) q lo
-        (in-of (suc depth) q lo (piece .inside .low) (omega (arith, piece .inside .high, piece .some, piece .inside .startPage, piece .inside .endPage))) in
+        (in-of (suc depth) q lo (piece .inside .low)
+        (omega (arith, piece .inside .high, piece .some, piece .inside .startPage, piece .inside .endPage))) in
         let begins : lo % pagesIn (suc depth) ≡ 0 = omega (arith, W .from) in
         let ends : hi ≡ first (suc depth) q + pagesIn (suc depth) = omega (arith, W .upto, piece .inside .high) in
-        clash (ends-whole (suc depth) c low (piece .inside .startPage) (piece .inside .endPage) begins (ap (λ (n : ℕ). n % pagesIn (suc depth)) ends ∙ end-rest (suc depth) q)) part
+        clash
+        (ends-whole (suc depth) c low (piece .inside .startPage) (piece .inside .endPage) begins
+        (ap (λ (n : ℕ). n % pagesIn (suc depth)) ends ∙ end-rest (suc depth) q)) part
 
     abbrev more-splits : Survey
     more-splits = record { splits = v .splits + splitsIn (3 - under) c; numbers = v .numbers; broken = v .broken; word = v .word }
@@ -364,17 +392,21 @@ module _ (h : Handle) (e : Edit) (c : MemoryRegion) (w : ℕ) (v : Survey) where
         (finds-breach w more-splits refl refl (omega (arith, piece .some, piece .inside .startPage, piece .inside .endPage))
         (record { word = refl; valid = y; rule = inl splits-it })))
         (λ n. let o = valid-no w n in
-        subst (Finds (Breaks (suc depth)) lo hi v) (part-other under c w v refl refl (inr (inr (kind-clear under w (λ a. omega arith) (λ a. omega arith)))))
+        subst (Finds (Breaks (suc depth)) lo hi v)
+        (part-other under c w v refl refl (inr (inr (kind-clear under w (λ a. omega arith) (λ a. omega arith)))))
         (finds-none {x = more-splits} refl refl (λ y u k b B. clash (B .valid) (ap valid (sym (B .word)) ∙ n))))
 
   -- either way
-  leaf-finds : (depth q p : ℕ) → depth ≤ 3 → Fine depth w → Piece depth q (areaOf (chunkEdit e c) p) → Finds (Breaks depth) lo hi v (surveyEntry h (3 - depth) (chunkEdit e c) w v)
+  leaf-finds : (depth q p : ℕ) → depth ≤ 3 → Fine depth w → Piece depth q (areaOf (chunkEdit e c) p)
+      → Finds (Breaks depth) lo hi v (surveyEntry h (3 - depth) (chunkEdit e c) w v)
   leaf-finds zero q p low fine piece =
       let all = page-whole q (areaOf (chunkEdit e c) p) piece in
       subst (Finds (Breaks 0) lo hi v) (entry-whole h 3 (chunkEdit e c) w v all) (whole-finds 0 q p low fine piece all)
   leaf-finds (suc depth) q p low fine piece = byBool (whole (3 - suc depth) c)
-      (λ all. subst (Finds (Breaks (suc depth)) lo hi v) (entry-whole h (3 - suc depth) (chunkEdit e c) w v all) (whole-finds (suc depth) q p low fine piece all))
-      (λ part. subst (Finds (Breaks (suc depth)) lo hi v) (entry-part h (3 - suc depth) (chunkEdit e c) w v part) (part-finds depth q p low fine piece part))
+      (λ all. subst (Finds (Breaks (suc depth)) lo hi v) (entry-whole h (3 - suc depth) (chunkEdit e c) w v all)
+      (whole-finds (suc depth) q p low fine piece all))
+      (λ part. subst (Finds (Breaks (suc depth)) lo hi v) (entry-part h (3 - suc depth) (chunkEdit e c) w v part)
+      (part-finds depth q p low fine piece part))
 
 -- ---- a table of a sound pool
 
@@ -390,22 +422,29 @@ walk-node f depth u = refl
 module _ {h : Handle} (placed : Placed h) where
   -- the pages of an edit's region that break, in a tree with `depth` levels below
   abbrev pub BreaksIn : Edit → ℕ → Tree → ℕ → ℕ → Type 0
-  BreaksIn e depth t y w = Broken h (e .set) (e .clear) (e .region .start .0 / 4096) (e .region .end .0 / 4096) (walkTree (slotOfPage y) depth t) y w
+  BreaksIn e depth t y w =
+      Broken h (e .set) (e .clear) (e .region .start .0 / 4096) (e .region .end .0 / 4096) (walkTree (slotOfPage y) depth t) y w
 
   abbrev Scans : ℕ → Type 0
-  Scans depth = (q k p : ℕ) (e : Edit) (s : St) (v : Survey) → Area depth q (areaOf e p) → Ready placed s depth k → e .region .start .0 ≤ e .region .end .0
-      → Finds (BreaksIn e (suc depth) (treeFrom h s depth k)) (e .region .start .0 / 4096) (e .region .end .0 / 4096) v (surveyRange depth h s k e v)
+  Scans depth =
+      (q k p : ℕ) (e : Edit) (s : St) (v : Survey) → Area depth q (areaOf e p) → Ready placed s depth k
+      → e .region .start .0 ≤ e .region .end .0
+      → Finds (BreaksIn e (suc depth) (treeFrom h s depth k)) (e .region .start .0 / 4096) (e .region .end .0 / 4096) v
+      (surveyRange depth h s k e v)
 
   -- a chunk of a table: where its slot shows t
   abbrev ChunkFinds : (depth : ℕ) → Edit → MemoryRegion → Tree → Survey → Survey → Type 0
   ChunkFinds depth e c t v x = Finds (BreaksIn (chunkEdit e c) depth t) (c .start .0 / 4096) (c .end .0 / 4096) v x
 
-  leaf-chunk : (depth q p : ℕ) (e : Edit) (c : MemoryRegion) (w : ℕ) (v : Survey) → depth ≤ 3 → Fine depth w → Piece depth q (areaOf (chunkEdit e c) p)
+  leaf-chunk : (depth q p : ℕ) (e : Edit) (c : MemoryRegion) (w : ℕ) (v : Survey) → depth ≤ 3 → Fine depth w
+      → Piece depth q (areaOf (chunkEdit e c) p)
       → ChunkFinds depth e c (leaf w) v (surveyEntry h (3 - depth) (chunkEdit e c) w v)
   leaf-chunk depth q p e c w v low fine piece =
       finds-as
-      (λ y u k b at. subst (λ (i : Ends). Broken h (e .set) (e .clear) (c .start .0 / 4096) (c .end .0 / 4096) i y u) (sym (walk-leaf (slotOfPage y) depth w)) at)
-      (λ y u k b at. subst (λ (i : Ends). Broken h (e .set) (e .clear) (c .start .0 / 4096) (c .end .0 / 4096) i y u) (walk-leaf (slotOfPage y) depth w) at)
+      (λ y u k b at. subst (λ (i : Ends). Broken h (e .set) (e .clear) (c .start .0 / 4096) (c .end .0 / 4096) i y u)
+      (sym (walk-leaf (slotOfPage y) depth w)) at)
+      (λ y u k b at. subst (λ (i : Ends). Broken h (e .set) (e .clear) (c .start .0 / 4096) (c .end .0 / 4096) i y u)
+      (walk-leaf (slotOfPage y) depth w) at)
       (leaf-finds h e c w v depth q p low fine piece)
 
   chunk-finds : (depth q k : ℕ) (e : Edit) (s : St) → Ready placed s (suc depth) k → Scans depth → (c : MemoryRegion) (p : ℕ) (v : Survey)
@@ -426,21 +465,28 @@ module _ {h : Handle} (placed : Placed h) where
       go : SlotHolds placed s depth k i → ChunkFinds (suc depth) e c (slotShows h s (suc depth) k i) v x
       go (holds-table j r both leads shows) =
           let is = chunk-table (λ a n y. surveyRange depth h s a n y) h s k (3 - suc depth) e c v j leads in
-          let found = scans q j p (chunkEdit e c) s v (record { inside = piece .inside; room = piece .room }) (entered-ready placed R i inside r) (omega (arith, piece .some)) in
-          let tree : treeFrom h s depth j ≡ slotShows h s (suc depth) k i = treeAt-node (childOf (h .base .0)) depth (slotWord s) j ∙ sym shows in
-          subst (λ (u : Tree). ChunkFinds (suc depth) e c u v x) tree (subst (ChunkFinds (suc depth) e c (treeFrom h s depth j) v) (sym is) found)
+          let found = scans q j p (chunkEdit e c) s v (record { inside = piece .inside; room = piece .room })
+          (entered-ready placed R i inside r) (omega (arith, piece .some)) in
+          let tree : treeFrom h s depth j ≡ slotShows h s (suc depth) k i =
+          treeAt-node (childOf (h .base .0)) depth (slotWord s) j ∙ sym shows in
+          subst (λ (u : Tree). ChunkFinds (suc depth) e c u v x) tree
+          (subst (ChunkFinds (suc depth) e c (treeFrom h s depth j) v) (sym is) found)
       go (holds-leaf old other shows) =
-          let is = chunk-leaf (λ a n y. surveyRange depth h s a n y) h s k (3 - suc depth) e c v (sym (sub-leaf (h .base .0) (tables s) (3 - suc depth) _ (λ q. other (q .1)))) in
+          let is = chunk-leaf (λ a n y. surveyRange depth h s a n y) h s k (3 - suc depth) e c v
+          (sym (sub-leaf (h .base .0) (tables s) (3 - suc depth) _ (λ q. other (q .1)))) in
           let fine = subst (FineTree (suc depth)) shows (slot-fine placed (R .pool) (suc depth) k i (R .used) (R .low) inside) in
           subst (λ (u : Tree). ChunkFinds (suc depth) e c u v x) (sym shows)
-          (subst (ChunkFinds (suc depth) e c (leaf (wordAt s k i)) v) (sym is) (leaf-chunk (suc depth) q p e c (wordAt s k i) v (omega (arith, R .low)) fine piece))
+          (subst (ChunkFinds (suc depth) e c (leaf (wordAt s k i)) v) (sym is)
+          (leaf-chunk (suc depth) q p e c (wordAt s k i) v (omega (arith, R .low)) fine piece))
 
   -- a table's chunks
-  table-finds : (depth q k p : ℕ) (e : Edit) (s : St) (v : Survey) (f : MemoryRegion → Survey → Survey) → depth ≤ 3 → Area depth q (areaOf e p)
+  table-finds : (depth q k p : ℕ) (e : Edit) (s : St) (v : Survey) (f : MemoryRegion → Survey → Survey) → depth ≤ 3
+      → Area depth q (areaOf e p)
       → e .region .start .0 ≤ e .region .end .0
       → ((c : MemoryRegion) (y : ℕ) (x : Survey) → Piece depth (child q (slotAt depth c)) (areaOf (chunkEdit e c) y)
       → ChunkFinds depth e c (slotShows h s depth k (entryIndex (3 - depth) (c .start .0))) x (f c x))
-      → Finds (BreaksIn e (suc depth) (treeFrom h s depth k)) (e .region .start .0 / 4096) (e .region .end .0 / 4096) v (eachChunk (3 - depth) f (e .region) v)
+      → Finds (BreaksIn e (suc depth) (treeFrom h s depth k)) (e .region .start .0 / 4096) (e .region .end .0 / 4096) v
+      (eachChunk (3 - depth) f (e .region) v)
   unfolding eachChunk
   table-finds depth q k p e s v f low area some each =
       let all = fold-finds h (e .set) (e .clear) depth q (areaOf e p) low f (λ i. slotShows h s depth k i)
@@ -468,10 +514,12 @@ module _ {h : Handle} (placed : Placed h) where
           let i : ℕ = entryIndex 3 (c .start .0) in
           let inside = slot-below 3 (c .start .0) in
           let is = chunk-leaf (λ j n z. z) h s k 3 e c x (sym (sub-leaf (h .base .0) (tables s) 3 _ (λ q. omega (arith, q .0)))) in
-          let shows = slot-leaf (codecOf h placed) (view s) 0 k i (R .low) (word-in s k i inside) (λ table. omega (arith, R .low, table .0)) in
+          let shows = slot-leaf (codecOf h placed) (view s) 0 k i (R .low) (word-in s k i inside)
+          (λ table. omega (arith, R .low, table .0)) in
           let fine = subst (FineTree 0) shows (slot-fine placed (R .pool) 0 k i (R .used) (R .low) inside) in
           subst (λ (u : Tree). ChunkFinds 0 e c u x (surveyChunk (λ j n z. z) h s k 3 e c x)) (sym shows)
-          (subst (ChunkFinds 0 e c (leaf (wordAt s k i)) x) (sym is) (leaf-chunk 0 (child q (slotAt 0 c)) y e c (wordAt s k i) x (omega arith) fine piece))
+          (subst (ChunkFinds 0 e c (leaf (wordAt s k i)) x) (sym is)
+          (leaf-chunk 0 (child q (slotAt 0 c)) y e c (wordAt s k i) x (omega arith) fine piece))
   survey-finds (suc depth) low q k p e s v area R some =
       table-finds (suc depth) q k p e s v (surveyChunk (λ j n x. surveyRange depth h s j n x) h s k (3 - suc depth) e) low area some
       (λ c y x piece. chunk-finds depth (child q (slotAt (suc depth) c)) k e s R (survey-finds depth (omega arith)) c y x piece)

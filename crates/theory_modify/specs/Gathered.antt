@@ -1,4 +1,4 @@
--- Laws of the numbers that a modify lists: by what an entry is, after the first pass over a table, and what is gathered from a table. Assumes nothing.
+-- Laws of the numbers that a modify lists: by what an entry is, after the first pass over a table, and what is gathered from a table.
 use mathlib.Core.Path.{_≡_, refl, sym, ap, ap₂, _∙_}
 use mathlib.Core.Bool.{true, false}
 use mathlib.Core.List.{List, [], _∷_, _++_}
@@ -25,7 +25,8 @@ use Rattle.theory_modify.specs.Passes.{downTo, down-whole, down-part, do
 use Rattle.theory_modify.specs.Numbers.{gathered, changedNumber, ownNumbers, lowerNumbers}
 
 module _ (set clear : ℕ) where
-  pub number-changed : (c : MemoryRegion) (w : ℕ) → valid w ≡ true → edited set clear w ≢ w → changedNumber set clear c w ≡ c .start .0 / 4096 % 2 ^ 44 ∷ []
+  pub number-changed : (c : MemoryRegion) (w : ℕ) → valid w ≡ true → edited set clear w ≢ w
+      → changedNumber set clear c w ≡ c .start .0 / 4096 % 2 ^ 44 ∷ []
   unfolding changedNumber
   number-changed c w v other = rw (v, ne-eqb (edited set clear w) w other)
 
@@ -37,7 +38,8 @@ module _ (set clear : ℕ) where
   unfolding changedNumber
   number-hole c w v = rw v
 
-  pub own-whole : (depth : ℕ) (c : MemoryRegion) (w : ℕ) → whole (3 - suc depth) c ≡ true → ownNumbers set clear (suc depth) c (leaf w) ≡ changedNumber set clear c w
+  pub own-whole : (depth : ℕ) (c : MemoryRegion) (w : ℕ) → whole (3 - suc depth) c ≡ true
+      → ownNumbers set clear (suc depth) c (leaf w) ≡ changedNumber set clear c w
   unfolding ownNumbers
   own-whole depth c w e = rw e
 
@@ -83,25 +85,32 @@ module _ (set clear : ℕ) where
   leaf-page c (leaf w) = refl
   leaf-page c (node f) = refl
 
-  sweep-none : (d : MemoryRegion) (depth : ℕ) (f : MemoryRegion → ℕ → Tree → Tree) (cs : List MemoryRegion) (p : ℕ) (g : ℕ → Tree) → leafNumbers d (sweep depth f cs p (node g)) ≡ []
+  sweep-none : (d : MemoryRegion) (depth : ℕ) (f : MemoryRegion → ℕ → Tree → Tree) (cs : List MemoryRegion) (p : ℕ) (g : ℕ → Tree)
+      → leafNumbers d (sweep depth f cs p (node g)) ≡ []
   unfolding sweep atSlot leafNumbers
   sweep-none d depth f [] p g = refl
   sweep-none d depth f (c ∷ cs) p g = sweep-none d depth f cs (p + (c .end .0 - c .start .0)) _
 
-  table-none : (d : MemoryRegion) (depth : ℕ) (c : MemoryRegion) (p : ℕ) (g : ℕ → Tree) → leafNumbers d (chunkedTable (documentModify set clear) depth c p (node g)) ≡ []
+  table-none : (d : MemoryRegion) (depth : ℕ) (c : MemoryRegion) (p : ℕ) (g : ℕ → Tree)
+      → leafNumbers d (chunkedTable (documentModify set clear) depth c p (node g)) ≡ []
   unfolding chunkedTable
   table-none d depth c p g = sweep-none d depth _ (chunks (3 - depth) (c .start .0) (c .end .0)) p g
 
-  open-none : (d : MemoryRegion) (depth : ℕ) (c : MemoryRegion) (p : ℕ) (u : Tree) → leafNumbers d (chunkedTable (documentModify set clear) depth c p (opened depth u)) ≡ []
+  open-none : (d : MemoryRegion) (depth : ℕ) (c : MemoryRegion) (p : ℕ) (u : Tree)
+      → leafNumbers d (chunkedTable (documentModify set clear) depth c p (opened depth u)) ≡ []
   unfolding opened
-  open-none d depth c p (leaf w) = ap (λ (t : Tree). leafNumbers d (chunkedTable (documentModify set clear) depth c p t)) (fill-node depth w) ∙ table-none d depth c p (fillSlot depth w)
+  open-none d depth c p (leaf w) =
+      ap (λ (t : Tree). leafNumbers d (chunkedTable (documentModify set clear) depth c p t)) (fill-node depth w)
+      ∙ table-none d depth c p (fillSlot depth w)
   open-none d depth c p (node f) = table-none d depth c p f
 
-  pub leaf-after : (depth : ℕ) (c : MemoryRegion) (p : ℕ) (u : Tree) → leafNumbers c (downTo set clear depth c p u) ≡ ownNumbers set clear (suc depth) c u
+  pub leaf-after : (depth : ℕ) (c : MemoryRegion) (p : ℕ) (u : Tree)
+      → leafNumbers c (downTo set clear depth c p u) ≡ ownNumbers set clear (suc depth) c u
   leaf-after depth c p (leaf w) = byBool (whole (3 - suc depth) c)
       (λ e. ap (leafNumbers c) (down-whole set clear depth c p w e) ∙ leaf-number c w ∙ sym (own-whole depth c w e))
       (λ e. ap (leafNumbers c) (down-part set clear depth c p w e) ∙ open-none c depth c p (leaf w) ∙ sym (own-part depth c w e))
-  leaf-after depth c p (node f) = ap (leafNumbers c) (down-into set clear depth c p f) ∙ open-none c depth c p (node f) ∙ sym (own-none (suc depth) c f)
+  leaf-after depth c p (node f) =
+      ap (leafNumbers c) (down-into set clear depth c p f) ∙ open-none c depth c p (node f) ∙ sym (own-none (suc depth) c f)
 
 -- ---- what is gathered from a table
 
@@ -164,8 +173,10 @@ module _ (depth q : ℕ) (m : Map) (low : depth ≤ 3) where
       ∙ at-others i j (f c p) t (λ e. omega (arith, all .0 .from))
 
   -- from a table after a sweep over the same chunks
-  pub gathered-after : (f : MemoryRegion → ℕ → Tree → Tree) (g g′ : MemoryRegion → Tree → List ℕ) → ((c : MemoryRegion) (p : ℕ) (u : Tree) → g c (f c p u) ≡ g′ c u)
-      → (cs : List MemoryRegion) (a p : ℕ) (v : ℕ → Tree) → Pieces depth q m a p cs → gathered depth g cs (sweep depth f cs p (node v)) ≡ gathered depth g′ cs (node v)
+  pub gathered-after : (f : MemoryRegion → ℕ → Tree → Tree) (g g′ : MemoryRegion → Tree → List ℕ)
+      → ((c : MemoryRegion) (p : ℕ) (u : Tree) → g c (f c p u) ≡ g′ c u)
+      → (cs : List MemoryRegion) (a p : ℕ) (v : ℕ → Tree) → Pieces depth q m a p cs
+      → gathered depth g cs (sweep depth f cs p (node v)) ≡ gathered depth g′ cs (node v)
   unfolding gathered sweep
   gathered-after f g g′ each [] a p v all = refl
   gathered-after f g g′ each (c ∷ cs) a p v all =
@@ -173,9 +184,11 @@ module _ (depth q : ℕ) (m : Map) (low : depth ≤ 3) where
       let p′ : ℕ = p + (c .end .0 - c .start .0) in
       let index = index-slot depth (c .start .0) low in
       ap₂ (λ (x y : List ℕ). x ++ y)
-      (ap (g c) (sweep-before f cs (suc (slotAt depth c)) p′ i (atSlot i (f c p) (node v)) (all .1) (omega arith) ∙ at-slot i (f c p) v) ∙ each c p (v i)
+      (ap (g c) (sweep-before f cs (suc (slotAt depth c)) p′ i (atSlot i (f c p) (node v)) (all .1) (omega arith) ∙ at-slot i (f c p) v)
+      ∙ each c p (v i)
       ∙ ap (g′ c) (sym (in-node v i)))
       (ap (λ (t : Tree). gathered depth g cs (sweep depth f cs p′ t)) (at-node i (f c p) v)
       ∙ gathered-after f g g′ each cs (suc (slotAt depth c)) p′ (λ j. slotTree (atSlot i (f c p) (node v)) j) (all .1)
       ∙ ap (gathered depth g′ cs) (sym (at-node i (f c p) v))
-      ∙ gathered-from g′ cs (suc (slotAt depth c)) p′ (atSlot i (f c p) (node v)) (node v) (all .1) (λ j l. at-others i j (f c p) (node v) (λ e. omega arith)))
+      ∙ gathered-from g′ cs (suc (slotAt depth c)) p′ (atSlot i (f c p) (node v)) (node v) (all .1)
+      (λ j l. at-others i j (f c p) (node v) (λ e. omega arith)))

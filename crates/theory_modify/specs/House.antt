@@ -1,5 +1,6 @@
--- The house rule for live edits (document 01, "Putting down a map", Modify, and refusal 10), by the Arm walk of the words: where a call breaks it, and the lowest such
--- address; and what refusals 9 to 11 leave. Definitions alone; `Change.house-rule-bits` says bit by bit what `mayChange` allows. Assumes nothing.
+-- The house rule for live edits (document 01, "Putting down a map", Modify, and refusal 10), by the Arm walk of the words: where a call
+-- breaks it, and the lowest such address; and what refusals 9 to 11 leave. Definitions alone; `Change.house-rule-bits` says bit by bit what
+-- `mayChange` allows.
 use mathlib.Core.Path.{_≡_}
 use mathlib.Core.Bool.{true, false}
 use mathlib.Core.List.{List}
@@ -31,7 +32,8 @@ pub record Covered (c : ModifyArguments) (level va : ℕ) : Type 0 where
   pub from : rounded (c .start) (c .end) .start .0 ≤ down va (sizeAt level)
   pub upto : down va (sizeAt level) + sizeAt level ≤ rounded (c .start) (c .end) .end .0
 
--- "only bits 0 (clearing), 7, 10, 11, 51, 53, 54 and 55 to 58 may change, and no valid entry is split": the call breaks this at the address, where w stands
+-- "only bits 0 (clearing), 7, 10, 11, 51, 53, 54 and 55 to 58 may change, and no valid entry is split": the call breaks this at the
+-- address, where w stands
 pub record Breaks (h : Handle) (c : ModifyArguments) (s : St) (va w : ℕ) : Type 0 where
   pub level : ℕ
   pub stands : ValidEntry h c s va level w

@@ -1,5 +1,5 @@
--- Exactly the entries that change are listed: for a page of the region, the number of the entry that shows it afterwards stands in the list once if the page was
--- mapped and its flags change, and else not at all. On trees. Assumes nothing.
+-- Exactly the entries that change are listed: for a page of the region, the number of the entry that shows it afterwards stands in the list
+-- once if the page was mapped and its flags change, and else not at all. On trees.
 use mathlib.Core.Path.{_≡_, refl, sym, ap, ap₂, subst, subst₂, _∙_}
 use mathlib.Core.Bool.{true, false, cond}
 use mathlib.Core.List.{List, [], _∷_, _++_}
@@ -35,9 +35,11 @@ use Rattle.theory_tree.specs.DocumentModify.{documentModify}
 use Rattle.theory_map.specs.Stand.{Piece}
 use Rattle.theory_map.specs.Pieces.{Area, slotAt, Pieces, pieces}
 use Rattle.theory_modify.specs.Numbers.{gathered, changedNumber, ownNumbers, lowerNumbers, tableNumbers, occurs, firstPage}
-use Rattle.theory_modify.specs.Gathered.{number-changed, number-same, number-hole, own-whole, own-part, own-none, lower-whole, lower-part, lower-into, leaf-page, leaf-number}
+use Rattle.theory_modify.specs.Gathered.{number-changed, number-same, number-hole, own-whole, own-part, own-none, lower-whole}
+use Rattle.theory_modify.specs.Gathered.{lower-part, lower-into, leaf-page, leaf-number}
 use Rattle.theory_modify.specs.Gathered.{at-slot, in-node, at-node, at-others, gathered-from, sweep-before}
-use Rattle.theory_modify.specs.Once.{occurs-append, pagesBelow, Few, nil-occurs, piece-some, gathered-few, page-few, entry-few, table-few, occurs-both}
+use Rattle.theory_modify.specs.Once.{occurs-append, pagesBelow, Few, nil-occurs, piece-some, gathered-few, page-few, entry-few}
+use Rattle.theory_modify.specs.Once.{table-few, occurs-both}
 
 first-leaf : (depth w y : ℕ) → firstPage depth (leaf w) y ≡ y - y % pagesIn depth
 unfolding firstPage walkTree
@@ -86,14 +88,16 @@ sweep-node depth f (c ∷ cs) p v =
     let i : ℕ = entryIndex (3 - depth) (c .start .0) in
     let w : ℕ → Tree = λ j. slotTree (atSlot i (f c p) (node v)) j in
     let p′ : ℕ = p + (c .end .0 - c .start .0) in
-    subst (λ (t : Tree). sweep depth f cs p′ t ≡ node (λ j. slotTree (sweep depth f cs p′ t) j)) (sym (at-node i (f c p) v)) (sweep-node depth f cs p′ w)
+    subst (λ (t : Tree). sweep depth f cs p′ t ≡ node (λ j. slotTree (sweep depth f cs p′ t) j)) (sym (at-node i (f c p) v))
+    (sweep-node depth f cs p′ w)
 
 module _ (set clear : ℕ) where
   first-edit : (depth w : ℕ) (t : Tree) (y : ℕ) → firstPage depth (obey (editRule set clear w) (leaf w) t) y ≡ y - y % pagesIn depth
   unfolding editRule obey
   first-edit depth w t y = byBool (valid w) (λ e. rw e (first-leaf depth (edited set clear w) y)) (λ e. rw e (first-leaf depth w y))
 
-  chunked-page : (c : MemoryRegion) (p w : ℕ) → chunked (documentModify set clear) 0 c p (leaf w) ≡ obey (editRule set clear w) (leaf w) (leaf w)
+  chunked-page : (c : MemoryRegion) (p w : ℕ)
+      → chunked (documentModify set clear) 0 c p (leaf w) ≡ obey (editRule set clear w) (leaf w) (leaf w)
   unfolding chunked documentModify
   chunked-page c p w = refl
 
@@ -101,7 +105,8 @@ module _ (set clear : ℕ) where
     abbrev below : Tree → Tree
     below t = chunkedTable (documentModify set clear) depth c p (opened depth t)
 
-    chunked-whole : (w : ℕ) → whole (3 - suc depth) c ≡ true → chunked (documentModify set clear) (suc depth) c p (leaf w) ≡ obey (editRule set clear w) (leaf w) (below (leaf w))
+    chunked-whole : (w : ℕ) → whole (3 - suc depth) c ≡ true
+        → chunked (documentModify set clear) (suc depth) c p (leaf w) ≡ obey (editRule set clear w) (leaf w) (below (leaf w))
     unfolding chunked chunkedTable documentModify
     chunked-whole w e = rw e
 
@@ -142,19 +147,24 @@ module _ (set clear : ℕ) where
         (λ v. go v (eq-or (edited set clear w) w))
         (λ v. ap (occurs x) (number-hole set clear c w v) ∙ sym (ap changes (seen-none depth w y fine v)))
       where
-        go : valid w ≡ true → (edited set clear w ≡ w) ⊎ (edited set clear w ≢ w) → occurs x (changedNumber set clear c w) ≡ changes (seenIn depth w y)
+        go : valid w ≡ true → (edited set clear w ≡ w) ⊎ (edited set clear w ≢ w)
+            → occurs x (changedNumber set clear c w) ≡ changes (seenIn depth w y)
         go v (inl same) =
             let e : edited set clear (plainFlags w) ≡ plainFlags w = sym (edited-plain set clear S C w (fine .wide)) ∙ ap plainFlags same in
-            ap (occurs x) (number-same set clear c w v same) ∙ sym (ap changes (seen-valid depth w y fine v) ∙ rw (eq-eqb (edited set clear (plainFlags w)) (plainFlags w) e))
+            ap (occurs x) (number-same set clear c w v same)
+            ∙ sym (ap changes (seen-valid depth w y fine v) ∙ rw (eq-eqb (edited set clear (plainFlags w)) (plainFlags w) e))
         go v (inr other) =
             ap (occurs x) (number-changed set clear c w v other) ∙ rw (eq-eqb x (c .start .0 / 4096 % 2 ^ 44) is)
-            (sym (ap changes (seen-valid depth w y fine v) ∙ rw (ne-eqb (edited set clear (plainFlags w)) (plainFlags w) (λ e. other (plain-same w (fine .wide) e)))))
+            (sym
+            (ap changes (seen-valid depth w y fine v)
+            ∙ rw (ne-eqb (edited set clear (plainFlags w)) (plainFlags w) (λ e. other (plain-same w (fine .wide) e)))))
 
     -- ---- a chunk, and a table
 
     abbrev entryNumbers : ℕ → MemoryRegion → Tree → List ℕ
     entryNumbers zero c u = ownNumbers set clear 0 c u
-    entryNumbers (suc depth) c u = lowerNumbers set clear (λ d v. tableNumbers set clear depth d v) depth c u ++ ownNumbers set clear (suc depth) c u
+    entryNumbers (suc depth) c u =
+        lowerNumbers set clear (λ d v. tableNumbers set clear depth d v) depth c u ++ ownNumbers set clear (suc depth) c u
 
     module _ (y : ℕ) where
       abbrev after : ℕ → MemoryRegion → ℕ → Tree → Tree
@@ -174,12 +184,14 @@ module _ (set clear : ℕ) where
 
       -- the chunks of a table
       module _ (depth q : ℕ) (m : Map) (low : depth ≤ 3) (tells : EachTells depth)
-          (few : (x : ℕ) (c : MemoryRegion) (p : ℕ) (u : Tree) → Piece depth (child q (slotAt depth c)) (chunkMap m c p) → Few x c (occurs x (entryNumbers depth c u))) where
+          (few : (x : ℕ) (c : MemoryRegion) (p : ℕ) (u : Tree) → Piece depth (child q (slotAt depth c)) (chunkMap m c p)
+          → Few x c (occurs x (entryNumbers depth c u))) where
         record TableTells (a s : ℕ) (u t : Tree) (xs : List ℕ) : Type 0 where
           slot : a ≤ slotOfPage y depth
           tell : Tells depth s (slotTree u (slotOfPage y depth)) (slotTree t (slotOfPage y depth)) xs
 
-        outside-first : (x s z e y0 n : ℕ) → x ≡ y0 % 2 ^ 44 → y0 < z → z ≤ e → e ≤ y0 + 2 ^ 44 → n + pagesBelow x z ≤ pagesBelow x e → n ≡ 0
+        outside-first : (x s z e y0 n : ℕ) → x ≡ y0 % 2 ^ 44 → y0 < z → z ≤ e → e ≤ y0 + 2 ^ 44 → n + pagesBelow x z ≤ pagesBelow x e
+            → n ≡ 0
         outside-first x s z e y0 n is l k r f = omega arith
 
         outside-last : (x s z y0 n : ℕ) → x ≡ y0 % 2 ^ 44 → z ≤ y0 → s ≤ z → y0 < s + 2 ^ 44 → n + pagesBelow x s ≤ pagesBelow x z → n ≡ 0
@@ -209,35 +221,51 @@ module _ (set clear : ℕ) where
             v′ j = slotTree (atSlot i (after depth c p) (node v)) j
 
             fine′ : (j : ℕ) → suc (slotAt depth c) ≤ j → j < 512 → FineTree depth (v′ j)
-            fine′ j k b = subst (FineTree depth) (sym (at-others i j (after depth c p) (node v) (λ q. omega (arith, index)) ∙ in-node v j)) (fine j (omega (arith, all .0 .from)) b)
+            fine′ j k b =
+                subst (FineTree depth) (sym (at-others i j (after depth c p) (node v) (λ q. omega (arith, index)) ∙ in-node v j))
+                (fine j (omega (arith, all .0 .from)) b)
 
-            rest-few : (x : ℕ) → occurs x (gathered depth (entryNumbers depth) cs (node v)) + pagesBelow x (z / 4096) ≤ pagesBelow x (e / 4096)
+            rest-few : (x : ℕ)
+                → occurs x (gathered depth (entryNumbers depth) cs (node v)) + pagesBelow x (z / 4096) ≤ pagesBelow x (e / 4096)
             rest-few x = gathered-few set clear x depth q m (entryNumbers depth) (node v) (few x) rest (suc (slotAt depth c)) p′ (all .1) hi
 
             go : (z / 4096 ≤ y) ⊎ (y < z / 4096)
-                → (z / 4096 ≤ y → TableTells (suc (slotAt depth c)) z (sweep depth (after depth) cs p′ (node v′)) (node v′) (gathered depth (entryNumbers depth) cs (node v′)))
+                → (z / 4096 ≤ y
+                → TableTells (suc (slotAt depth c)) z (sweep depth (after depth) cs p′ (node v′)) (node v′)
+                (gathered depth (entryNumbers depth) cs (node v′)))
                 → TableTells a s (sweep depth (after depth) cs p′ (atSlot i (after depth c p) (node v))) (node v)
                 (entryNumbers depth c (slotTree (node v) i) ++ gathered depth (entryNumbers depth) cs (node v))
             go (inr l) later =
                 let place = index in
-                let at : slotOfPage y depth ≡ slotAt depth c = slot-in depth q (slotAt depth c) y (slot-lt (s / 4096) depth) (piece-in (all .0 .piece) above l) in
+                let at : slotOfPage y depth ≡ slotAt depth c =
+                slot-in depth q (slotAt depth c) y (slot-lt (s / 4096) depth) (piece-in (all .0 .piece) above l) in
                 let same : slotOfPage y depth ≡ i = at ∙ sym index in
-                let T = tells (child q (slotAt depth c)) m c p (v i) (all .0 .piece) (fine i (omega (arith, all .0 .from)) (omega (arith, slot-lt (s / 4096) depth))) above l in
-                let new : slotTree (sweep depth (after depth) cs p′ (atSlot i (after depth c p) (node v))) (slotOfPage y depth) ≡ after depth c p (v i) =
+                let T = tells (child q (slotAt depth c)) m c p (v i) (all .0 .piece)
+                (fine i (omega (arith, all .0 .from)) (omega (arith, slot-lt (s / 4096) depth))) above l in
+                let new : slotTree (sweep depth (after depth) cs p′ (atSlot i (after depth c p) (node v))) (slotOfPage y depth)
+                ≡ after depth c p (v i) =
                 ap (slotTree (sweep depth (after depth) cs p′ (atSlot i (after depth c p) (node v)))) same
-                ∙ sweep-before depth q m low (after depth) cs (suc (slotAt depth c)) p′ i (atSlot i (after depth c p) (node v)) (all .1) (omega arith) ∙ at-slot i (after depth c p) v in
+                ∙ sweep-before depth q m low (after depth) cs (suc (slotAt depth c)) p′ i (atSlot i (after depth c p) (node v)) (all .1)
+                (omega arith)
+                ∙ at-slot i (after depth c p) v in
                 let old : slotTree (node v) (slotOfPage y depth) ≡ v i = ap (slotTree (node v)) same ∙ in-node v i in
                 let x : ℕ = firstPage depth (after depth c p (v i)) y % 2 ^ 44 in
                 let below = first-le depth (after depth c p (v i)) y in
                 let f = T .from in
-                let zero-rest = outside-first x s (z / 4096) (e / 4096) (firstPage depth (after depth c p (v i)) y) (occurs x (gathered depth (entryNumbers depth) cs (node v))) refl
+                let zero-rest = outside-first x s (z / 4096) (e / 4096) (firstPage depth (after depth c p (v i)) y)
+                (occurs x (gathered depth (entryNumbers depth) cs (node v))) refl
                 (omega arith) (omega arith) (omega arith) (rest-few x) in
                 record {
                   slot = omega (arith, all .0 .from);
-                  tell = subst₂ (λ (u t : Tree). Tells depth s u t (entryNumbers depth c (slotTree (node v) i) ++ gathered depth (entryNumbers depth) cs (node v))) (sym new) (sym old)
+                  tell =
+                      subst₂
+                      (λ (u t : Tree). Tells depth s u t
+                      (entryNumbers depth c (slotTree (node v) i) ++ gathered depth (entryNumbers depth) cs (node v)))
+                      (sym new) (sym old)
                       (record {
                         from = f;
-                        count = occurs-append x (entryNumbers depth c (slotTree (node v) i)) (gathered depth (entryNumbers depth) cs (node v))
+                        count =
+                            occurs-append x (entryNumbers depth c (slotTree (node v) i)) (gathered depth (entryNumbers depth) cs (node v))
                             ∙ ap₂ _+_ (ap (λ (t : Tree). occurs x (entryNumbers depth c t)) (in-node v i) ∙ T .count) zero-rest
                             ∙ (let n : changes (seen depth (v i) y) + 0 ≡ changes (seen depth (v i) y) = omega arith in n);
                       });
@@ -248,16 +276,19 @@ module _ (set clear : ℕ) where
                 let tree = at-node i (after depth c p) v in
                 let σ : ℕ = slotOfPage y depth in
                 let deep = IH .slot in
-                let same : slotTree (node v′) σ ≡ slotTree (node v) σ = ap (λ (t : Tree). slotTree t σ) (sym tree) ∙ at-others i σ (after depth c p) (node v) (λ q. omega arith) in
+                let same : slotTree (node v′) σ ≡ slotTree (node v) σ =
+                ap (λ (t : Tree). slotTree t σ) (sym tree) ∙ at-others i σ (after depth c p) (node v) (λ q. omega arith) in
                 let numbers : gathered depth (entryNumbers depth) cs (node v′) ≡ gathered depth (entryNumbers depth) cs (node v) =
                 ap (gathered depth (entryNumbers depth) cs) (sym tree)
-                ∙ gathered-from depth q m low (entryNumbers depth) cs (suc (slotAt depth c)) p′ (atSlot i (after depth c p) (node v)) (node v) (all .1)
+                ∙ gathered-from depth q m low (entryNumbers depth) cs (suc (slotAt depth c)) p′ (atSlot i (after depth c p) (node v))
+                (node v) (all .1)
                 (λ j k. at-others i j (after depth c p) (node v) (λ q. omega arith)) in
                 let u : Tree = slotTree (sweep depth (after depth) cs p′ (node v′)) σ in
                 let x : ℕ = firstPage depth u y % 2 ^ 44 in
                 let f = IH .tell .from in
                 let below = first-le depth u y in
-                let zero-here = outside-last x (s / 4096) (z / 4096) (firstPage depth u y) (occurs x (entryNumbers depth c (slotTree (node v) i))) refl f (omega arith) (omega arith)
+                let zero-here = outside-last x (s / 4096) (z / 4096) (firstPage depth u y)
+                (occurs x (entryNumbers depth c (slotTree (node v) i))) refl f (omega arith) (omega arith)
                 (few x c p (slotTree (node v) i) (all .0 .piece)) in
                 record {
                   slot = omega (arith, all .0 .from);
@@ -266,18 +297,24 @@ module _ (set clear : ℕ) where
                       (entryNumbers depth c (slotTree (node v) i) ++ gathered depth (entryNumbers depth) cs (node v))) (sym tree)
                       (record {
                         from = omega arith;
-                        count = occurs-append x (entryNumbers depth c (slotTree (node v) i)) (gathered depth (entryNumbers depth) cs (node v))
-                            ∙ ap₂ _+_ zero-here (ap (occurs x) (sym numbers) ∙ IH .tell .count ∙ ap (λ (t : Tree). changes (seen depth t y)) same)
-                            ∙ (let n : 0 + changes (seen depth (slotTree (node v) σ) y) ≡ changes (seen depth (slotTree (node v) σ) y) = omega arith in n);
+                        count =
+                            occurs-append x (entryNumbers depth c (slotTree (node v) i)) (gathered depth (entryNumbers depth) cs (node v))
+                            ∙ ap₂ _+_ zero-here
+                            (ap (occurs x) (sym numbers) ∙ IH .tell .count ∙ ap (λ (t : Tree). changes (seen depth t y)) same)
+                            ∙ (let n : 0 + changes (seen depth (slotTree (node v) σ) y)
+                            ≡ changes (seen depth (slotTree (node v) σ) y) = omega arith in
+                            n);
                       });
                 }
 
-      few-all : (depth : ℕ) → depth ≤ 3 → (x q : ℕ) (m : Map) (c : MemoryRegion) (p : ℕ) (u : Tree) → Piece depth q (chunkMap m c p) → Few x c (occurs x (entryNumbers depth c u))
+      few-all : (depth : ℕ) → depth ≤ 3 → (x q : ℕ) (m : Map) (c : MemoryRegion) (p : ℕ) (u : Tree) → Piece depth q (chunkMap m c p)
+          → Few x c (occurs x (entryNumbers depth c u))
       few-all zero low x q m c p u piece = page-few set clear x c u (piece-some set clear x piece)
       few-all (suc depth) low x q m c p u piece = entry-few set clear x depth q p m c (table-few set clear x depth (omega arith)) piece u
 
       numbers-are : (depth : ℕ) (x : ℕ) (c : MemoryRegion) (t : Tree)
-          → occurs x (tableNumbers set clear depth c t) ≡ occurs x (gathered depth (entryNumbers depth) (chunks (3 - depth) (c .start .0) (c .end .0)) t)
+          → occurs x (tableNumbers set clear depth c t)
+          ≡ occurs x (gathered depth (entryNumbers depth) (chunks (3 - depth) (c .start .0) (c .end .0)) t)
       unfolding tableNumbers
       numbers-are zero x c t = refl
       numbers-are (suc depth) x c t =
@@ -287,9 +324,11 @@ module _ (set clear : ℕ) where
           ∙ sym (occurs-both x (suc depth) lower (ownNumbers set clear (suc depth)) cs t)
 
       -- a table's region
-      whole-tells : (depth q : ℕ) (m : Map) (v : ℕ → Tree) → depth ≤ 3 → EachTells depth → Area depth q m → ((j : ℕ) → j < 512 → FineTree depth (v j))
+      whole-tells : (depth q : ℕ) (m : Map) (v : ℕ → Tree) → depth ≤ 3 → EachTells depth → Area depth q m
+          → ((j : ℕ) → j < 512 → FineTree depth (v j))
           → m .region .start .0 ≤ m .region .end .0 → m .region .start .0 / 4096 ≤ y → y < m .region .end .0 / 4096
-          → Tells (suc depth) (m .region .start .0) (chunkedTable (documentModify set clear) depth (m .region) (m .frame .0) (node v)) (node v)
+          → Tells (suc depth) (m .region .start .0) (chunkedTable (documentModify set clear) depth (m .region) (m .frame .0) (node v))
+          (node v)
           (tableNumbers set clear depth (m .region) (node v))
       unfolding chunkedTable
       whole-tells depth q m v low tells area fine some above under =
@@ -301,7 +340,8 @@ module _ (set clear : ℕ) where
           let U : Tree = sweep depth (after depth) cs (m .frame .0) (node v) in
           let σ : ℕ = slotOfPage y depth in
           let same : firstPage (suc depth) U y ≡ firstPage depth (slotTree U σ) y =
-          ap (λ (t : Tree). firstPage (suc depth) t y) (sweep-node depth (after depth) cs (m .frame .0) v) ∙ first-node depth (λ j. slotTree U j) y in
+          ap (λ (t : Tree). firstPage (suc depth) t y) (sweep-node depth (after depth) cs (m .frame .0) v)
+          ∙ first-node depth (λ j. slotTree U j) y in
           record {
             from = subst (λ (n : ℕ). m .region .start .0 / 4096 ≤ n) (sym same) (T .tell .from);
             count = ap (λ (n : ℕ). occurs (n % 2 ^ 44) (tableNumbers set clear depth (m .region) (node v))) same
@@ -315,43 +355,57 @@ module _ (set clear : ℕ) where
           let one = ap (λ (n : ℕ). y % n) span-zero ∙ mod-one y in
           let z = span-zero in
           let start : c .start .0 / 4096 ≡ y = omega (arith, piece .inside .low, piece .inside .high) in
-          let here : firstPage 0 (after 0 c p (leaf w)) y ≡ y = ap (λ (t : Tree). firstPage 0 t y) (chunked-page c p w) ∙ first-edit 0 w (leaf w) y
+          let here : firstPage 0 (after 0 c p (leaf w)) y ≡ y =
+          ap (λ (t : Tree). firstPage 0 t y) (chunked-page c p w) ∙ first-edit 0 w (leaf w) y
           ∙ (let k : y - y % pagesIn 0 ≡ y = omega arith in k) in
           record {
             from = omega arith;
-            count = ap (occurs (firstPage 0 (after 0 c p (leaf w)) y % 2 ^ 44)) (sym (leaf-page set clear c (leaf w)) ∙ leaf-number set clear c w)
+            count =
+                ap (occurs (firstPage 0 (after 0 c p (leaf w)) y % 2 ^ 44))
+                (sym (leaf-page set clear c (leaf w)) ∙ leaf-number set clear c w)
                 ∙ changed-count 0 c w y _ fine (ap (λ (n : ℕ). n % 2 ^ 44) (here ∙ sym start)) ∙ ap changes (sym (seen-leaf 0 w y));
           }
 
       -- an entry that is covered as a whole
-      entry-whole : (depth q p w : ℕ) (c : MemoryRegion) (m : Map) → suc depth ≤ 3 → Piece (suc depth) q (chunkMap m c p) → Fine (suc depth) w → c .start .0 / 4096 ≤ y
+      entry-whole : (depth q p w : ℕ) (c : MemoryRegion) (m : Map) → suc depth ≤ 3 → Piece (suc depth) q (chunkMap m c p)
+          → Fine (suc depth) w → c .start .0 / 4096 ≤ y
           → y < c .end .0 / 4096
-          → whole (3 - suc depth) c ≡ true → Tells (suc depth) (c .start .0) (after (suc depth) c p (leaf w)) (leaf w) (entryNumbers (suc depth) c (leaf w))
+          → whole (3 - suc depth) c ≡ true
+          → Tells (suc depth) (c .start .0) (after (suc depth) c p (leaf w)) (leaf w) (entryNumbers (suc depth) c (leaf w))
       unfolding whole
       entry-whole depth q p w c m low piece fine above under all =
           let begins : c .start .0 % sizeAt (3 - suc depth) ≡ 0 =
-          eqb→eq (c .start .0 % sizeAt (3 - suc depth)) 0 (and-l (eqb (c .start .0 % sizeAt (3 - suc depth)) 0) (eqb (c .end .0 % sizeAt (3 - suc depth)) 0) (rw all tt)) in
+          eqb→eq (c .start .0 % sizeAt (3 - suc depth)) 0
+          (and-l (eqb (c .start .0 % sizeAt (3 - suc depth)) 0) (eqb (c .end .0 % sizeAt (3 - suc depth)) 0) (rw all tt)) in
           let rest = entry-rest (suc depth) (c .start .0) low (piece .inside .startPage) in
           let mine = in-rest (suc depth) q y (piece-in piece above under) in
-          let its = in-rest (suc depth) q (c .start .0 / 4096) (in-of (suc depth) q (c .start .0 / 4096) (piece .inside .low) (omega (arith, piece .inside .high))) in
+          let its = in-rest (suc depth) q (c .start .0 / 4096)
+          (in-of (suc depth) q (c .start .0 / 4096) (piece .inside .low) (omega (arith, piece .inside .high))) in
           let here : firstPage (suc depth) (after (suc depth) c p (leaf w)) y ≡ c .start .0 / 4096 =
           ap (λ (t : Tree). firstPage (suc depth) t y) (chunked-whole depth c p w all) ∙ first-edit (suc depth) w _ y
           ∙ (let k : y - y % pagesIn (suc depth) ≡ c .start .0 / 4096 = omega arith in k) in
           record {
             from = omega arith;
             count = ap (occurs (firstPage (suc depth) (after (suc depth) c p (leaf w)) y % 2 ^ 44))
-                (ap₂ (λ (a b : List ℕ). a ++ b) (lower-whole set clear (λ d v. tableNumbers set clear depth d v) depth c w all) (own-whole set clear depth c w all))
+                (ap₂ (λ (a b : List ℕ). a ++ b) (lower-whole set clear (λ d v. tableNumbers set clear depth d v) depth c w all)
+                (own-whole set clear depth c w all))
                 ∙ changed-count (suc depth) c w y _ fine (ap (λ (n : ℕ). n % 2 ^ 44) here) ∙ ap changes (sym (seen-leaf (suc depth) w y));
           }
 
       -- an entry that goes down
-      goes-tells : (depth q p : ℕ) (c : MemoryRegion) (m : Map) (u : Tree) (v : ℕ → Tree) → suc depth ≤ 3 → EachTells depth → Piece (suc depth) q (chunkMap m c p)
-          → ((j : ℕ) → j < 512 → FineTree depth (v j)) → c .start .0 / 4096 ≤ y → y < c .end .0 / 4096 → opened depth u ≡ node v → after (suc depth) c p u ≡ below depth c p u
-          → lowerNumbers set clear (λ d t. tableNumbers set clear depth d t) depth c u ≡ tableNumbers set clear depth c (opened depth u) → ownNumbers set clear (suc depth) c u ≡ []
-          → seen (suc depth) (node v) y ≡ seen (suc depth) u y → Tells (suc depth) (c .start .0) (after (suc depth) c p u) u (entryNumbers (suc depth) c u)
+      goes-tells : (depth q p : ℕ) (c : MemoryRegion) (m : Map) (u : Tree) (v : ℕ → Tree) → suc depth ≤ 3 → EachTells depth
+          → Piece (suc depth) q (chunkMap m c p)
+          → ((j : ℕ) → j < 512 → FineTree depth (v j)) → c .start .0 / 4096 ≤ y → y < c .end .0 / 4096 → opened depth u ≡ node v
+          → after (suc depth) c p u ≡ below depth c p u
+          → lowerNumbers set clear (λ d t. tableNumbers set clear depth d t) depth c u ≡ tableNumbers set clear depth c (opened depth u)
+          → ownNumbers set clear (suc depth) c u ≡ []
+          → seen (suc depth) (node v) y ≡ seen (suc depth) u y
+          → Tells (suc depth) (c .start .0) (after (suc depth) c p u) u (entryNumbers (suc depth) c u)
       goes-tells depth q p c m u v low tells piece fine above under opens goes lower own shows =
-          let T = whole-tells depth q (chunkMap m c p) v (omega arith) tells (record { inside = piece .inside; room = piece .room }) fine (omega (arith, piece .some)) above under in
-          let tree : after (suc depth) c p u ≡ chunkedTable (documentModify set clear) depth c p (node v) = goes ∙ ap (chunkedTable (documentModify set clear) depth c p) opens in
+          let T = whole-tells depth q (chunkMap m c p) v (omega arith) tells (record { inside = piece .inside; room = piece .room }) fine
+          (omega (arith, piece .some)) above under in
+          let tree : after (suc depth) c p u ≡ chunkedTable (documentModify set clear) depth c p (node v) =
+          goes ∙ ap (chunkedTable (documentModify set clear) depth c p) opens in
           let numbers : entryNumbers (suc depth) c u ≡ tableNumbers set clear depth c (node v) ++ [] =
           ap₂ (λ (a b : List ℕ). a ++ b) (lower ∙ ap (tableNumbers set clear depth c) opens) own in
           subst (λ (t : Tree). Tells (suc depth) (c .start .0) t u (entryNumbers (suc depth) c u)) (sym tree)
@@ -362,14 +416,18 @@ module _ (set clear : ℕ) where
 
       up-tells : (depth : ℕ) → suc depth ≤ 3 → EachTells depth → EachTells (suc depth)
       up-tells depth low tells q m c p (node f) piece fine above under =
-          goes-tells depth q p c m (node f) f low tells piece fine above under (opens-node depth f) (chunked-into depth c p f) (lower-into set clear _ depth c f)
+          goes-tells depth q p c m (node f) f low tells piece fine above under (opens-node depth f) (chunked-into depth c p f)
+          (lower-into set clear _ depth c f)
           (own-none set clear (suc depth) c f) refl
       up-tells depth low tells q m c p (leaf w) piece fine above under = byBool (whole (3 - suc depth) c)
           (λ e. entry-whole depth q p w c m low piece fine above under e)
-          (λ e. goes-tells depth q p c m (leaf w) (fillSlot depth w) low tells piece (fine-fill-slots depth w fine) above under (opens-leaf depth w ∙ fill-node depth w)
+          (λ e. goes-tells depth q p c m (leaf w) (fillSlot depth w) low tells piece (fine-fill-slots depth w fine) above under
+          (opens-leaf depth w ∙ fill-node depth w)
           (chunked-part depth c p w e)
           (lower-part set clear _ depth c w e) (own-part set clear depth c w e)
-          (seen-node depth (fillSlot depth w) y ∙ ap (λ (t : Tree). seen depth t y) (fill-slot depth w (slotOfPage y depth) (slot-lt y depth)) ∙ seen-leaf depth _ y ∙ fill-seen depth w y fine
+          (seen-node depth (fillSlot depth w) y
+          ∙ ap (λ (t : Tree). seen depth t y) (fill-slot depth w (slotOfPage y depth) (slot-lt y depth)) ∙ seen-leaf depth _ y
+          ∙ fill-seen depth w y fine
           ∙ sym (seen-leaf (suc depth) w y)))
 
       each-tells : (depth : ℕ) → depth ≤ 3 → EachTells depth
@@ -382,4 +440,5 @@ module _ (set clear : ℕ) where
           → occurs (firstPage (suc depth) (chunkedTable (documentModify set clear) depth (m .region) (m .frame .0) (node v)) y % 2 ^ 44)
           (tableNumbers set clear depth (m .region) (node v))
           ≡ changes (seen (suc depth) (node v) y)
-      region-tells depth q m v low area fine some above under = whole-tells depth q m v low (each-tells depth low) area fine some above under .count
+      region-tells depth q m v low area fine some above under =
+          whole-tells depth q m v low (each-tells depth low) area fine some above under .count

@@ -1,4 +1,4 @@
--- A modify of a table of a sound pool puts into the list the numbers of the table's tree, in the document's order. Assumes nothing.
+-- A modify of a table of a sound pool puts into the list the numbers of the table's tree, in the document's order.
 use mathlib.Core.Path.{_≡_, refl, sym, ap, ap₂, subst, _∙_}
 use mathlib.Core.Bool.{Bool, true, false}
 use mathlib.Core.List.{List, [], _∷_}
@@ -21,7 +21,8 @@ use Rattle.modify_entry.specs.declared.Edit.{Edit}
 use Rattle.modify_entry.specs.Word.{editWord}
 use Rattle.modify_entry.specs.Each.{eachChunk, chunkEdit}
 use Rattle.modify_entry.specs.Own.{Numbered, numbered, putNumber, Noted, noted, ownChunk, ownRange, own-same, own-changed}
-use Rattle.modify_range.specs.Range.{Work, work, own, ownWork, modifyRange, own-table, own-leaf, downStep, modify-pages, modify-open, step-own}
+use Rattle.modify_range.specs.Range.{Work, work, own, ownWork, modifyRange, own-table, own-leaf, downStep, modify-pages, modify-open}
+use Rattle.modify_range.specs.Range.{step-own}
 use Rattle.theory_forest.specs.Tree.{Tree, leaf, node, treeAt-node}
 use Rattle.theory_forest.specs.Sound.{TableWord}
 use Rattle.theory_forest.specs.Keep.{slot-leaf}
@@ -42,33 +43,40 @@ use Rattle.theory_map.specs.Down.{SlotHolds, holds-table, holds-leaf, holds, op
 use Rattle.theory_map.specs.Loop.{slot-of, through, EachWorks, stepped}
 use Rattle.theory_modify.specs.Word.{Bits, table-stays, hole-stays, valid-edited}
 use Rattle.theory_modify.specs.Passes.{ownTo, downTo, takes-part, takes-into}
-use Rattle.theory_modify.specs.Range.{editTakes, areaOf, through-chunks, none-taken, own-works, Edits, goes-down, down-works, down-pass, range-edits}
+use Rattle.theory_modify.specs.Range.{editTakes, areaOf, through-chunks, none-taken, own-works, Edits, goes-down, down-works}
+use Rattle.theory_modify.specs.Range.{down-pass, range-edits}
 use Rattle.theory_modify.specs.Numbers.{gathered, changedNumber, ownNumbers, lowerNumbers, tableNumbers}
-use Rattle.theory_modify.specs.Gathered.{number-changed, number-same, number-hole, lower-whole, lower-part, lower-into, leafNumbers, leaf-number, leaf-none, leaf-page, leaf-after}
+use Rattle.theory_modify.specs.Gathered.{number-changed, number-same, number-hole, lower-whole, lower-part, lower-into, leafNumbers}
+use Rattle.theory_modify.specs.Gathered.{leaf-number, leaf-none, leaf-page, leaf-after}
 use Rattle.theory_modify.specs.Gathered.{gathered-from, gathered-after}
 use Rattle.theory_modify.specs.Notes.{putAll, put-none, put-one, put-append}
 
 -- ---- a loop over the chunks of a table
 
 module _ {h : Handle} (placed : Placed h) where
-  module _ {S : Type 0} (stateOf : S → St) (each : MemoryRegion → ℕ → S → S) (eachTree : MemoryRegion → ℕ → Tree → Tree) (count : MemoryRegion → ℕ → Tree → ℕ)
+  module _ {S : Type 0} (stateOf : S → St) (each : MemoryRegion → ℕ → S → S) (eachTree : MemoryRegion → ℕ → Tree → Tree)
+      (count : MemoryRegion → ℕ → Tree → ℕ)
       (depth q k : ℕ) (m : Map) (notesOf : S → Numbered) (live : Bool) (numbers : MemoryRegion → Tree → List ℕ) where
     -- each chunk puts the numbers of its slot
     abbrev EachPuts : Type 0
-    EachPuts = (c : MemoryRegion) (p : ℕ) (x : S) → Piece depth (child q (slotAt depth c)) (chunkMap m c p) → Ready placed (stateOf x) depth k
+    EachPuts =
+        (c : MemoryRegion) (p : ℕ) (x : S) → Piece depth (child q (slotAt depth c)) (chunkMap m c p) → Ready placed (stateOf x) depth k
         → let t = slotShows h (stateOf x) depth k (entryIndex (3 - depth) (c .start .0)) in
         count c p t ≤ free (stateOf x .ledger) → notesOf (each c p x) ≡ putAll live (numbers c t) (notesOf x)
 
-    enough : (c : MemoryRegion) (cs : List MemoryRegion) (p : ℕ) (x : S) → tallied depth count (c ∷ cs) p (treeFrom h (stateOf x) depth k) ≤ free (stateOf x .ledger)
+    enough : (c : MemoryRegion) (cs : List MemoryRegion) (p : ℕ) (x : S)
+        → tallied depth count (c ∷ cs) p (treeFrom h (stateOf x) depth k) ≤ free (stateOf x .ledger)
         → count c p (slotShows h (stateOf x) depth k (entryIndex (3 - depth) (c .start .0))) ≤ free (stateOf x .ledger)
     unfolding tallied
     enough c cs p x room =
         let here = ap (count c p) (slot-of h (stateOf x) depth k (entryIndex (3 - depth) (c .start .0))) in
         omega arith
 
-    loop-puts : depth ≤ 3 → EachWorks placed stateOf each eachTree count depth q k m → EachPuts → (cs : List MemoryRegion) (a p : ℕ) (x : S) → Pieces depth q m a p cs
+    loop-puts : depth ≤ 3 → EachWorks placed stateOf each eachTree count depth q k m → EachPuts → (cs : List MemoryRegion) (a p : ℕ) (x : S)
+        → Pieces depth q m a p cs
         → Ready placed (stateOf x) depth k → let t = treeFrom h (stateOf x) depth k in
-        tallied depth count cs p t ≤ free (stateOf x .ledger) → notesOf (through each cs p x) ≡ putAll live (gathered depth numbers cs t) (notesOf x)
+        tallied depth count cs p t ≤ free (stateOf x .ledger)
+        → notesOf (through each cs p x) ≡ putAll live (gathered depth numbers cs t) (notesOf x)
     unfolding through gathered
     loop-puts low works puts [] a p x all R room = sym (put-none live (notesOf x))
     loop-puts low works puts (c ∷ cs) a p x all R room =
@@ -78,7 +86,8 @@ module _ {h : Handle} (placed : Placed h) where
         let first = stepped placed stateOf each eachTree count depth q k m low works c cs a p x all R room in
         loop-puts low works puts cs (suc (slotAt depth c)) p′ (each c p x) (all .1) (first .ready) (first .room)
         ∙ ap₂ (putAll live)
-        (gathered-from depth q m low numbers cs (suc (slotAt depth c)) p′ (treeFrom h (stateOf (each c p x)) depth k) t (all .1) (first .same))
+        (gathered-from depth q m low numbers cs (suc (slotAt depth c)) p′ (treeFrom h (stateOf (each c p x)) depth k) t (all .1)
+        (first .same))
         (puts c p x (all .0 .piece) R (enough c cs p x room)
         ∙ ap (λ (u : Tree). putAll live (numbers c u) (notesOf x)) (sym (slot-of h (stateOf x) depth k i)))
         ∙ sym (put-append live (numbers c (slotTree t i)) (gathered depth numbers cs t) (notesOf x))
@@ -112,7 +121,8 @@ module _ {h : Handle} (placed : Placed h) where
 
     puts-none : new ≡ w → leafNumbers (e .set) (e .clear) c t ≡ [] → Puts
     puts-none same none =
-        ap ofNoted (sym (own-same k (3 - depth) e c n refl refl same)) ∙ sym (ap (λ (xs : List ℕ). putAll (e .live) xs (ofNoted n)) none ∙ put-none (e .live) (ofNoted n))
+        ap ofNoted (sym (own-same k (3 - depth) e c n refl refl same))
+        ∙ sym (ap (λ (xs : List ℕ). putAll (e .live) xs (ofNoted n)) none ∙ put-none (e .live) (ofNoted n))
 
     module _ (shows : t ≡ leaf w) where
       fine : Fine depth w
@@ -130,10 +140,13 @@ module _ {h : Handle} (placed : Placed h) where
           go v is (inr other) =
               let l : Numbered = putNumber (e .live) _ (n .count) (n .list) in
               ap ofNoted (sym (own-changed k (3 - depth) e c n refl refl other refl {count = l .count} {list = l .list} refl))
-              ∙ sym (ap (λ (xs : List ℕ). putAll (e .live) xs (ofNoted n)) (numbers-are ∙ number-changed (e .set) (e .clear) c w v (λ q. other (is ∙ q)))
+              ∙ sym
+              (ap (λ (xs : List ℕ). putAll (e .live) xs (ofNoted n))
+              (numbers-are ∙ number-changed (e .set) (e .clear) c w v (λ q. other (is ∙ q)))
               ∙ put-one (e .live) _ (ofNoted n))
 
-  own-puts : (depth k : ℕ) (e : Edit) (ledger : List ℕ) (c : MemoryRegion) (n : Noted) (R : Ready placed (st (n .words) ledger) depth k) → Puts depth k e ledger c n R
+  own-puts : (depth k : ℕ) (e : Edit) (ledger : List ℕ) (c : MemoryRegion) (n : Noted) (R : Ready placed (st (n .words) ledger) depth k)
+      → Puts depth k e ledger c n R
   own-puts zero k e ledger c n R =
       let old : ¬ (TableWord (levelAt (st (n .words) ledger) k) (w 0 k e ledger c n R)) = λ table. omega (arith, R .low, table .0) in
       leaf-puts 0 k e ledger c n R
@@ -150,28 +163,37 @@ module _ {h : Handle} (placed : Placed h) where
   abbrev pub ofWork : Work → Numbered
   ofWork w = numbered (w .count) (w .list)
 
-  own-pass-puts : (depth q k p : ℕ) (e : Edit) (w : Work) → depth ≤ 3 → Bits h e → Area depth q (areaOf e p) → Ready placed (w .state) depth k
+  own-pass-puts : (depth q k p : ℕ) (e : Edit) (w : Work) → depth ≤ 3 → Bits h e → Area depth q (areaOf e p)
+      → Ready placed (w .state) depth k
       → ofWork (ownWork k (3 - depth) e w)
-      ≡ putAll (e .live) (gathered depth (leafNumbers (e .set) (e .clear)) (chunks (3 - depth) (e .region .start .0) (e .region .end .0)) (treeFrom h (w .state) depth k)) (ofWork w)
+      ≡ putAll (e .live)
+      (gathered depth (leafNumbers (e .set) (e .clear)) (chunks (3 - depth) (e .region .start .0) (e .region .end .0))
+      (treeFrom h (w .state) depth k))
+      (ofWork w)
   unfolding ownWork ownRange
   own-pass-puts depth q k p e w low bits area R =
       let cs : List MemoryRegion = chunks (3 - depth) (e .region .start .0) (e .region .end .0) in
       let none = none-taken depth cs p (treeFrom h (w .state) depth k) in
       let n : Noted = noted (w .state .words) (w .list) (w .count) in
       ap ofNoted (sym (through-chunks (3 - depth) (ownChunk k (3 - depth) e) (e .region) p n))
-      ∙ loop-puts (λ (x : Noted). st (x .words) (w .state .ledger)) (λ c x y. ownChunk k (3 - depth) e c y) (λ c x u. ownTo (e .set) (e .clear) u) (λ c x u. 0)
+      ∙ loop-puts (λ (x : Noted). st (x .words) (w .state .ledger)) (λ c x y. ownChunk k (3 - depth) e c y)
+      (λ c x u. ownTo (e .set) (e .clear) u) (λ c x u. 0)
       depth q k (areaOf e p) ofNoted (e .live) (leafNumbers (e .set) (e .clear)) low
-      (λ c x y piece ready enough. own-works placed depth k e (w .state .ledger) bits c y ready) (λ c x y piece ready enough. own-puts depth k e (w .state .ledger) c y ready)
+      (λ c x y piece ready enough. own-works placed depth k e (w .state .ledger) bits c y ready)
+      (λ c x y piece ready enough. own-puts depth k e (w .state .ledger) c y ready)
       cs 0 p n (pieces depth q (areaOf e p) low p (e .region) area) R (omega arith)
 
   -- ---- the chunks that go down
 
   abbrev pub Lists : ℕ → Type 0
-  Lists depth = (q k p : ℕ) (e : Edit) (w : Work) → Bits h e → Area depth q (areaOf e p) → Ready placed (w .state) depth k → let t = treeFrom h (w .state) depth k in
+  Lists depth =
+      (q k p : ℕ) (e : Edit) (w : Work) → Bits h e → Area depth q (areaOf e p) → Ready placed (w .state) depth k
+      → let t = treeFrom h (w .state) depth k in
       editTakes e depth p t ≤ free (w .state .ledger)
       → ofWork (modifyRange depth h k e w) ≡ putAll (e .live) (tableNumbers (e .set) (e .clear) depth (e .region) t) (ofWork w)
 
-  module _ (depth q k : ℕ) (e : Edit) (bits : Bits h e) (edits : Edits placed depth) (lists : Lists depth) (c : MemoryRegion) (p : ℕ) (x : Work)
+  module _ (depth q k : ℕ) (e : Edit) (bits : Bits h e) (edits : Edits placed depth) (lists : Lists depth) (c : MemoryRegion) (p : ℕ)
+      (x : Work)
       (piece : Piece (suc depth) q (areaOf (chunkEdit e c) p)) (R : Ready placed (x .state) (suc depth) k) where
     abbrev level : ℕ
     level = 3 - suc depth
@@ -207,7 +229,8 @@ module _ {h : Handle} (placed : Placed h) where
         let fewer = O .room in
         let w : Work = work (O .state) (x .list) (x .count) in
         ap ofWork (sym (goes-down placed depth q k e bits edits c p x piece R O goes))
-        ∙ lists q (O .table) p (chunkEdit e c) w (record { set = bits .set; clear = bits .clear }) (record { inside = piece .inside; room = piece .room }) (O .ready)
+        ∙ lists q (O .table) p (chunkEdit e c) w (record { set = bits .set; clear = bits .clear })
+        (record { inside = piece .inside; room = piece .room }) (O .ready)
         (subst (λ (v : Tree). editTakes (chunkEdit e c) depth p v ≤ free (O .state .ledger)) (sym (O .shows)) (omega arith))
         ∙ ap (λ (xs : List ℕ). putAll (e .live) xs (ofWork x)) (ap (table c) (O .shows) ∙ sym numbers)
 
@@ -225,19 +248,27 @@ module _ {h : Handle} (placed : Placed h) where
         go (holds-table a r both leads shows) =
             puts-down room (sym (own-table level c y both))
             (ap lower shows ∙ lower-into set clear table depth c _ ∙ sym (ap (λ (v : Tree). table c (opened depth v)) shows))
-            (ap count shows ∙ takes-into set clear depth c p _ ∙ sym (ap (λ (v : Tree). splits v + editTakes (chunkEdit e c) depth p (opened depth v)) shows))
+            (ap count shows ∙ takes-into set clear depth c p _
+            ∙ sym (ap (λ (v : Tree). splits v + editTakes (chunkEdit e c) depth p (opened depth v)) shows))
         go (holds-leaf old other shows) = byBool (whole level c)
             (λ all. ap ofWork (sym (step-own h k level e c x refl (sym (own-leaf level c y other) ∙ all)))
-            ∙ sym (ap (λ (xs : List ℕ). putAll (e .live) xs (ofWork x)) (ap lower shows ∙ lower-whole set clear table depth c y all) ∙ put-none (e .live) (ofWork x)))
+            ∙ sym
+            (ap (λ (xs : List ℕ). putAll (e .live) xs (ofWork x)) (ap lower shows ∙ lower-whole set clear table depth c y all)
+            ∙ put-none (e .live) (ofWork x)))
             (λ part. puts-down room (sym (own-leaf level c y other) ∙ part)
             (ap lower shows ∙ lower-part set clear table depth c y part ∙ sym (ap (λ (v : Tree). table c (opened depth v)) shows))
-            (ap count shows ∙ takes-part set clear depth c p y part ∙ sym (ap (λ (v : Tree). splits v + editTakes (chunkEdit e c) depth p (opened depth v)) shows)))
+            (ap count shows ∙ takes-part set clear depth c p y part
+            ∙ sym (ap (λ (v : Tree). splits v + editTakes (chunkEdit e c) depth p (opened depth v)) shows)))
 
-  down-pass-puts : (depth q k p : ℕ) (e : Edit) (w : Work) → suc depth ≤ 3 → Edits placed depth → Lists depth → Bits h e → Area (suc depth) q (areaOf e p)
-      → Ready placed (w .state) (suc depth) k → let t = treeFrom h (w .state) (suc depth) k in let cs = chunks (3 - suc depth) (e .region .start .0) (e .region .end .0) in
+  down-pass-puts : (depth q k p : ℕ) (e : Edit) (w : Work) → suc depth ≤ 3 → Edits placed depth → Lists depth → Bits h e
+      → Area (suc depth) q (areaOf e p)
+      → Ready placed (w .state) (suc depth) k → let t = treeFrom h (w .state) (suc depth) k in
+      let cs = chunks (3 - suc depth) (e .region .start .0) (e .region .end .0) in
       editTakes e (suc depth) p t ≤ free (w .state .ledger)
       → ofWork (eachChunk (3 - suc depth) (downStep h k (3 - suc depth) e) (e .region) w)
-      ≡ putAll (e .live) (gathered (suc depth) (lowerNumbers (e .set) (e .clear) (λ d v. tableNumbers (e .set) (e .clear) depth d v) depth) cs t) (ofWork w)
+      ≡ putAll (e .live)
+      (gathered (suc depth) (lowerNumbers (e .set) (e .clear) (λ d v. tableNumbers (e .set) (e .clear) depth d v) depth) cs t)
+      (ofWork w)
   unfolding neededTable
   down-pass-puts depth q k p e w low edits lists bits area R room =
       let cs : List MemoryRegion = chunks (3 - suc depth) (e .region .start .0) (e .region .end .0) in
@@ -259,25 +290,31 @@ module _ {h : Handle} (placed : Placed h) where
       let cs : List MemoryRegion = chunks 3 (e .region .start .0) (e .region .end .0) in
       ap ofWork (sym (modify-pages h k 3 e w (omega arith) (omega arith)))
       ∙ own-pass-puts 0 q k p e w (omega arith) bits area R
-      ∙ ap (λ (f : MemoryRegion → Tree → List ℕ). putAll (e .live) (gathered 0 f cs (treeFrom h (w .state) 0 k)) (ofWork w)) (λ i c v. leaf-page (e .set) (e .clear) c v i)
+      ∙ ap (λ (f : MemoryRegion → Tree → List ℕ). putAll (e .live) (gathered 0 f cs (treeFrom h (w .state) 0 k)) (ofWork w))
+      (λ i c v. leaf-page (e .set) (e .clear) c v i)
 
   lists-up : (depth : ℕ) → suc depth ≤ 3 → Edits placed depth → Lists depth → Lists (suc depth)
   unfolding tableNumbers
   lists-up depth low edits lists q k p e w bits area R room =
       let level : ℕ = 3 - suc depth in
       let t : Tree = treeFrom h (w .state) (suc depth) k in
-      let is : t ≡ node (λ i. slotShows h (w .state) (suc depth) k i) = treeAt-node (childOf (h .base .0)) (suc depth) (slotWord (w .state)) k in
+      let is : t ≡ node (λ i. slotShows h (w .state) (suc depth) k i) =
+      treeAt-node (childOf (h .base .0)) (suc depth) (slotWord (w .state)) k in
       let mid : Work = eachChunk level (downStep h k level e) (e .region) w in
       let D = down-pass placed depth q k p e w low edits bits area R room in
       let cs : List MemoryRegion = chunks level (e .region .start .0) (e .region .end .0) in
       let all = pieces (suc depth) q (areaOf e p) low p (e .region) area in
       let up : 3 - level ≡ suc depth = omega arith in
-      let whole : ownWork k level e mid ≡ modifyRange (suc depth) h k e w = modify-open h k level e w (omega arith) ∙ ap (λ (d : ℕ). modifyRange d h k e w) up in
-      let lower : List ℕ = gathered (suc depth) (lowerNumbers (e .set) (e .clear) (λ d v. tableNumbers (e .set) (e .clear) depth d v) depth) cs t in
+      let whole : ownWork k level e mid ≡ modifyRange (suc depth) h k e w =
+      modify-open h k level e w (omega arith) ∙ ap (λ (d : ℕ). modifyRange d h k e w) up in
+      let lower : List ℕ =
+      gathered (suc depth) (lowerNumbers (e .set) (e .clear) (λ d v. tableNumbers (e .set) (e .clear) depth d v) depth) cs t in
       let after : gathered (suc depth) (leafNumbers (e .set) (e .clear)) cs (treeFrom h (mid .state) (suc depth) k)
       ≡ gathered (suc depth) (ownNumbers (e .set) (e .clear) (suc depth)) cs t =
-      ap (gathered (suc depth) (leafNumbers (e .set) (e .clear)) cs) (D .work .tree ∙ ap (sweep (suc depth) (downTo (e .set) (e .clear) depth) cs p) is)
-      ∙ gathered-after (suc depth) q (areaOf e p) low (downTo (e .set) (e .clear) depth) (leafNumbers (e .set) (e .clear)) (ownNumbers (e .set) (e .clear) (suc depth))
+      ap (gathered (suc depth) (leafNumbers (e .set) (e .clear)) cs)
+      (D .work .tree ∙ ap (sweep (suc depth) (downTo (e .set) (e .clear) depth) cs p) is)
+      ∙ gathered-after (suc depth) q (areaOf e p) low (downTo (e .set) (e .clear) depth) (leafNumbers (e .set) (e .clear))
+      (ownNumbers (e .set) (e .clear) (suc depth))
       (leaf-after (e .set) (e .clear) depth) cs 0 p _ all
       ∙ ap (gathered (suc depth) (ownNumbers (e .set) (e .clear) (suc depth)) cs) (sym is) in
       ap ofWork (sym whole)

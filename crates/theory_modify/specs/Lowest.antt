@@ -1,5 +1,5 @@
--- Refusal 10 by the Arm walk: a survey is broken exactly by the lowest address of the region where the call breaks the house rule, and carries the word that stands
--- there; and an accepted live call keeps the rule. Assumes nothing.
+-- Refusal 10 by the Arm walk: a survey is broken exactly by the lowest address of the region where the call breaks the house rule, and
+-- carries the word that stands there; and an accepted live call keeps the rule.
 use mathlib.Core.Path.{_≡_, refl, sym, ap, ap₂, subst, _∙_}
 use mathlib.Core.Bool.{true, false}
 use mathlib.Core.List.{List}
@@ -29,7 +29,8 @@ use Rattle.theory_tree.specs.Page.{pagesIn, span-size, first, slotOfPage, slot-
 use Rattle.theory_map.specs.Terms.{depthOf, rootIn}
 use Rattle.theory_map.specs.Leaf.{root-fine}
 use Rattle.theory_map.specs.Shown.{slots-are, walk-same, FineEnds, table-ends}
-use Rattle.theory_modify.specs.Terms.{ModifyArguments, Modifies, editAsked, ModifyPassed, surveyed, InModifyRegion, modifyPagesOf, treeAfterModify}
+use Rattle.theory_modify.specs.Terms.{ModifyArguments, Modifies, editAsked, ModifyPassed, surveyed, InModifyRegion, modifyPagesOf}
+use Rattle.theory_modify.specs.Terms.{treeAfterModify}
 use Rattle.theory_modify.specs.House.{reachOf, ValidEntry, Covered, Breaks, LowestBreach, Keeps}
 use Rattle.theory_modify.specs.Word.{valid-edited}
 use Rattle.theory_modify.specs.Asked.{asked-forwards}
@@ -48,7 +49,8 @@ reach-ends : {h : Handle} {s : St} → Shaped h s → SoundPool h s → (va : �
 unfolding reachedAt
 reach-ends {h} {s} shape P va =
     reach-tree shape P va
-    ∙ ap reachedAt (walk-same (slotsTaken va) (slotOfPage (va / 4096)) (suc (depthOf h)) (rootTree h s) (λ l k. slots-are va l (omega arith)))
+    ∙ ap reachedAt
+    (walk-same (slotsTaken va) (slotOfPage (va / 4096)) (suc (depthOf h)) (rootTree h s) (λ l k. slots-are va l (omega arith)))
 
 at-level : {a b v w : ℕ} → at a v ≡ at b w → a ≡ b
 at-level {a} {b} {v} {w} e = let z : a ≡ b = cc in z
@@ -93,7 +95,10 @@ module _ {h : Handle} {c : ModifyArguments} {s : St} (passed : ModifyPassed h c 
     within-covered W =
         let a = start-is in
         let b = span-size n low in
-        record { from = omega (arith, W .from, area passed .inside .startPage); upto = omega (arith, W .upto, area passed .inside .endPage) }
+        record {
+          from = omega (arith, W .from, area passed .inside .startPage);
+          upto = omega (arith, W .upto, area passed .inside .endPage);
+        }
 
   module _ (va : ℕ) where
     abbrev x : Ends
@@ -149,7 +154,8 @@ module _ {h : Handle} {c : ModifyArguments} {s : St} (passed : ModifyPassed h c 
 
     first-breaks : Breaks h c s address w
     first-breaks =
-        of-page address w (page-region passed address (record { from = omega (arith, f .from, back); below = omega (arith, f .below, back) }))
+        of-page address w
+        (page-region passed address (record { from = omega (arith, f .from, back); below = omega (arith, f .below, back) }))
         (subst (λ (y : ℕ). Broken h (e .set) (e .clear) lo hi (ends y) y w) back (f .here))
 
     first-least : (b u : ℕ) → b < address → ¬ (Breaks h c s b u)
@@ -169,14 +175,20 @@ module _ {h : Handle} {c : ModifyArguments} {s : St} (passed : ModifyPassed h c 
         let same : f .page ≡ a / 4096 = go (le-or (f .page) (a / 4096)) (le-or a (f .page * 4096)) in
         sym (subst (λ (y : ℕ). Broken h (e .set) (e .clear) lo hi (ends y) y w) same (f .here) .word) ∙ broken .word
       where
-        go : (f .page ≤ L .address / 4096) ⊎ (L .address / 4096 < f .page) → (L .address ≤ f .page * 4096) ⊎ (f .page * 4096 < L .address) → f .page ≡ L .address / 4096
-        go (inr l) k = absurd (f .least (L .address / 4096) u (region-page passed (L .address) (L .breaks .stands .region) .from) l (to-page (L .address) u (L .breaks)))
+        go : (f .page ≤ L .address / 4096) ⊎ (L .address / 4096 < f .page) → (L .address ≤ f .page * 4096) ⊎ (f .page * 4096 < L .address)
+            → f .page ≡ L .address / 4096
+        go (inr l) k =
+            absurd
+            (f .least (L .address / 4096) u (region-page passed (L .address) (L .breaks .stands .region) .from) l
+            (to-page (L .address) u (L .breaks)))
         go (inl l) (inr k) = absurd (L .least (f .page * 4096) w k first-breaks)
         go (inl l) (inl k) = omega arith
 
   -- where the survey is not broken no address breaks
   kept-none : surveyed h c s .broken ≡ false → Keeps h c s
-  kept-none kept va u B = let page = region-page passed va (B .stands .region) in scanned .none refl kept (va / 4096) u (page .from) (page .below) (to-page va u B)
+  kept-none kept va u B =
+      let page = region-page passed va (B .stands .region) in
+      scanned .none refl kept (va / 4096) u (page .from) (page .below) (to-page va u B)
 
   -- REFUSAL 10, BY THE WALK
   pub survey-lowest : (w : ℕ) → ((surveyed h c s .broken ≡ true) × (surveyed h c s .word ≡ w)) ↔ LowestBreach h c s w
@@ -191,7 +203,8 @@ module _ {h : Handle} {c : ModifyArguments} {s : St} (passed : ModifyPassed h c 
   survey-keeps = (
     kept-none,
     λ keeps. byBool {A = surveyed h c s .broken ≡ false} (surveyed h c s .broken)
-        (λ broken. let L = survey-lowest (surveyed h c s .word) .0 (broken, refl) in absurd (keeps (L .address) (surveyed h c s .word) (L .breaks)))
+        (λ broken. let L = survey-lowest (surveyed h c s .word) .0 (broken, refl) in
+        absurd (keeps (L .address) (surveyed h c s .word) (L .breaks)))
         (λ kept. kept),
   )
 
@@ -203,13 +216,17 @@ module _ {h : Handle} {c : ModifyArguments} {s : St} (passed : ModifyPassed h c 
         (λ bits. absurd (kept-none kept va w (record { level = level; stands = S; rule = inr bits })))
 
     pub kept-covered : Covered c level va
-    kept-covered = go (le-or (rounded (c .start) (c .end) .start .0) (down va (sizeAt level))) (le-or (down va (sizeAt level) + sizeAt level) (rounded (c .start) (c .end) .end .0))
+    kept-covered =
+        go (le-or (rounded (c .start) (c .end) .start .0) (down va (sizeAt level)))
+        (le-or (down va (sizeAt level) + sizeAt level) (rounded (c .start) (c .end) .end .0))
       where
         split : ¬ (¬ (Covered c level va))
         split not = kept-none kept va w (record { level = level; stands = S; rule = inl not })
 
-        go : (rounded (c .start) (c .end) .start .0 ≤ down va (sizeAt level)) ⊎ (down va (sizeAt level) < rounded (c .start) (c .end) .start .0)
-            → (down va (sizeAt level) + sizeAt level ≤ rounded (c .start) (c .end) .end .0) ⊎ (rounded (c .start) (c .end) .end .0 < down va (sizeAt level) + sizeAt level)
+        go : (rounded (c .start) (c .end) .start .0 ≤ down va (sizeAt level))
+            ⊎ (down va (sizeAt level) < rounded (c .start) (c .end) .start .0)
+            → (down va (sizeAt level) + sizeAt level ≤ rounded (c .start) (c .end) .end .0)
+            ⊎ (rounded (c .start) (c .end) .end .0 < down va (sizeAt level) + sizeAt level)
             → Covered c level va
         go (inl a) (inl b) = record { from = a; upto = b }
         go (inr a) b = absurd (split (λ C. omega (arith, C .from)))
@@ -224,10 +241,13 @@ module _ {h : Handle} {c : ModifyArguments} {s : St} (passed : ModifyPassed h c 
         let y : ℕ = va / 4096 in
         let page = region-page passed va (S .region) in
         let v : valid (ends y .word) ≡ true = ap valid (at-word same-end) ∙ valid-of w (S .valid) in
-        let W : WithinPages lo hi (ends y .depth) y = covered-within (ends y .depth) va (low-end va) (subst (λ (l : ℕ). Covered c l va) (sym (at-level same-end)) kept-covered) in
+        let W : WithinPages lo hi (ends y .depth) y =
+        covered-within (ends y .depth) va (low-end va) (subst (λ (l : ℕ). Covered c l va) (sym (at-level same-end)) kept-covered) in
         let new : edited (e .set) (e .clear) (ends y .word) ≡ editWord level e w =
-        sym (valid-edited e (ends y .word) (ends y .depth) (low-end va) (ends-fine y .fine) v) ∙ ap₂ (λ (l x : ℕ). editWord l e x) (at-level same-end) (at-word same-end) in
-        modify-stays (depthOf h) (rootIn h) (modifyPagesOf c) (rootTree h s) y (root-fine (shaped-placed (passed .shape)) (passed .pool)) (region-spans passed va (S .region))
+        sym (valid-edited e (ends y .word) (ends y .depth) (low-end va) (ends-fine y .fine) v)
+        ∙ ap₂ (λ (l x : ℕ). editWord l e x) (at-level same-end) (at-word same-end) in
+        modify-stays (depthOf h) (rootIn h) (modifyPagesOf c) (rootTree h s) y (root-fine (shaped-placed (passed .shape)) (passed .pool))
+        (region-spans passed va (S .region))
         (page .from) (page .below) v W
         ∙ ap (λ (x : ℕ). record { word = x; depth = ends y .depth }) new
 
@@ -236,7 +256,8 @@ module _ {h : Handle} {c : ModifyArguments} {s : St} (passed : ModifyPassed h c 
 
 -- ---- an accepted live call
 
-module _ {h : Handle} {c : ModifyArguments} {s s′ : St} {list list′ : List ℕ} {n k : ℕ} (modifies : Modifies h c s list n k s′ list′) (live : c .live ≡ true) where
+module _ {h : Handle} {c : ModifyArguments} {s s′ : St} {list list′ : List ℕ} {n k : ℕ} (modifies : Modifies h c s list n k s′ list′)
+    (live : c .live ≡ true) where
   was : ModifyPassed h c s
   was = call-passed modifies
 
@@ -245,7 +266,8 @@ module _ {h : Handle} {c : ModifyArguments} {s s′ : St} {list list′ : List �
 
   -- LIVE SAFETY
   pub live-safe : {va level w : ℕ} → ValidEntry h c s va level w
-      → (reachOf h s′ va ≡ at level (editWord level (editAsked c) w)) × (mayChange h w (editWord level (editAsked c) w) ≡ true) × Covered c level va
+      → (reachOf h s′ va ≡ at level (editWord level (editAsked c) w)) × (mayChange h w (editWord level (editAsked c) w) ≡ true)
+      × Covered c level va
   live-safe {va} {level} {w} S = (
     reach-ends (call-shaped modifies) (call-sound modifies) va
         ∙ ap (λ (t : Tree). at (3 - endsOf h t (va / 4096) .depth) (endsOf h t (va / 4096) .word)) (call-tree modifies)

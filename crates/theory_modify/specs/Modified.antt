@@ -1,5 +1,6 @@
--- DOCUMENT 01'S MODIFY, of the call itself: `modifyAnswer` is the definition `modifyCall` that the contract of the public call cites, `walkOf` the Arm walk of the words,
--- and nothing is asked of the pool but that the call is accepted. `shown` is what "as before" compares: kind of answer, frame, flags. Assumes nothing.
+-- DOCUMENT 01'S MODIFY, of the call itself: `modifyAnswer` is the definition `modifyCall` that the contract of the public call cites,
+-- `walkOf` the Arm walk of the words, and nothing is asked of the pool but that the call is accepted. `shown` is what "as before" compares:
+-- kind of answer, frame, flags.
 use mathlib.Core.Path.{_≡_, refl, sym, ap, _∙_}
 use mathlib.Core.Bool.{true, false, cond}
 use mathlib.Core.List.{List, _++_}
@@ -32,11 +33,14 @@ use Rattle.theory_map.specs.Terms.{InSpan, depthOf, rootIn}
 use Rattle.theory_map.specs.Leaf.{root-fine}
 use Rattle.theory_map.specs.Shown.{inBytes, walk-shown}
 use Rattle.theory_map.specs.Place.{span-spans}
-use Rattle.theory_modify.specs.Terms.{ModifyArguments, modifyAnswer, Modifies, editAsked, ModifyPassed, surveyed, InModifyRegion, flagsAfter, modifyPagesOf, treeAfterModify, madeByModify, numbersOf}
+use Rattle.theory_modify.specs.Terms.{ModifyArguments, modifyAnswer, Modifies, editAsked, ModifyPassed, surveyed, InModifyRegion}
+use Rattle.theory_modify.specs.Terms.{flagsAfter, modifyPagesOf, treeAfterModify, madeByModify, numbersOf}
 use Rattle.theory_modify.specs.Numbers.{occurs, firstPage}
 use Rattle.theory_modify.specs.Listed.{changes}
-use Rattle.theory_modify.specs.Call.{workAfter, given, splits-made, numbers-made, numbers-one, numbers-tell, call-full, call-broken, call-short, call-accepted, full-back}
-use Rattle.theory_modify.specs.Call.{broken-back, short-back, call-passed, Clear, call-clear, call-shaped, call-sound, call-tree, call-answer, call-off, call-on}
+use Rattle.theory_modify.specs.Call.{workAfter, given, splits-made, numbers-made, numbers-one, numbers-tell, call-full, call-broken}
+use Rattle.theory_modify.specs.Call.{call-short, call-accepted, full-back}
+use Rattle.theory_modify.specs.Call.{broken-back, short-back, call-passed, Clear, call-clear, call-shaped, call-sound, call-tree}
+use Rattle.theory_modify.specs.Call.{call-answer, call-off, call-on}
 use Rattle.theory_modify.specs.House.{reachOf, ValidEntry, Covered, LowestBreach, Keeps, ModifyFits}
 use Rattle.theory_modify.specs.Lowest.{survey-lowest, survey-keeps, live-safe}
 use Rattle.theory_modify.specs.Change.{bit, houseBit, house-rule-bits}
@@ -51,7 +55,8 @@ record WasMapped (x : Seen) (f p : ℕ) : Type 0 where
 
 was-mapped : (x : Seen) (f p : ℕ) → inBytes x ≡ mapped f p → WasMapped x f p
 unfolding inBytes
-was-mapped (seenMapped g q) f p e = record { frame = q; is = ap (λ (y : ℕ). seenMapped y q) (let z : g ≡ f = cc in z); at = let z : q * 4096 ≡ p = cc in z }
+was-mapped (seenMapped g q) f p e =
+    record { frame = q; is = ap (λ (y : ℕ). seenMapped y q) (let z : g ≡ f = cc in z); at = let z : q * 4096 ≡ p = cc in z }
 was-mapped (seenHole g) f p e = let z : _≡_ {A = ℕ} 0 1 = cc in absurd (omega arith)
 
 was-hole : (x : Seen) (f : ℕ) → inBytes x ≡ hole f → x ≡ seenHole f
@@ -86,7 +91,8 @@ module _ {h : Handle} {c : ModifyArguments} {s s′ : St} {list list′ : List �
 
   after-shown : (va : ℕ) → shown (walkOf h s′ va) ≡ inBytes (seen (suc (depthOf h)) (treeAfterModify h c s) (va / 4096))
   after-shown va =
-      walk-shown (call-shaped modifies) (call-sound modifies) va ∙ ap (λ (t : Tree). inBytes (seen (suc (depthOf h)) t (va / 4096))) (call-tree modifies)
+      walk-shown (call-shaped modifies) (call-sound modifies) va
+      ∙ ap (λ (t : Tree). inBytes (seen (suc (depthOf h)) t (va / 4096))) (call-tree modifies)
 
   module _ (va : ℕ) where
     before-shown : {x : Shown} → shown (walkOf h s va) ≡ x → inBytes (seen (suc (depthOf h)) (rootTree h s) (va / 4096)) ≡ x
@@ -100,33 +106,41 @@ module _ {h : Handle} {c : ModifyArguments} {s s′ : St} {list list′ : List �
           shown (walkOf h s′ va) ≡ inBytes (cond (valid x) (seenMapped x (was-page .frame)) (seenHole x))
       region-after =
           after-shown va
-          ∙ ap inBytes (tree-modified (depthOf h) (rootIn h) (rootTree h s) fine (modifyPagesOf c) (given passed) (va / 4096) (region-spans passed va at) f (was-page .frame)
+          ∙ ap inBytes
+          (tree-modified (depthOf h) (rootIn h) (rootTree h s) fine (modifyPagesOf c) (given passed) (va / 4096)
+          (region-spans passed va at) f (was-page .frame)
           (region-page passed va at) (was-page .is))
 
       -- a page of the region that was mapped keeps its frame, with the flags (flags or set) without clear;
       pub modify-valid-pages : flagsAfter c f % 2 ≡ 1 → shown (walkOf h s′ va) ≡ mapped (flagsAfter c f) p
       modify-valid-pages v =
-          region-after ∙ still-mapped (edited (modifyPagesOf c .set) (modifyPagesOf c .clear) f) (flagsAfter c f) (was-page .frame) (flags-are c f) v
+          region-after
+          ∙ still-mapped (edited (modifyPagesOf c .set) (modifyPagesOf c .clear) f) (flagsAfter c f) (was-page .frame) (flags-are c f) v
           ∙ ap (mapped (flagsAfter c f)) (was-page .at)
 
       -- where that clears VALID it is a hole with these flags;
       pub modify-cleared-pages : flagsAfter c f % 2 ≡ 0 → shown (walkOf h s′ va) ≡ hole (flagsAfter c f)
       modify-cleared-pages v =
-          region-after ∙ now-hole (edited (modifyPagesOf c .set) (modifyPagesOf c .clear) f) (flagsAfter c f) (was-page .frame) (flags-are c f) v
+          region-after
+          ∙ now-hole (edited (modifyPagesOf c .set) (modifyPagesOf c .clear) f) (flagsAfter c f) (was-page .frame) (flags-are c f) v
 
     -- a hole of the region stays as it is;
     pub modify-holes-stay : InModifyRegion c va → {f : ℕ} → shown (walkOf h s va) ≡ hole f → shown (walkOf h s′ va) ≡ hole f
     unfolding inBytes
     modify-holes-stay at {f} was =
         after-shown va
-        ∙ ap inBytes (holes-stay (depthOf h) (rootIn h) (rootTree h s) fine (modifyPagesOf c) (given passed) (va / 4096) (region-spans passed va at) f (region-page passed va at)
+        ∙ ap inBytes
+        (holes-stay (depthOf h) (rootIn h) (rootTree h s) fine (modifyPagesOf c) (given passed) (va / 4096)
+        (region-spans passed va at) f (region-page passed va at)
         (was-hole (seen (suc (depthOf h)) (rootTree h s) (va / 4096)) f (before-shown was)))
 
     -- every other address of the span walks as before;
     pub modify-elsewhere-as-before : InSpan h va → ¬ (InModifyRegion c va) → shown (walkOf h s′ va) ≡ shown (walkOf h s va)
     modify-elsewhere-as-before at other =
         after-shown va
-        ∙ ap inBytes (modify-others (depthOf h) (rootIn h) (rootTree h s) fine (modifyPagesOf c) (given passed) (va / 4096) (span-spans h va (passed .shape .level) at)
+        ∙ ap inBytes
+        (modify-others (depthOf h) (rootIn h) (rootTree h s) fine (modifyPagesOf c) (given passed) (va / 4096)
+        (span-spans h va (passed .shape .level) at)
         (λ of. other (page-region passed va of)))
         ∙ sym (walk-shown (passed .shape) (passed .pool) va)
 
@@ -146,23 +160,28 @@ module _ {h : Handle} {c : ModifyArguments} {s s′ : St} {list list′ : List �
     abbrev number : ℕ
     number = firstPage (suc (depthOf h)) (rootTree h s′) (va / 4096) % 2 ^ 44
 
-    listed : occurs number (numbersOf h c s) ≡ changes (modifyPagesOf c .set) (modifyPagesOf c .clear) (seen (suc (depthOf h)) (rootTree h s) (va / 4096))
+    listed : occurs number (numbersOf h c s)
+        ≡ changes (modifyPagesOf c .set) (modifyPagesOf c .clear) (seen (suc (depthOf h)) (rootTree h s) (va / 4096))
     listed =
         let of = region-page passed va at in
         ap (λ (t : Tree). occurs (firstPage (suc (depthOf h)) t (va / 4096) % 2 ^ 44) (numbersOf h c s)) (call-tree modifies)
         ∙ numbers-tell passed (va / 4096) (of .from) (of .below)
 
     -- stands among the numbers once if the address was mapped and its flags change, and else not at all;
-    pub modify-changed-listed : {f p : ℕ} → shown (walkOf h s va) ≡ mapped f p → occurs number (numbersOf h c s) ≡ cond (eqb (flagsAfter c f) f) 0 1
+    pub modify-changed-listed : {f p : ℕ} → shown (walkOf h s va) ≡ mapped f p
+        → occurs number (numbersOf h c s) ≡ cond (eqb (flagsAfter c f) f) 0 1
     unfolding changes
     modify-changed-listed {f} {p} was =
         let page = was-mapped (seen (suc (depthOf h)) (rootTree h s) (va / 4096)) f p (before-shown va was) in
-        listed ∙ ap (changes (modifyPagesOf c .set) (modifyPagesOf c .clear)) (page .is) ∙ ap (λ (x : ℕ). cond (eqb x f) 0 1) (flags-are c f)
+        listed ∙ ap (changes (modifyPagesOf c .set) (modifyPagesOf c .clear)) (page .is)
+        ∙ ap (λ (x : ℕ). cond (eqb x f) 0 1) (flags-are c f)
 
     pub modify-hole-not-listed : {f : ℕ} → shown (walkOf h s va) ≡ hole f → occurs number (numbersOf h c s) ≡ 0
     unfolding changes
     modify-hole-not-listed {f} was =
-        listed ∙ ap (changes (modifyPagesOf c .set) (modifyPagesOf c .clear)) (was-hole (seen (suc (depthOf h)) (rootTree h s) (va / 4096)) f (before-shown va was))
+        listed
+        ∙ ap (changes (modifyPagesOf c .set) (modifyPagesOf c .clear))
+        (was-hole (seen (suc (depthOf h)) (rootTree h s) (va / 4096)) f (before-shown va was))
 
   -- not live, the list stays untouched;
   pub modify-list-untouched : c .live ≡ false → list′ ≡ list
@@ -174,21 +193,26 @@ module _ {h : Handle} {c : ModifyArguments} {s s′ : St} {list list′ : List �
 
   -- ---- live
 
-  -- live, no valid entry is split and only the house rule's bits change: where the lookups of an address of the region ended at a valid word they end at the same
-  -- level, at that word edited; and the entry lay in the region as a whole
+  -- live, no valid entry is split and only the house rule's bits change: where the lookups of an address of the region ended at a valid
+  -- word they end at the same level, at that word edited; and the entry lay in the region as a whole
   pub modify-live-safe : c .live ≡ true → {va level w : ℕ} → ValidEntry h c s va level w
-      → (reachOf h s′ va ≡ endsAt level (editWord level (editAsked c) w)) × (mayChange h w (editWord level (editAsked c) w) ≡ true) × Covered c level va
+      → (reachOf h s′ va ≡ endsAt level (editWord level (editAsked c) w)) × (mayChange h w (editWord level (editAsked c) w) ≡ true)
+      × Covered c level va
   modify-live-safe live stands = live-safe modifies live stands
 
   -- no bit but 0, 7, 10, 11, 51, 53, 54 and 55 to 58 of the word changes
-  pub modify-live-bits : c .live ≡ true → {va level w : ℕ} → ValidEntry h c s va level w → (i : ℕ) → houseBit i ≡ false → bit i w ≡ bit i (editWord level (editAsked c) w)
-  modify-live-bits live {va} {level} {w} stands = house-rule-bits h w (editWord level (editAsked c) w) .0 (live-safe modifies live stands .1)
+  pub modify-live-bits : c .live ≡ true → {va level w : ℕ} → ValidEntry h c s va level w → (i : ℕ) → houseBit i ≡ false
+      → bit i w ≡ bit i (editWord level (editAsked c) w)
+  modify-live-bits live {va} {level} {w} stands =
+      house-rule-bits h w (editWord level (editAsked c) w) .0 (live-safe modifies live stands .1)
 
 -- ---- THE REFUSALS 9 TO 11
 
 module _ (h : Handle) (c : ModifyArguments) (s : St) (list : List ℕ) where
   -- 9 is given exactly when none of refusals 1 to 8 is, and more tables are made than are free at entry, live or not;
-  pub modify-refused-9-exactly : ((a b : ℕ) × (s′ : St) × (list′ : List ℕ) × (modifyAnswer h c s list ≡ modifying (Refused (WantOfRoom a b)) s′ list′))
+  pub
+      modify-refused-9-exactly : ((a b : ℕ) × (s′ : St) × (list′ : List ℕ)
+      × (modifyAnswer h c s list ≡ modifying (Refused (WantOfRoom a b)) s′ list′))
       ↔ (ModifyPassed h c s × (free (s .ledger) < madeByModify h c s))
   modify-refused-9-exactly = (
     λ at. full-back h c s list (at .4),
@@ -196,12 +220,14 @@ module _ (h : Handle) (c : ModifyArguments) (s : St) (list : List ℕ) where
   )
 
   -- it carries both numbers, and leaves the state and the list as they were;
-  pub modify-refusal-9-carries : {a b : ℕ} {s′ : St} {list′ : List ℕ} → modifyAnswer h c s list ≡ modifying (Refused (WantOfRoom a b)) s′ list′
+  pub modify-refusal-9-carries : {a b : ℕ} {s′ : St} {list′ : List ℕ}
+      → modifyAnswer h c s list ≡ modifying (Refused (WantOfRoom a b)) s′ list′
       → (a ≡ madeByModify h c s) × (b ≡ free (s .ledger)) × (s′ ≡ s) × (list′ ≡ list)
   modify-refusal-9-carries {a} {b} is =
       let back = full-back h c s list is in
       let same = sym is ∙ call-full (back .0) list (back .1) in
-      let p : Refused (WantOfRoom a b) ≡ Refused (WantOfRoom (madeByModify h c s) (free (s .ledger))) = ap (λ (x : Modifying). x .answer) same in (
+      let p : Refused (WantOfRoom a b) ≡ Refused (WantOfRoom (madeByModify h c s) (free (s .ledger))) =
+      ap (λ (x : Modifying). x .answer) same in (
         let e : a ≡ madeByModify h c s = cc in e,
         let e : b ≡ free (s .ledger) = cc in e,
         ap (λ (x : Modifying). x .state) same,
@@ -213,7 +239,9 @@ module _ (h : Handle) (c : ModifyArguments) (s : St) (list : List ℕ) where
   modify-splits-made passed = splits-made passed
 
   -- 10 is given exactly when none of refusals 1 to 9 is, and a live call breaks the house rule;
-  pub modify-refused-10-exactly : ((w : ℕ) × (s′ : St) × (list′ : List ℕ) × (modifyAnswer h c s list ≡ modifying (Refused (HouseRule w)) s′ list′))
+  pub
+      modify-refused-10-exactly : ((w : ℕ) × (s′ : St) × (list′ : List ℕ)
+      × (modifyAnswer h c s list ≡ modifying (Refused (HouseRule w)) s′ list′))
       ↔ (ModifyPassed h c s × (madeByModify h c s ≤ free (s .ledger)) × (c .live ≡ true) × (surveyed h c s .broken ≡ true))
   modify-refused-10-exactly = (
     λ at. broken-back h c s list (at .3),
@@ -229,11 +257,14 @@ module _ (h : Handle) (c : ModifyArguments) (s : St) (list : List ℕ) where
       let p : Refused (HouseRule w) ≡ Refused (HouseRule (surveyed h c s .word)) = ap (λ (x : Modifying). x .answer) same in
       (let e : w ≡ surveyed h c s .word = cc in e, ap (λ (x : Modifying). x .state) same, ap (λ (x : Modifying). x .list) same)
 
-  -- the survey is broken with the word w exactly when w stands at the lowest address, by the Arm walk, where the call breaks the house rule;
-  pub house-rule-lowest : ModifyPassed h c s → (w : ℕ) → ((surveyed h c s .broken ≡ true) × (surveyed h c s .word ≡ w)) ↔ LowestBreach h c s w
+  -- the survey is broken with the word w exactly when w stands at the lowest address, by the Arm walk, where the call breaks the house
+  -- rule;
+  pub house-rule-lowest : ModifyPassed h c s → (w : ℕ)
+      → ((surveyed h c s .broken ≡ true) × (surveyed h c s .word ≡ w)) ↔ LowestBreach h c s w
   house-rule-lowest passed w = survey-lowest passed w
 
-  -- so 10 is given with w exactly when none of refusals 1 to 9 is, the call is live, and w stands at the lowest address where it breaks the house rule;
+  -- so 10 is given with w exactly when none of refusals 1 to 9 is, the call is live, and w stands at the lowest address where it breaks the
+  -- house rule;
   pub modify-refused-10-lowest : (w : ℕ) → (modifyAnswer h c s list ≡ modifying (Refused (HouseRule w)) s list)
       ↔ (ModifyPassed h c s × (madeByModify h c s ≤ free (s .ledger)) × (c .live ≡ true) × LowestBreach h c s w)
   modify-refused-10-lowest w = (
@@ -242,15 +273,25 @@ module _ (h : Handle) (c : ModifyArguments) (s : St) (list : List ℕ) where
         (back .0, back .1, back .2, survey-lowest (back .0) w .0 (back .3, sym (modify-refusal-10-carries is .0))),
     λ broken.
         let found = survey-lowest (broken .0) w .1 (broken .3) in
-        call-broken (broken .0) list (broken .1) (broken .2) (found .0) ∙ ap (λ (x : ℕ). modifying (Refused (HouseRule x)) s list) (found .1),
+        call-broken (broken .0) list (broken .1) (broken .2) (found .0)
+        ∙ ap (λ (x : ℕ). modifying (Refused (HouseRule x)) s list) (found .1),
   )
 
   -- 11 is given exactly when none of refusals 1 to 10 is, and a live call would list more numbers than the list has room for;
-  pub modify-refused-11-exactly : ((n : ℕ) × (s′ : St) × (list′ : List ℕ) × (modifyAnswer h c s list ≡ modifying (Refused (Short n)) s′ list′))
-      ↔ (ModifyPassed h c s × (madeByModify h c s ≤ free (s .ledger)) × (c .live ≡ true) × Keeps h c s × (length list < length (numbersOf h c s)))
+  pub
+      modify-refused-11-exactly : ((n : ℕ) × (s′ : St) × (list′ : List ℕ)
+      × (modifyAnswer h c s list ≡ modifying (Refused (Short n)) s′ list′))
+      ↔ (ModifyPassed h c s × (madeByModify h c s ≤ free (s .ledger)) × (c .live ≡ true) × Keeps h c s
+      × (length list < length (numbersOf h c s)))
   modify-refused-11-exactly = (
     λ at. let back = short-back h c s list (at .3) in (back .0, back .1, back .2, survey-keeps (back .0) .0 (back .3), back .4),
-    λ short. (length (numbersOf h c s), s, list, call-short (short .0) list (short .1) (short .2) (survey-keeps (short .0) .1 (short .3)) (short .4)),
+    λ short. (
+      length (numbersOf h c s),
+      s,
+      list,
+      call-short (short .0) list (short .1) (short .2) (survey-keeps (short .0) .1 (short .3))
+          (short .4),
+    ),
   )
 
   -- it carries the length that is needed, and leaves the state and the list as they were;
@@ -271,7 +312,8 @@ module _ (h : Handle) (c : ModifyArguments) (s : St) (list : List ℕ) where
   modify-numbers-once passed x = numbers-one passed x
 
   -- the call is accepted exactly when none of refusals 1 to 11 is given
-  pub modify-accepted-exactly : ((n k : ℕ) × (s′ : St) × (list′ : List ℕ) × Modifies h c s list n k s′ list′) ↔ (ModifyPassed h c s × ModifyFits h c s list)
+  pub modify-accepted-exactly : ((n k : ℕ) × (s′ : St) × (list′ : List ℕ) × Modifies h c s list n k s′ list′)
+      ↔ (ModifyPassed h c s × ModifyFits h c s list)
   modify-accepted-exactly = (
     λ at.
         let passed = call-passed (at .4) in
@@ -279,6 +321,7 @@ module _ (h : Handle) (c : ModifyArguments) (s : St) (list : List ℕ) where
         (passed, record { room = clear .room; kept = λ on. survey-keeps passed .0 (clear .kept on); enough = clear .enough }),
     λ fits.
         let w = workAfter h c s list in
-        let clear : Clear h c s list = record { room = fits .1 .room; kept = λ on. survey-keeps (fits .0) .1 (fits .1 .kept on); enough = fits .1 .enough } in
+        let clear : Clear h c s list =
+        record { room = fits .1 .room; kept = λ on. survey-keeps (fits .0) .1 (fits .1 .kept on); enough = fits .1 .enough } in
         (used (w .state .ledger), w .count, w .state, w .list, record { answers = call-accepted (fits .0) list clear }),
   )

@@ -1,5 +1,5 @@
--- Numbers put into a lent list one after the other: not live, nothing changes; live and with room, they stand after those before, and the rest of the list stays.
--- Assumes nothing.
+-- Numbers put into a lent list one after the other: not live, nothing changes; live and with room, they stand after those before, and the
+-- rest of the list stays.
 use mathlib.Core.Path.{_≡_, refl, sym, ap, _∙_}
 use mathlib.Core.Bool.{Bool, true, false}
 use mathlib.Core.List.{List, [], _∷_, _++_}
@@ -32,7 +32,8 @@ unfolding putAll
 put-off [] n = refl
 put-off (x ∷ xs) n = ap (putAll false xs) (sym (number-off x (n .count) (n .list) false refl)) ∙ put-off xs n
 
-put-on : (xs : List ℕ) (n : ℕ) (l : List ℕ) → n + length xs ≤ length l → putAll true xs (numbered n l) ≡ numbered (n + length xs) (sets l n xs)
+put-on : (xs : List ℕ) (n : ℕ) (l : List ℕ) → n + length xs ≤ length l
+    → putAll true xs (numbered n l) ≡ numbered (n + length xs) (sets l n xs)
 unfolding putAll
 put-on [] n l h = ap (λ (k : ℕ). numbered k l) (let e : n ≡ n + 0 = omega arith in e)
 put-on (x ∷ xs) n l h =

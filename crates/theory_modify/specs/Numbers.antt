@@ -1,5 +1,6 @@
--- The numbers that a live modify lists, on the tree before it (document 01, "Putting down a map", Modify): "the page number (address / 4096 mod 2^44) of each valid
--- entry whose word changed: a lower table's numbers when that table is finished, a table's own last, ascending". Definitions alone. Assumes nothing.
+-- The numbers that a live modify lists, on the tree before it (document 01, "Putting down a map", Modify): "the page number (address / 4096
+-- mod 2^44) of each valid entry whose word changed: a lower table's numbers when that table is finished, a table's own last, ascending".
+-- Definitions alone.
 use mathlib.Core.Bool.{not, cond, _&&_}
 use mathlib.Core.List.{List, [], _∷_, _++_}
 use Prim.Native.Nat.{ℕ, zero, suc, _+_, _-_, _/_, _%_, _^_}

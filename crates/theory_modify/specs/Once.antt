@@ -1,5 +1,5 @@
--- No number is listed twice: each chunk lists its own page's number or those of the chunks below it, chunks share no page, and a region has fewer than 2^44 pages.
--- Assumes nothing.
+-- No number is listed twice: each chunk lists its own page's number or those of the chunks below it, chunks share no page, and a region has
+-- fewer than 2^44 pages.
 use mathlib.Core.Path.{_≡_, refl, sym, ap, ap₂, subst, _∙_}
 use mathlib.Core.Bool.{not, _&&_}
 use mathlib.Core.List.{List, [], _∷_, _++_, append-nil}
@@ -64,12 +64,14 @@ module _ (set clear x : ℕ) where
 
   changed-few : (c : MemoryRegion) (w : ℕ) → c .start .0 / 4096 < c .end .0 / 4096 → Few x c (occurs x (changedNumber set clear c w))
   unfolding changedNumber
-  changed-few c w some = byBool (valid w && not (eqb (edited set clear w) w)) (λ e. rw e (one-few c some)) (λ e. rw e (none-few c (omega arith)))
+  changed-few c w some =
+      byBool (valid w && not (eqb (edited set clear w) w)) (λ e. rw e (one-few c some)) (λ e. rw e (none-few c (omega arith)))
 
   -- ---- a table
 
   module _ (depth q : ℕ) (m : Map) (f : MemoryRegion → Tree → List ℕ) (t : Tree)
-      (each : (c : MemoryRegion) (p : ℕ) (u : Tree) → Piece depth (child q (slotAt depth c)) (chunkMap m c p) → Few x c (occurs x (f c u))) where
+      (each : (c : MemoryRegion) (p : ℕ) (u : Tree) → Piece depth (child q (slotAt depth c)) (chunkMap m c p)
+      → Few x c (occurs x (f c u))) where
     pub gathered-few : {level s e : ℕ} {cs : List MemoryRegion} → Tiles level e s cs → (a p : ℕ) → Pieces depth q m a p cs → s ≤ e
         → occurs x (gathered depth f cs t) + pagesBelow x (s / 4096) ≤ pagesBelow x (e / 4096)
     unfolding gathered occurs
@@ -82,7 +84,9 @@ module _ (set clear x : ℕ) where
         omega (arith, occurs-append x (f c u) (gathered depth f cs t))
 
   abbrev pub Once : ℕ → Type 0
-  Once depth = (q : ℕ) (m : Map) (t : Tree) → Area depth q m → m .region .start .0 ≤ m .region .end .0 → Few x (m .region) (occurs x (tableNumbers set clear depth (m .region) t))
+  Once depth =
+      (q : ℕ) (m : Map) (t : Tree) → Area depth q m → m .region .start .0 ≤ m .region .end .0
+      → Few x (m .region) (occurs x (tableNumbers set clear depth (m .region) t))
 
   pub piece-some : {depth q : ℕ} {m : Map} → Piece depth q m → m .region .start .0 / 4096 < m .region .end .0 / 4096
   piece-some piece = omega (arith, piece .some, piece .inside .startPage, piece .inside .endPage)
@@ -102,10 +106,12 @@ module _ (set clear x : ℕ) where
     entryNumbers u = lowerNumbers set clear rec depth c u ++ ownNumbers set clear (suc depth) c u
 
     -- a chunk that goes down lists what the table below does
-    goes-few : (u v : Tree) → lowerNumbers set clear rec depth c u ≡ rec c v → ownNumbers set clear (suc depth) c u ≡ [] → Few x c (occurs x (entryNumbers u))
+    goes-few : (u v : Tree) → lowerNumbers set clear rec depth c u ≡ rec c v → ownNumbers set clear (suc depth) c u ≡ []
+        → Few x c (occurs x (entryNumbers u))
     goes-few u v a b =
         let same : occurs x (entryNumbers u) ≡ occurs x (rec c v) = ap₂ (λ (y z : List ℕ). occurs x (y ++ z)) a b ∙ nil-occurs (rec c v) in
-        subst (Few x c) (sym same) (once q (chunkMap m c p) v (record { inside = piece .inside; room = piece .room }) (omega (arith, piece .some)))
+        subst (Few x c) (sym same)
+        (once q (chunkMap m c p) v (record { inside = piece .inside; room = piece .room }) (omega (arith, piece .some)))
 
     pub entry-few : (u : Tree) → Few x c (occurs x (entryNumbers u))
     entry-few (leaf w) = byBool (whole (3 - suc depth) c)
@@ -130,7 +136,12 @@ module _ (set clear x : ℕ) where
       (λ c p u piece. entry-few depth (child q (slotAt (suc depth) c)) p m c (table-few depth (omega arith)) piece u)
       (chunks-tile (3 - suc depth) (m .region .start .0) (m .region .end .0)) 0 (m .frame .0)
       (pieces (suc depth) q m low (m .frame .0) (m .region) (record { inside = area .inside; room = area .room })) some in
-      omega (arith, occurs-both x (suc depth) lower own cs t, occurs-append x (gathered (suc depth) lower cs t) (gathered (suc depth) own cs t))
+      omega (
+        arith,
+        occurs-both x (suc depth) lower own cs t,
+        occurs-append x (gathered (suc depth) lower cs t)
+            (gathered (suc depth) own cs t),
+      )
 
   -- EACH NUMBER ONCE
   pub numbers-once : (depth q : ℕ) (m : Map) (t : Tree) → depth ≤ 3 → Area depth q m → m .region .start .0 ≤ m .region .end .0

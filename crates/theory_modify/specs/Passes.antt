@@ -1,5 +1,5 @@
--- The document's modify of a table is two passes over its chunks: first those that go down, then the table's own entries. On trees, where a chunk stands in a slot
--- of its own. Assumes nothing.
+-- The document's modify of a table is two passes over its chunks: first those that go down, then the table's own entries. On trees, where a
+-- chunk stands in a slot of its own.
 use mathlib.Core.Path.{_≡_, refl, sym, ap, _∙_}
 use mathlib.Core.Bool.{true, false, cond}
 use mathlib.Core.List.{List, [], _∷_}
@@ -44,7 +44,8 @@ at-other i j f g (node u) other = node-ext (λ x. go x (eq-or x i))
 
 module _ (depth q : ℕ) (m : Map) (low : depth ≤ 3) where
   -- a slot that comes before the chunks
-  sweep-past : (f : MemoryRegion → ℕ → Tree → Tree) (g : Tree → Tree) (cs : List MemoryRegion) (i a p : ℕ) (t : Tree) → Pieces depth q m a p cs → i < a
+  sweep-past : (f : MemoryRegion → ℕ → Tree → Tree) (g : Tree → Tree) (cs : List MemoryRegion) (i a p : ℕ) (t : Tree)
+      → Pieces depth q m a p cs → i < a
       → atSlot i g (sweep depth f cs p t) ≡ sweep depth f cs p (atSlot i g t)
   unfolding sweep
   sweep-past f g [] i a p t all l = refl
@@ -64,7 +65,8 @@ module _ (depth q : ℕ) (m : Map) (low : depth ≤ 3) where
       let p′ : ℕ = p + (c .end .0 - c .start .0) in
       let i : ℕ = entryIndex (3 - depth) (c .start .0) in
       ap (sweep depth g cs p′)
-      (sweep-past f (g c p) cs i (suc (slotAt depth c)) p′ (atSlot i (f c p) t) (all .1) (omega arith) ∙ ap (sweep depth f cs p′) (at-same i (f c p) (g c p) t))
+      (sweep-past f (g c p) cs i (suc (slotAt depth c)) p′ (atSlot i (f c p) t) (all .1) (omega arith)
+      ∙ ap (sweep depth f cs p′) (at-same i (f c p) (g c p) t))
       ∙ sweep-twice f g cs (suc (slotAt depth c)) p′ (atSlot i (λ u. g c p (f c p u)) t) (all .1)
 
 -- ---- the two passes
@@ -96,12 +98,14 @@ module _ (set clear : ℕ) where
     down-into f = refl
 
     pub takes-part : (w : ℕ) → whole (3 - suc depth) c ≡ false
-        → needed (documentModify set clear) (suc depth) c p (leaf w) ≡ splits (leaf w) + neededTable (documentModify set clear) depth c p (opened depth (leaf w))
+        → needed (documentModify set clear) (suc depth) c p (leaf w)
+        ≡ splits (leaf w) + neededTable (documentModify set clear) depth c p (opened depth (leaf w))
     unfolding needed neededTable documentModify counted
     takes-part w e = rw e
 
     pub takes-into : (f : ℕ → Tree)
-        → needed (documentModify set clear) (suc depth) c p (node f) ≡ splits (node f) + neededTable (documentModify set clear) depth c p (opened depth (node f))
+        → needed (documentModify set clear) (suc depth) c p (node f)
+        ≡ splits (node f) + neededTable (documentModify set clear) depth c p (opened depth (node f))
     unfolding needed neededTable documentModify counted
     takes-into f = refl
 
@@ -144,11 +148,13 @@ module _ (set clear : ℕ) where
   passes-page c p (leaf w) = refl
   passes-page c p (node f) = refl
 
-  passes : (depth : ℕ) (c : MemoryRegion) (p : ℕ) (t : Tree) → ownTo (downTo depth c p t) ≡ chunked (documentModify set clear) (suc depth) c p t
+  passes : (depth : ℕ) (c : MemoryRegion) (p : ℕ) (t : Tree)
+      → ownTo (downTo depth c p t) ≡ chunked (documentModify set clear) (suc depth) c p t
   unfolding downTo chunked chunkedTable documentModify opened obey
   passes depth c p (leaf w) = byBool (whole (3 - suc depth) c)
       (λ e. rw e (own-leaf w ∙ edit-stops w (leaf w) (leaf w) _))
-      (λ e. rw e (ap ownTo (ap (chunkedTable (documentModify set clear) depth c p) (fill-node depth w)) ∙ own-table depth c p (fillSlot depth w)
+      (λ e. rw e
+      (ap ownTo (ap (chunkedTable (documentModify set clear) depth c p) (fill-node depth w)) ∙ own-table depth c p (fillSlot depth w)
       ∙ sym (ap (chunkedTable (documentModify set clear) depth c p) (fill-node depth w))))
   passes depth c p (node f) = own-table depth c p f
 

@@ -1,4 +1,4 @@
--- Addresses of the call's region, in pages of the root's tree. Assumes nothing.
+-- Addresses of the call's region, in pages of the root's tree.
 use Prim.Native.Nat.{ℕ, suc, _/_}
 use Rattle.region.specs.Region.{rounded}
 use Rattle.pool.specs.State.{St}

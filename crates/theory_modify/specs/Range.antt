@@ -1,5 +1,5 @@
--- A modify of a table of a sound pool does on lists what the document's loop does on the table's tree, with no more tables than that needs: no split meets a
--- full pool. Assumes nothing.
+-- A modify of a table of a sound pool does on lists what the document's loop does on the table's tree, with no more tables than that needs:
+-- no split meets a full pool.
 use mathlib.Core.Path.{_≡_, refl, sym, ap, subst, subst₂, _∙_}
 use mathlib.Core.Bool.{true, false}
 use mathlib.Core.List.{List, [], _∷_}
@@ -21,7 +21,8 @@ use Rattle.modify_entry.specs.declared.Edit.{Edit}
 use Rattle.modify_entry.specs.Word.{editWord}
 use Rattle.modify_entry.specs.Each.{eachOf, eachChunk, chunkEdit}
 use Rattle.modify_entry.specs.Own.{Numbered, putNumber, Noted, noted, ownChunk, ownRange, own-same, own-changed}
-use Rattle.modify_range.specs.Range.{Work, work, own, ownWork, modifyRange, own-table, own-leaf, downStep, modify-pages, modify-open, step-own, step-into}
+use Rattle.modify_range.specs.Range.{Work, work, own, ownWork, modifyRange, own-table, own-leaf, downStep, modify-pages, modify-open}
+use Rattle.modify_range.specs.Range.{step-own, step-into}
 use Rattle.theory_forest.specs.Tree.{Tree, leaf}
 use Rattle.theory_forest.specs.Sound.{TableWord}
 use Rattle.theory_forest.specs.Keep.{slot-leaf}
@@ -42,7 +43,8 @@ use Rattle.theory_map.specs.Pieces.{Area, slotAt, pieces}
 use Rattle.theory_map.specs.Down.{SlotHolds, holds-table, holds-leaf, Opens, holds, opens}
 use Rattle.theory_map.specs.Loop.{through, loop}
 use Rattle.theory_modify.specs.Word.{Bits, table-stays, hole-stays, valid-edited, edited-stands}
-use Rattle.theory_modify.specs.Passes.{ownTo, downTo, own-valid, own-hole, own-node, down-whole, down-part, down-into, takes-part, takes-into, pages-pass, two-passes}
+use Rattle.theory_modify.specs.Passes.{ownTo, downTo, own-valid, own-hole, own-node, down-whole, down-part, down-into, takes-part}
+use Rattle.theory_modify.specs.Passes.{takes-into, pages-pass, two-passes}
 
 -- ---- the document's loop on trees, for an edit of a table's region; p is a frame, which is not read
 
@@ -57,7 +59,8 @@ abbrev pub areaOf : Edit → ℕ → Map
 areaOf e p = record { region = e .region; frame = record { 0 = p }; flags = 0; blocks = false }
 
 -- the loop over the chunks
-pub through-of : {S : Type 0} (f : MemoryRegion → S → S) (cs : List MemoryRegion) (p : ℕ) (x : S) → through (λ c y z. f c z) cs p x ≡ eachOf f cs x
+pub through-of : {S : Type 0} (f : MemoryRegion → S → S) (cs : List MemoryRegion) (p : ℕ) (x : S)
+    → through (λ c y z. f c z) cs p x ≡ eachOf f cs x
 unfolding through eachOf
 through-of f [] p x = refl
 through-of f (c ∷ cs) p x = through-of f cs (p + (c .end .0 - c .start .0)) (f c x)
@@ -75,7 +78,8 @@ none-taken depth (c ∷ cs) p t = let z = none-taken depth cs (p + (c .end .0 - 
 module _ {h : Handle} (placed : Placed h) where
   -- ---- a table's own entries
 
-  module _ (depth k : ℕ) (e : Edit) (ledger : List ℕ) (bits : Bits h e) (c : MemoryRegion) (n : Noted) (R : Ready placed (st (n .words) ledger) depth k) where
+  module _ (depth k : ℕ) (e : Edit) (ledger : List ℕ) (bits : Bits h e) (c : MemoryRegion) (n : Noted)
+      (R : Ready placed (st (n .words) ledger) depth k) where
     abbrev s : St
     s = st (n .words) ledger
 
@@ -99,7 +103,8 @@ module _ {h : Handle} (placed : Placed h) where
 
     stays : new ≡ w → ownTo (e .set) (e .clear) t ≡ t → Goal
     stays same tree =
-        subst₂ (λ (x : Noted) (u : Tree). Slotted placed s (st (x .words) ledger) depth k i u 0) (own-same k (3 - depth) e c n refl refl same) (sym tree) (kept placed R i 0)
+        subst₂ (λ (x : Noted) (u : Tree). Slotted placed s (st (x .words) ledger) depth k i u 0)
+        (own-same k (3 - depth) e c n refl refl same) (sym tree) (kept placed R i 0)
 
     -- a leaf
     module _ (old : ¬ (TableWord (levelAt s k) w)) (shows : t ≡ leaf w) where
@@ -129,14 +134,16 @@ module _ {h : Handle} (placed : Placed h) where
       leaf-works = byBool (valid w) leaf-edited
           (λ v. stays (hole-stays e w (3 - depth) v) (ap (ownTo (e .set) (e .clear)) shows ∙ own-hole (e .set) (e .clear) w v ∙ sym shows))
 
-  pub own-works : (depth k : ℕ) (e : Edit) (ledger : List ℕ) (bits : Bits h e) (c : MemoryRegion) (n : Noted) (R : Ready placed (st (n .words) ledger) depth k)
+  pub own-works : (depth k : ℕ) (e : Edit) (ledger : List ℕ) (bits : Bits h e) (c : MemoryRegion) (n : Noted)
+      (R : Ready placed (st (n .words) ledger) depth k)
       → Goal depth k e ledger bits c n R
   own-works zero k e ledger bits c n R =
       let old : ¬ (TableWord (levelAt (st (n .words) ledger) k) (w 0 k e ledger bits c n R)) = λ table. omega (arith, R .low, table .0) in
       leaf-works 0 k e ledger bits c n R old
       (slot-leaf (codecOf h placed) (view (st (n .words) ledger)) 0 k (i 0 k e ledger bits c n R) (R .low)
       (word-in (st (n .words) ledger) k (i 0 k e ledger bits c n R) (inside 0 k e ledger bits c n R)) old)
-  own-works (suc depth) k e ledger bits c n R = go (holds placed R (i (suc depth) k e ledger bits c n R) (inside (suc depth) k e ledger bits c n R))
+  own-works (suc depth) k e ledger bits c n R =
+      go (holds placed R (i (suc depth) k e ledger bits c n R) (inside (suc depth) k e ledger bits c n R))
     where
       go : SlotHolds placed (st (n .words) ledger) depth k (i (suc depth) k e ledger bits c n R) → Goal (suc depth) k e ledger bits c n R
       go (holds-table j r both leads shows) =
@@ -146,28 +153,36 @@ module _ {h : Handle} (placed : Placed h) where
 
   own-pass : (depth q k p : ℕ) (e : Edit) (w : Work) → depth ≤ 3 → Bits h e → Area depth q (areaOf e p) → Ready placed (w .state) depth k
       → Worked placed (w .state) (ownWork k (3 - depth) e w .state) depth k
-      (sweep depth (λ c x u. ownTo (e .set) (e .clear) u) (chunks (3 - depth) (e .region .start .0) (e .region .end .0)) p (treeFrom h (w .state) depth k)) 0
+      (sweep depth (λ c x u. ownTo (e .set) (e .clear) u) (chunks (3 - depth) (e .region .start .0) (e .region .end .0)) p
+      (treeFrom h (w .state) depth k)) 0
   unfolding ownWork ownRange
   own-pass depth q k p e w low bits area R =
       let t : Tree = treeFrom h (w .state) depth k in
       let cs : List MemoryRegion = chunks (3 - depth) (e .region .start .0) (e .region .end .0) in
       let none : tallied depth (λ c x u. 0) cs p t ≡ 0 = none-taken depth cs p t in
       let n : Noted = noted (w .state .words) (w .list) (w .count) in
-      let W = loop placed (λ (x : Noted). st (x .words) (w .state .ledger)) (λ c x y. ownChunk k (3 - depth) e c y) (λ c x u. ownTo (e .set) (e .clear) u) (λ c x u. 0)
-      depth q k (areaOf e p) low (λ c x y piece ready enough. own-works depth k e (w .state .ledger) bits c y ready) cs 0 p n (pieces depth q (areaOf e p) low p (e .region) area) R
+      let W = loop placed (λ (x : Noted). st (x .words) (w .state .ledger)) (λ c x y. ownChunk k (3 - depth) e c y)
+      (λ c x u. ownTo (e .set) (e .clear) u) (λ c x u. 0)
+      depth q k (areaOf e p) low (λ c x y piece ready enough. own-works depth k e (w .state .ledger) bits c y ready) cs 0 p n
+      (pieces depth q (areaOf e p) low p (e .region) area) R
       (omega arith) in
-      subst₂ (λ (x : Noted) (cost : ℕ). Worked placed (w .state) (st (x .words) (w .state .ledger)) depth k (sweep depth (λ c y u. ownTo (e .set) (e .clear) u) cs p t) cost)
+      subst₂
+      (λ (x : Noted) (cost : ℕ). Worked placed (w .state) (st (x .words) (w .state .ledger)) depth k
+      (sweep depth (λ c y u. ownTo (e .set) (e .clear) u) cs p t) cost)
       (through-chunks (3 - depth) (ownChunk k (3 - depth) e) (e .region) p n) none W
 
   -- ---- the chunks that go down
 
   -- a modify of a table with `depth` levels below its own does on lists what it does on the table's tree
   abbrev pub Edits : ℕ → Type 0
-  Edits depth = (q k p : ℕ) (e : Edit) (w : Work) → Bits h e → Area depth q (areaOf e p) → Ready placed (w .state) depth k → let t = treeFrom h (w .state) depth k in
+  Edits depth =
+      (q k p : ℕ) (e : Edit) (w : Work) → Bits h e → Area depth q (areaOf e p) → Ready placed (w .state) depth k
+      → let t = treeFrom h (w .state) depth k in
       editTakes e depth p t ≤ free (w .state .ledger)
       → Worked placed (w .state) (modifyRange depth h k e w .state) depth k (editTable e depth p t) (editTakes e depth p t)
 
-  module _ (depth q k : ℕ) (e : Edit) (bits : Bits h e) (edits : Edits depth) (c : MemoryRegion) (p : ℕ) (x : Work) (piece : Piece (suc depth) q (areaOf (chunkEdit e c) p))
+  module _ (depth q k : ℕ) (e : Edit) (bits : Bits h e) (edits : Edits depth) (c : MemoryRegion) (p : ℕ) (x : Work)
+      (piece : Piece (suc depth) q (areaOf (chunkEdit e c) p))
       (R : Ready placed (x .state) (suc depth) k) where
     abbrev level : ℕ
     level = 3 - suc depth
@@ -199,17 +214,22 @@ module _ {h : Handle} (placed : Placed h) where
         ∙ step-into h k level e c x refl goes (O .found) (O .table) refl
 
     by-down : count u ≤ free (x .state .ledger) → own level c y ≡ false
-        → downTo (e .set) (e .clear) depth c p u ≡ editTable (chunkEdit e c) depth p (opened depth u) → count u ≡ splits u + editTakes (chunkEdit e c) depth p (opened depth u) → Down
+        → downTo (e .set) (e .clear) depth c p u ≡ editTable (chunkEdit e c) depth p (opened depth u)
+        → count u ≡ splits u + editTakes (chunkEdit e c) depth p (opened depth u) → Down
     by-down room goes tree all =
         let O = opens placed R j slot (omega arith) in
         let fewer = O .room in
         let w : Work = work (O .state) (x .list) (x .count) in
-        let W = edits q (O .table) p (chunkEdit e c) w (record { set = bits .set; clear = bits .clear }) (record { inside = piece .inside; room = piece .room }) (O .ready)
+        let W = edits q (O .table) p (chunkEdit e c) w (record { set = bits .set; clear = bits .clear })
+        (record { inside = piece .inside; room = piece .room }) (O .ready)
         (subst (λ (v : Tree). editTakes (chunkEdit e c) depth p v ≤ free (O .state .ledger)) (sym (O .shows)) (omega arith)) in
         let W′ = subst (λ (v : Tree). Worked placed (O .state) (modifyRange depth h (O .table) (chunkEdit e c) w .state) depth (O .table)
         (editTable (chunkEdit e c) depth p v) (editTakes (chunkEdit e c) depth p v)) (O .shows) W in
-        subst (λ (z : Work). Slotted placed (x .state) (z .state) (suc depth) k j (downTo (e .set) (e .clear) depth c p u) (count u)) (goes-down O goes)
-        (subst₂ (λ (v : Tree) (n : ℕ). Slotted placed (x .state) (modifyRange depth h (O .table) (chunkEdit e c) w .state) (suc depth) k j v n) (sym tree) (sym all) (O .back W′))
+        subst (λ (z : Work). Slotted placed (x .state) (z .state) (suc depth) k j (downTo (e .set) (e .clear) depth c p u) (count u))
+        (goes-down O goes)
+        (subst₂
+        (λ (v : Tree) (n : ℕ). Slotted placed (x .state) (modifyRange depth h (O .table) (chunkEdit e c) w .state) (suc depth) k j v n)
+        (sym tree) (sym all) (O .back W′))
 
     pub down-works : count u ≤ free (x .state .ledger) → Down
     unfolding whole
@@ -224,19 +244,25 @@ module _ {h : Handle} (placed : Placed h) where
         go : SlotHolds placed (x .state) depth k j → Down
         go (holds-table a r both leads shows) =
             by-down room (sym (own-table level c y both))
-            (ap (downTo set clear depth c p) shows ∙ down-into set clear depth c p _ ∙ sym (ap (λ (v : Tree). editTable (chunkEdit e c) depth p (opened depth v)) shows))
-            (ap count shows ∙ takes-into set clear depth c p _ ∙ sym (ap (λ (v : Tree). splits v + editTakes (chunkEdit e c) depth p (opened depth v)) shows))
+            (ap (downTo set clear depth c p) shows ∙ down-into set clear depth c p _
+            ∙ sym (ap (λ (v : Tree). editTable (chunkEdit e c) depth p (opened depth v)) shows))
+            (ap count shows ∙ takes-into set clear depth c p _
+            ∙ sym (ap (λ (v : Tree). splits v + editTakes (chunkEdit e c) depth p (opened depth v)) shows))
         go (holds-leaf old other shows) = byBool (whole level c)
             (λ all. subst₂ (λ (z : Work) (v : Tree). Slotted placed (x .state) (z .state) (suc depth) k j v (count u))
-            (step-own h k level e c x refl (sym (own-leaf level c y other) ∙ all)) (shows ∙ sym (ap (downTo set clear depth c p) shows ∙ down-whole set clear depth c p y all))
+            (step-own h k level e c x refl (sym (own-leaf level c y other) ∙ all))
+            (shows ∙ sym (ap (downTo set clear depth c p) shows ∙ down-whole set clear depth c p y all))
             (kept placed R j (count u)))
             (λ part. by-down room (sym (own-leaf level c y other) ∙ part)
-            (ap (downTo set clear depth c p) shows ∙ down-part set clear depth c p y part ∙ sym (ap (λ (v : Tree). editTable (chunkEdit e c) depth p (opened depth v)) shows))
-            (ap count shows ∙ takes-part set clear depth c p y part ∙ sym (ap (λ (v : Tree). splits v + editTakes (chunkEdit e c) depth p (opened depth v)) shows)))
+            (ap (downTo set clear depth c p) shows ∙ down-part set clear depth c p y part
+            ∙ sym (ap (λ (v : Tree). editTable (chunkEdit e c) depth p (opened depth v)) shows))
+            (ap count shows ∙ takes-part set clear depth c p y part
+            ∙ sym (ap (λ (v : Tree). splits v + editTakes (chunkEdit e c) depth p (opened depth v)) shows)))
 
   -- ---- a table
 
-  pub down-pass : (depth q k p : ℕ) (e : Edit) (w : Work) → suc depth ≤ 3 → Edits depth → Bits h e → Area (suc depth) q (areaOf e p) → Ready placed (w .state) (suc depth) k
+  pub down-pass : (depth q k p : ℕ) (e : Edit) (w : Work) → suc depth ≤ 3 → Edits depth → Bits h e → Area (suc depth) q (areaOf e p)
+      → Ready placed (w .state) (suc depth) k
       → let t = treeFrom h (w .state) (suc depth) k in let cs = chunks (3 - suc depth) (e .region .start .0) (e .region .end .0) in
       editTakes e (suc depth) p t ≤ free (w .state .ledger)
       → Worked placed (w .state) (eachChunk (3 - suc depth) (downStep h k (3 - suc depth) e) (e .region) w .state) (suc depth) k
@@ -250,7 +276,9 @@ module _ {h : Handle} (placed : Placed h) where
       (λ c x y piece ready enough. down-works depth (child q (slotAt (suc depth) c)) k e bits edits c x y
       (record { inside = piece .inside; some = piece .some; room = piece .room }) ready enough)
       cs 0 p w (pieces (suc depth) q (areaOf e p) low p (e .region) area) R room in
-      subst (λ (x : Work). Worked placed (w .state) (x .state) (suc depth) k (sweep (suc depth) (downTo (e .set) (e .clear) depth) cs p t) (editTakes e (suc depth) p t))
+      subst
+      (λ (x : Work). Worked placed (w .state) (x .state) (suc depth) k (sweep (suc depth) (downTo (e .set) (e .clear) depth) cs p t)
+      (editTakes e (suc depth) p t))
       (through-chunks (3 - suc depth) (downStep h k (3 - suc depth) e) (e .region) p w) W
 
   edits-pages : Edits 0
@@ -258,7 +286,8 @@ module _ {h : Handle} (placed : Placed h) where
   edits-pages q k p e w bits area R room =
       let t : Tree = treeFrom h (w .state) 0 k in
       let W = own-pass 0 q k p e w (omega arith) bits area R in
-      let W′ = subst₂ (λ (x : Work) (v : Tree). Worked placed (w .state) (x .state) 0 k v 0) (modify-pages h k 3 e w (omega arith) (omega arith))
+      let W′ = subst₂ (λ (x : Work) (v : Tree). Worked placed (w .state) (x .state) 0 k v 0)
+      (modify-pages h k 3 e w (omega arith) (omega arith))
       (pages-pass (e .set) (e .clear) (e .region) p t) W in
       record { work = W′ .work; same-tables = W′ .same-tables; same-words = W′ .same-words; spare = omega (arith, W′ .spare) }
 
@@ -271,9 +300,11 @@ module _ {h : Handle} (placed : Placed h) where
       let W = own-pass (suc depth) q k p e mid low bits area (worked-ready placed R D) in
       let cs : List MemoryRegion = chunks level (e .region .start .0) (e .region .end .0) in
       let all = pieces (suc depth) q (areaOf e p) low p (e .region) area in
-      let tree = ap (sweep (suc depth) (λ c x u. ownTo (e .set) (e .clear) u) cs p) (D .work .tree) ∙ two-passes (e .set) (e .clear) (e .region) p t depth q (areaOf e p) low all in
+      let tree = ap (sweep (suc depth) (λ c x u. ownTo (e .set) (e .clear) u) cs p) (D .work .tree)
+      ∙ two-passes (e .set) (e .clear) (e .region) p t depth q (areaOf e p) low all in
       let up : 3 - level ≡ suc depth = omega arith in
-      let is : ownWork k level e mid ≡ modifyRange (suc depth) h k e w = modify-open h k level e w (omega arith) ∙ ap (λ (d : ℕ). modifyRange d h k e w) up in
+      let is : ownWork k level e mid ≡ modifyRange (suc depth) h k e w =
+      modify-open h k level e w (omega arith) ∙ ap (λ (d : ℕ). modifyRange d h k e w) up in
       let V′ = worked-twice placed R D W in
       let cost : editTakes e (suc depth) p t + 0 ≡ editTakes e (suc depth) p t = omega arith in
       subst (λ (x : Work). Worked placed (w .state) (x .state) (suc depth) k (editTable e (suc depth) p t) (editTakes e (suc depth) p t)) is

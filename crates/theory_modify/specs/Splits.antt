@@ -1,4 +1,4 @@
--- The splits that a survey counts are the new tables that the document's modify takes. Assumes nothing.
+-- The splits that a survey counts are the new tables that the document's modify takes.
 use mathlib.Core.Path.{_≡_, refl, sym, ap, _∙_}
 use mathlib.Core.Bool.{true, false}
 use mathlib.Core.List.{List, [], _∷_}
@@ -23,7 +23,8 @@ use Rattle.modify_entry.specs.Word.{editWord}
 use Rattle.modify_entry.specs.Each.{eachOf, eachChunk, chunkEdit}
 use Rattle.modify_survey.specs.declared.Survey.{Survey}
 use Rattle.modify_survey.specs.House.{mayChange}
-use Rattle.modify_survey.specs.Find.{adding, splitsIn, breach, ifBlock, surveyPart, surveyWhole, surveyEntry, surveySub, surveyChunk, surveyRange, entry-whole, entry-part}
+use Rattle.modify_survey.specs.Find.{adding, splitsIn, breach, ifBlock, surveyPart, surveyWhole, surveyEntry, surveySub, surveyChunk}
+use Rattle.modify_survey.specs.Find.{surveyRange, entry-whole, entry-part}
 use Rattle.theory_forest.specs.Tree.{Tree, leaf, node, treeAt-node}
 use Rattle.theory_sound.specs.Codec.{Placed, childOf, slotWord, treeFrom}
 use Rattle.theory_tree.specs.Word.{fillWord}
@@ -54,7 +55,8 @@ fold-tally m f depth count t each (c ∷ cs) p x =
 
 pub chunks-tally : {S : Type 0} (m : S → ℕ) (f : MemoryRegion → S → S) (depth : ℕ) (count : MemoryRegion → ℕ → Tree → ℕ) (t : Tree)
     → ((c : MemoryRegion) (p : ℕ) (x : S) → m (f c x) ≡ m x + count c p (slotTree t (entryIndex (3 - depth) (c .start .0))))
-    → (r : MemoryRegion) (p : ℕ) (x : S) → m (eachChunk (3 - depth) f r x) ≡ m x + tallied depth count (chunks (3 - depth) (r .start .0) (r .end .0)) p t
+    → (r : MemoryRegion) (p : ℕ) (x : S)
+    → m (eachChunk (3 - depth) f r x) ≡ m x + tallied depth count (chunks (3 - depth) (r .start .0) (r .end .0)) p t
 unfolding eachChunk
 chunks-tally m f depth count t each r p x = fold-tally m f depth count t each (chunks (3 - depth) (r .start .0) (r .end .0)) p x
 
@@ -65,11 +67,13 @@ module _ (set clear : ℕ) where
   unfolding editRule counted
   edit-takes w n = byBool (valid w) (λ e. rw e) (λ e. rw e)
 
-  takes-whole : (depth : ℕ) (c : MemoryRegion) (p w : ℕ) → whole (3 - suc depth) c ≡ true → needed (documentModify set clear) (suc depth) c p (leaf w) ≡ 0
+  takes-whole : (depth : ℕ) (c : MemoryRegion) (p w : ℕ) → whole (3 - suc depth) c ≡ true
+      → needed (documentModify set clear) (suc depth) c p (leaf w) ≡ 0
   unfolding needed documentModify
   takes-whole depth c p w e = rw e (edit-takes w _)
 
-  splits-open : (depth : ℕ) (c : MemoryRegion) → whole (3 - suc depth) c ≡ false → splitsIn (suc depth) c ≡ eachChunk (3 - depth) (adding (splitsIn depth)) c 1
+  splits-open : (depth : ℕ) (c : MemoryRegion) → whole (3 - suc depth) c ≡ false
+      → splitsIn (suc depth) c ≡ eachChunk (3 - depth) (adding (splitsIn depth)) c 1
   unfolding splitsIn
   splits-open depth c e = rw e
 
@@ -82,13 +86,15 @@ module _ (set clear : ℕ) where
   unfolding splits opened
   takes-fill depth c p w e = takes-part set clear depth c p w e
 
-  pub leaf-takes : (depth : ℕ) (c : MemoryRegion) (p w : ℕ) → depth ≤ 3 → splitsIn depth c ≡ needed (documentModify set clear) depth c p (leaf w)
+  pub leaf-takes : (depth : ℕ) (c : MemoryRegion) (p w : ℕ) → depth ≤ 3
+      → splitsIn depth c ≡ needed (documentModify set clear) depth c p (leaf w)
   unfolding splitsIn needed neededTable adding
   leaf-takes zero c p w low = refl
   leaf-takes (suc depth) c p w low = byBool (whole (3 - suc depth) c)
       (λ e. splits-none depth c e ∙ sym (takes-whole depth c p w e))
       (λ e. splits-open depth c e
-      ∙ chunks-tally (λ (n : ℕ). n) (adding (splitsIn depth)) depth (λ d y u. needed (documentModify set clear) depth d y u) (fillTree depth w)
+      ∙ chunks-tally (λ (n : ℕ). n) (adding (splitsIn depth)) depth (λ d y u. needed (documentModify set clear) depth d y u)
+      (fillTree depth w)
       (λ d y n. let i : ℕ = entryIndex (3 - depth) (d .start .0) in
       ap (λ (x : ℕ). n + x) (leaf-takes depth d y (fillWord depth w i) (omega arith)
       ∙ ap (needed (documentModify set clear) depth d y) (sym (slot-fill depth w i (slot-below (3 - depth) (d .start .0))))))
@@ -130,7 +136,8 @@ page-takes : (set clear : ℕ) (c : MemoryRegion) (p : ℕ) (t : Tree) → neede
 unfolding needed
 page-takes set clear c p t = refl
 
-entry-is-whole : (h : Handle) (level : ℕ) (e : Edit) (w : ℕ) (v : Survey) → whole level (e .region) ≡ true → surveyEntry h level e w v .splits ≡ surveyWhole h level e w v .splits
+entry-is-whole : (h : Handle) (level : ℕ) (e : Edit) (w : ℕ) (v : Survey) → whole level (e .region) ≡ true
+    → surveyEntry h level e w v .splits ≡ surveyWhole h level e w v .splits
 entry-is-whole h level e w v q = ap (λ (x : Survey). x .splits) (sym (entry-whole h level e w v q))
 
 entry-is-part : (h : Handle) (level : ℕ) (e : Edit) (w : ℕ) (v : Survey) → whole level (e .region) ≡ false
@@ -152,7 +159,8 @@ entry-splits h depth e c p w v low = go depth low
     all zero low q = page-takes (e .set) (e .clear) c p (leaf w)
     all (suc depth) low q = takes-whole (e .set) (e .clear) depth c p w q
 
-    go : (depth : ℕ) → depth ≤ 3 → surveyEntry h (3 - depth) (chunkEdit e c) w v .splits ≡ v .splits + needed (documentModify (e .set) (e .clear)) depth c p (leaf w)
+    go : (depth : ℕ) → depth ≤ 3
+        → surveyEntry h (3 - depth) (chunkEdit e c) w v .splits ≡ v .splits + needed (documentModify (e .set) (e .clear)) depth c p (leaf w)
     go depth low = byBool (whole (3 - depth) c)
         (λ q. let z = all depth low q in entry-is-whole h (3 - depth) (chunkEdit e c) w v q ∙ whole-splits h (3 - depth) (chunkEdit e c) w v
         ∙ (let n : v .splits ≡ v .splits + needed (documentModify (e .set) (e .clear)) depth c p (leaf w) = omega arith in n))
@@ -164,7 +172,8 @@ module _ (rec : ℕ → Edit → Survey → Survey) (h : Handle) (s : St) (k lev
   abbrev y : ℕ
   y = wordAt s k (entryIndex level (c .start .0))
 
-  pub chunk-leaf : subOf (h .base .0) (tables s) level y ≡ Leaf → surveyChunk rec h s k level e c v ≡ surveyEntry h level (chunkEdit e c) y v
+  pub chunk-leaf : subOf (h .base .0) (tables s) level y ≡ Leaf
+      → surveyChunk rec h s k level e c v ≡ surveyEntry h level (chunkEdit e c) y v
   unfolding surveyChunk surveySub
   chunk-leaf q = rw q
 
@@ -179,7 +188,8 @@ module _ {h : Handle} (placed : Placed h) where
 
   chunk-takes : (depth k : ℕ) (e : Edit) (s : St) → Ready placed s (suc depth) k → Counts depth → (c : MemoryRegion) (p : ℕ) (v : Survey)
       → surveyChunk (λ j n x. surveyRange depth h s j n x) h s k (3 - suc depth) e c v .splits
-      ≡ v .splits + needed (documentModify (e .set) (e .clear)) (suc depth) c p (slotShows h s (suc depth) k (entryIndex (3 - suc depth) (c .start .0)))
+      ≡ v .splits
+      + needed (documentModify (e .set) (e .clear)) (suc depth) c p (slotShows h s (suc depth) k (entryIndex (3 - suc depth) (c .start .0)))
   chunk-takes depth k e s R counts c p v = go (holds placed R i inside)
     where
       i : ℕ
@@ -194,14 +204,16 @@ module _ {h : Handle} (placed : Placed h) where
       count : Tree → ℕ
       count t = needed (documentModify (e .set) (e .clear)) (suc depth) c p t
 
-      go : SlotHolds placed s depth k i → surveyChunk rec h s k (3 - suc depth) e c v .splits ≡ v .splits + count (slotShows h s (suc depth) k i)
+      go : SlotHolds placed s depth k i
+          → surveyChunk rec h s k (3 - suc depth) e c v .splits ≡ v .splits + count (slotShows h s (suc depth) k i)
       go (holds-table j r both leads shows) =
           ap (λ (x : Survey). x .splits) (chunk-table rec h s k (3 - suc depth) e c v j leads)
           ∙ counts j p (chunkEdit e c) s v (entered-ready placed R i inside r)
           ∙ ap (λ (n : ℕ). v .splits + n) (ap (editTakes (chunkEdit e c) depth p) (treeAt-node (childOf (h .base .0)) depth (slotWord s) j)
           ∙ sym (takes-enter (e .set) (e .clear) depth c p _) ∙ ap count (sym shows))
       go (holds-leaf old other shows) =
-          ap (λ (x : Survey). x .splits) (chunk-leaf rec h s k (3 - suc depth) e c v (sym (sub-leaf (h .base .0) (tables s) (3 - suc depth) _ (λ q. other (q .1)))))
+          ap (λ (x : Survey). x .splits)
+          (chunk-leaf rec h s k (3 - suc depth) e c v (sym (sub-leaf (h .base .0) (tables s) (3 - suc depth) _ (λ q. other (q .1)))))
           ∙ entry-splits h (suc depth) e c p _ v (omega (arith, R .low)) ∙ ap (λ (n : ℕ). v .splits + n) (ap count (sym shows))
 
   -- THE SPLITS
@@ -209,12 +221,15 @@ module _ {h : Handle} (placed : Placed h) where
   unfolding surveyRange neededTable
   survey-splits zero k p e s v R =
       chunks-tally (λ (x : Survey). x .splits) _ 0 (λ c y u. needed (documentModify (e .set) (e .clear)) 0 c y u) (treeFrom h s 0 k)
-      (λ c y x. ap (λ (z : Survey). z .splits) (chunk-leaf _ h s k 3 e c x (sym (sub-leaf (h .base .0) (tables s) 3 _ (λ q. omega (arith, q .0)))))
+      (λ c y x. ap (λ (z : Survey). z .splits)
+      (chunk-leaf _ h s k 3 e c x (sym (sub-leaf (h .base .0) (tables s) 3 _ (λ q. omega (arith, q .0)))))
       ∙ entry-splits h 0 e c y _ x (omega arith)
       ∙ ap (λ (n : ℕ). x .splits + n) (page-takes (e .set) (e .clear) c y _ ∙ sym (page-takes (e .set) (e .clear) c y _)))
       (e .region) p v
   survey-splits (suc depth) k p e s v R =
-      chunks-tally (λ (x : Survey). x .splits) _ (suc depth) (λ c y u. needed (documentModify (e .set) (e .clear)) (suc depth) c y u) (treeFrom h s (suc depth) k)
+      chunks-tally (λ (x : Survey). x .splits) _ (suc depth) (λ c y u. needed (documentModify (e .set) (e .clear)) (suc depth) c y u)
+      (treeFrom h s (suc depth) k)
       (λ c y x. chunk-takes depth k e s R (survey-splits depth) c y x
-      ∙ ap (λ (t : Tree). x .splits + needed (documentModify (e .set) (e .clear)) (suc depth) c y t) (sym (slot-of h s (suc depth) k (entryIndex (3 - suc depth) (c .start .0)))))
+      ∙ ap (λ (t : Tree). x .splits + needed (documentModify (e .set) (e .clear)) (suc depth) c y t)
+      (sym (slot-of h s (suc depth) k (entryIndex (3 - suc depth) (c .start .0)))))
       (e .region) p v

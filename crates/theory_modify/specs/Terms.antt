@@ -1,5 +1,5 @@
--- The words in which document 01's Modify is said of the call: the call and its answer, its region, the flags after it, the tree after it and the tables that it
--- makes. Definitions alone; the walk and the root's span are those of `theory_map`. Assumes nothing.
+-- The words in which document 01's Modify is said of the call: the call and its answer, its region, the flags after it, the tree after it
+-- and the tables that it makes. Definitions alone; the walk and the root's span are those of `theory_map`.
 use mathlib.Core.Path.{_≡_}
 use mathlib.Core.Bool.{Bool, cond}
 use mathlib.Core.List.{List}

@@ -1,4 +1,4 @@
--- A leaf of a sound pool after an edit: a valid word is edited, any other stays, and an edited word may stand where the word stood. Assumes nothing.
+-- A leaf of a sound pool after an edit: a valid word is edited, any other stays, and an edited word may stand where the word stood.
 use mathlib.Core.Path.{_≡_, refl, sym, subst}
 use mathlib.Core.Bool.{true, false}
 use mathlib.Core.Logic.{inl, inr}
@@ -37,7 +37,8 @@ module _ (e : Edit) (w : ℕ) where
   -- a valid block or page is edited
   pub valid-edited : (depth : ℕ) → depth ≤ 3 → Fine depth w → valid w ≡ true → editWord (3 - depth) e w ≡ new
   unfolding edited
-  valid-edited zero low fine v = let o = valid-yes w v in let b = fine .page refl o in sym (edit-page 3 e w refl (kind-page 3 w (omega arith) (omega arith)))
+  valid-edited zero low fine v =
+      let o = valid-yes w v in let b = fine .page refl o in sym (edit-page 3 e w refl (kind-page 3 w (omega arith) (omega arith)))
   valid-edited (suc zero) low fine v =
       let o = valid-yes w v in let b = fine .clear (omega arith) in sym (edit-block 2 e w refl (kind-block 2 w (inr refl) (omega arith)))
   valid-edited (suc (suc zero)) low fine v =
@@ -46,9 +47,13 @@ module _ (e : Edit) (w : ℕ) where
 
   inset : (h : Handle) → Bits h e → SubBits (plainFlags w) (flagSet h) → SubBits (edited (e .set) (e .clear) (plainFlags w)) (flagSet h)
   unfolding edited
-  inset h bits from = sub-and (bitOr (plainFlags w) (e .set)) (2 ^ 64 - 1 - e .clear) (flagSet h) (sub-or (plainFlags w) (e .set) (flagSet h) from (bits .set .from))
+  inset h bits from =
+      sub-and (bitOr (plainFlags w) (e .set)) (2 ^ 64 - 1 - e .clear) (flagSet h)
+      (sub-or (plainFlags w) (e .set) (flagSet h) from (bits .set .from))
 
-  pub edited-stands : (h : Handle) (depth level : ℕ) → Bits h e → level + depth ≡ 3 → Fine depth w → SubBits (plainFlags w) (flagSet h) → valid w ≡ true → Stands h level new
+  pub edited-stands : (h : Handle) (depth level : ℕ) → Bits h e → level + depth ≡ 3 → Fine depth w → SubBits (plainFlags w) (flagSet h)
+      → valid w ≡ true → Stands h level new
   edited-stands h depth level bits low fine from v =
       fine-stands h depth level new low (fine-edited (e .set) (e .clear) (bits .set .plain) (bits .clear .plain) depth w fine v)
-      (subst (λ (x : ℕ). SubBits x (flagSet h)) (sym (edited-plain (e .set) (e .clear) (bits .set .plain) (bits .clear .plain) w (fine .wide))) (inset h bits from))
+      (subst (λ (x : ℕ). SubBits x (flagSet h))
+      (sym (edited-plain (e .set) (e .clear) (bits .set .plain) (bits .clear .plain) w (fine .wide))) (inset h bits from))

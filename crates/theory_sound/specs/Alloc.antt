@@ -1,4 +1,4 @@
--- Counts off the ledger when a table is taken, the count as a sum, and when a free table is found. Assumes nothing.
+-- Counts off the ledger when a table is taken, the count as a sum, and when a free table is found.
 use mathlib.Core.Path.{_≡_, refl, ap}
 use mathlib.Core.Bool.{cond}
 use mathlib.Core.List.{List, [], _∷_}

@@ -1,5 +1,5 @@
--- When a pool is sound: document 01, "Pool and ledger", its list in its order and words, over the two lists. Definitions alone; what follows
--- from them stands in the other files. Assumes nothing.
+-- When a pool is sound: document 01, "Pool and ledger", its list in its order and words, over the two lists. Definitions alone; what
+-- follows from them stands in the other files.
 use mathlib.Core.Path.{_≡_}
 use mathlib.Core.Logic.{_≢_}
 use Prim.Native.Nat.{ℕ, _+_, _*_, _/_, _%_, _≤_, _<_}
@@ -63,12 +63,15 @@ pub record SoundPool (h : Handle) (s : St) : Type 0 where
   pub sized : length (s .words) ≡ 512 * tables s
   -- "the ledger has the root's number at 0; ..
   pub root : numberAt s 0 ≡ rootNumber (h .level)
-  -- .. every other used table's number names a slot of a used table one level higher in the tree (level less by one), and that slot refers to it"
+  -- .. every other used table's number names a slot of a used table one level higher in the tree (level less by one), and that slot refers
+  -- to it"
   pub hangs : (k : ℕ) → k ≢ 0 → InUse s k → (p i : ℕ) × HangsIn h s k p i
-  -- "every word with bits 0 and 1 set at levels 0 to 2 is exactly a pool table's address + 3, and that table's ledger number names this slot"
+  -- "every word with bits 0 and 1 set at levels 0 to 2 is exactly a pool table's address + 3, and that table's ledger number names this
+  -- slot"
   pub links : (k i : ℕ) → i < 512 → InUse s k → TableWord (levelAt s k) (wordAt s k i) → (c : ℕ) × LinksTo h s k i c
-  -- "every other word has flags only from the set below (bit 1 apart); at levels 0 to 2 bit 1 is clear; at levels 1 and 2 the address is a multiple
-  -- of the entry's size; at level 0 the word isn't valid and its address is 0; at level 3 a valid word has bit 1"
-  pub leaves : (k i : ℕ) → i < 512 → InUse s k → ¬ (TableWord (levelAt s k) (wordAt s k i)) → LeafWord (flagSet h) (levelAt s k) (wordAt s k i)
+  -- "every other word has flags only from the set below (bit 1 apart); at levels 0 to 2 bit 1 is clear; at levels 1 and 2 the address is a
+  -- multiple of the entry's size; at level 0 the word isn't valid and its address is 0; at level 3 a valid word has bit 1"
+  pub leaves : (k i : ℕ) → i < 512 → InUse s k → ¬ (TableWord (levelAt s k) (wordAt s k i))
+      → LeafWord (flagSet h) (levelAt s k) (wordAt s k i)
   -- "free tables are all zero"
   pub free : (k i : ℕ) → k < tables s → i < 512 → numberAt s k ≡ 0 → wordAt s k i ≡ 0

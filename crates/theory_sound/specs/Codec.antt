@@ -1,5 +1,4 @@
 -- The codec of a handle: document 01's ledger numbers, its one root, its leaves and its table words; and a pool's lists read as a state.
--- Assumes nothing.
 use mathlib.Core.Path.{_≡_, _∙_}
 use mathlib.Core.Bool.{true, false, cond}
 use mathlib.Core.Logic.{_⊎_, inl, inr, _≢_}

@@ -1,4 +1,4 @@
--- The test `soundb` decides soundness: for a pool that refusal 1 lets pass it holds exactly when document 01's clauses do. Assumes nothing.
+-- The test `soundb` decides soundness: for a pool that refusal 1 lets pass it holds exactly when document 01's clauses do.
 use mathlib.Core.Path.{_≡_, refl, sym, _∙_, subst, subst⁻¹}
 use mathlib.Core.Bool.{cond, _&&_}
 use mathlib.Core.Logic.{_⊎_, inl, inr, _≢_, _↔_}
@@ -6,12 +6,14 @@ use Prim.Native.Nat.{ℕ, zero, suc, _+_, _*_, _-_, _/_, _%_, _<_}
 use native.Mathlib.Omega.{arith}
 use lib.Dec.{T, eqb, eqb→eq, ltb, ltb→lt, lt→ltb}
 use lib.ListN.{length, getD}
-use Rattle.laws.specs.Test.{eq-or, and-l, and-r, and-i, or-e, or-l, or-r, cond-true, cond-false, cond-of, eq→eqb, allBelow, all-of, allFrom, from-of}
+use Rattle.laws.specs.Test.{eq-or, and-l, and-r, and-i, or-e, or-l, or-r, cond-true, cond-false, cond-of, eq→eqb, allBelow, all-of, allFrom}
+use Rattle.laws.specs.Test.{from-of}
 use Rattle.entry.specs.Word.{addressOf, linkOf, link-address}
 use Rattle.pool.specs.State.{St, tables, wordAt, numberAt, used-in}
 use Rattle.pool.specs.Number.{rootNumber, levelOf, parentOf, slotOf}
 use Rattle.pool.specs.Refuse.{Shaped}
-use Rattle.pool.specs.Sound.{flagSet, leafb, namesb, hangsb, tableb, linkb, refersb, slotb, soundb, names-says, says-names, wordb, slot-place, sound-table, sound-slot}
+use Rattle.pool.specs.Sound.{flagSet, leafb, namesb, hangsb, tableb, linkb, refersb, slotb, soundb, names-says, says-names, wordb}
+use Rattle.pool.specs.Sound.{slot-place, sound-table, sound-slot}
 use Rattle.checker_ledger.specs.Hang.{hangs-to, hangs-of}
 use Rattle.pool.specs.declared.Handle.{Handle}
 use Rattle.theory_forest.specs.Sound.{TableWord}
@@ -22,7 +24,8 @@ use Rattle.theory_sound.specs.Generic.{leaf-says, says-leaf, slot-names,
 
 refers-says : (y w : ℕ) → T (refersb y w) → TableWord (levelOf y) w
 unfolding refersb
-refers-says y w t = (ltb→lt (levelOf y) 3 (and-l (ltb (levelOf y) 3) (eqb (w % 4) 3) t), eqb→eq (w % 4) 3 (and-r (ltb (levelOf y) 3) (eqb (w % 4) 3) t))
+refers-says y w t =
+    (ltb→lt (levelOf y) 3 (and-l (ltb (levelOf y) 3) (eqb (w % 4) 3) t), eqb→eq (w % 4) 3 (and-r (ltb (levelOf y) 3) (eqb (w % 4) 3) t))
 
 says-refers : (y w : ℕ) → TableWord (levelOf y) w → T (refersb y w)
 unfolding refersb
@@ -80,7 +83,8 @@ module _ (h : Handle) (s : St) where
       rw here
       (and-i (eqb w (linkOf base c)) _ (eq→eqb w (linkOf base c) (is ∙ links .says))
       (and-i (namesb z) _ (says-names z (slot-names (links .names)))
-      (and-i (eqb (parentOf z) k) (eqb (slotOf z) i) (eq→eqb (parentOf z) k (slot-parent (links .names))) (eq→eqb (slotOf z) i (slot-slot (links .names))))))
+      (and-i (eqb (parentOf z) k) (eqb (slotOf z) i) (eq→eqb (parentOf z) k (slot-parent (links .names)))
+      (eq→eqb (slotOf z) i (slot-slot (links .names))))))
 
   -- ---- one slot
 
@@ -92,18 +96,23 @@ module _ (h : Handle) (s : St) where
   slot-zero k i t none = eqb→eq (wordAt s k i) 0 (cond-true (eqb (numberAt s k) 0) _ _ (eq→eqb (numberAt s k) 0 none) t)
 
   slot-used : (k i : ℕ) → Slot k i → InUse s k
-      → T (cond (refersb (numberAt s k) (wordAt s k i)) (linkb (h .base .0) s k i (wordAt s k i)) (leafb (flagSet h) (levelAt s k) (wordAt s k i)))
+      → T
+      (cond (refersb (numberAt s k) (wordAt s k i)) (linkb (h .base .0) s k i (wordAt s k i))
+      (leafb (flagSet h) (levelAt s k) (wordAt s k i)))
   unfolding slotb
   slot-used k i t used = cond-false (eqb (numberAt s k) 0) _ _ (λ z. let e : numberAt s k ≡ 0 = eqb→eq (numberAt s k) 0 z in omega arith) t
 
   slot-link : (k i : ℕ) → Slot k i → InUse s k → TableWord (levelAt s k) (wordAt s k i) → (c : ℕ) × LinksTo h s k i c
   slot-link k i t used table =
-      link-says k i (wordAt s k i) refl (cond-true (refersb (numberAt s k) (wordAt s k i)) _ _ (says-refers (numberAt s k) (wordAt s k i) table) (slot-used k i t used))
+      link-says k i (wordAt s k i) refl
+      (cond-true (refersb (numberAt s k) (wordAt s k i)) _ _ (says-refers (numberAt s k) (wordAt s k i) table) (slot-used k i t used))
 
-  slot-leaf : (k i : ℕ) → Slot k i → InUse s k → ¬ (TableWord (levelAt s k) (wordAt s k i)) → LeafWord (flagSet h) (levelAt s k) (wordAt s k i)
+  slot-leaf : (k i : ℕ) → Slot k i → InUse s k → ¬ (TableWord (levelAt s k) (wordAt s k i))
+      → LeafWord (flagSet h) (levelAt s k) (wordAt s k i)
   slot-leaf k i t used other =
       leaf-says (flagSet h) (levelAt s k) (wordAt s k i) (omega arith)
-      (cond-false (refersb (numberAt s k) (wordAt s k i)) _ _ (λ r. other (refers-says (numberAt s k) (wordAt s k i) r)) (slot-used k i t used))
+      (cond-false (refersb (numberAt s k) (wordAt s k i)) _ _ (λ r. other (refers-says (numberAt s k) (wordAt s k i) r))
+      (slot-used k i t used))
 
   says-slot : Shaped h s → SoundPool h s → (k i : ℕ) → k < tables s → i < 512 → Slot k i
   unfolding slotb
@@ -137,9 +146,11 @@ module _ {h : Handle} {s : St} (shape : Shaped h s) where
     where
       hang : (k : ℕ) → k ≢ 0 → InUse s k → HangsIn h s k (parentOf (numberAt s k)) (slotOf (numberAt s k))
       hang zero other used = absurd (other refl)
-      hang (suc k) other used = go (or-e (eqb (numberAt s (suc k)) 0) (hangsb (h .base .0) s (suc k)) (sound-table h s t (suc k) (used-in s (suc k) used)))
+      hang (suc k) other used =
+          go (or-e (eqb (numberAt s (suc k)) 0) (hangsb (h .base .0) s (suc k)) (sound-table h s t (suc k) (used-in s (suc k) used)))
         where
-          go : T (eqb (numberAt s (suc k)) 0) ⊎ T (hangsb (h .base .0) s (suc k)) → HangsIn h s (suc k) (parentOf (numberAt s (suc k))) (slotOf (numberAt s (suc k)))
+          go : T (eqb (numberAt s (suc k)) 0) ⊎ T (hangsb (h .base .0) s (suc k))
+              → HangsIn h s (suc k) (parentOf (numberAt s (suc k))) (slotOf (numberAt s (suc k)))
           go (inl z) = absurd (omega (arith, used, eqb→eq (numberAt s (suc k)) 0 z))
           go (inr hangs) = hangs-says h s (suc k) hangs
 

@@ -1,4 +1,4 @@
--- The clauses are not empty: two pools that satisfy them, by computing the test, and one that a step makes of them. Assumes nothing.
+-- The clauses are not empty: two pools that satisfy them, by computing the test, and one that a step makes of them.
 use mathlib.Core.List.{[], _∷_}
 use mathlib.Core.Path.{_≡_, refl}
 use native.Mathlib.Omega.{arith}
@@ -34,7 +34,8 @@ unfolding handle freshExample shaped maxTables
 fresh-shaped = shaped-says handle freshExample tt
 
 fresh-test : T (soundb handle freshExample)
-unfolding handle freshExample soundb allBelow tableb hangsb namesb allFrom slotb refersb linkb leafb fits only flagSet plainFlags rootNumber linkOf addressOf el1Flags sizeAt
+unfolding handle freshExample soundb allBelow tableb hangsb namesb allFrom slotb refersb linkb leafb fits only flagSet plainFlags rootNumber
+    linkOf addressOf el1Flags sizeAt
 fresh-test = tt
 
 pub fresh-sound : SoundPool handle freshExample
@@ -51,7 +52,8 @@ unfolding handle mapped shaped maxTables
 mapped-shaped = shaped-says handle mapped tt
 
 mapped-test : T (soundb handle mapped)
-unfolding handle mapped soundb allBelow tableb hangsb namesb allFrom slotb refersb linkb leafb fits only flagSet plainFlags rootNumber linkOf addressOf el1Flags sizeAt
+unfolding handle mapped soundb allBelow tableb hangsb namesb allFrom slotb refersb linkb leafb fits only flagSet plainFlags rootNumber
+    linkOf addressOf el1Flags sizeAt
 mapped-test = tt
 
 pub mapped-sound : SoundPool handle mapped
@@ -69,5 +71,6 @@ facts = (omega arith, refl, refl)
 pub taken-sound : SoundPool handle (takeAt handle 0 2 0 zeros 1 freshExample)
 taken-sound =
     step-pool fresh-sound
-    (take-step (shaped-placed fresh-shaped) fresh-sound 0 2 0 zeros 1 (facts .0) (omega arith) (omega (arith, facts .1)) (omega arith) length-zeros found
+    (take-step (shaped-placed fresh-shaped) fresh-sound 0 2 0 zeros 1 (facts .0) (omega arith) (omega (arith, facts .1))
+    (omega arith) length-zeros found
     (λ j small. rw (zeros-at j) (zero-stands handle 2 (omega arith))) 1 refl (λ table. omega (arith, table .1, facts .2)))

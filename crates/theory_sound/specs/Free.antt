@@ -1,4 +1,4 @@
--- The third step on lists: a word is written in a slot and the whole subtree that the slot referred to is freed. Assumes nothing.
+-- The third step on lists: a word is written in a slot and the whole subtree that the slot referred to is freed.
 use mathlib.Core.Path.{_≡_, refl, ap, _∙_}
 use mathlib.Core.Bool.{cond}
 use mathlib.Core.Logic.{_⊎_, inl, inr}
@@ -34,10 +34,12 @@ module _ {h : Handle} {s : St} (shape : Shaped h s) (P : SoundPool h s) (depth p
   after = freeTree depth h e (storeAt p i v s)
 
   run : Freed shape (pool-sound (shaped-placed shape) P) e (storeAt p i v s) after
-  run = tree-freed shape (pool-sound (shaped-placed shape) P) depth e (storeAt p i v s) (r .used) (omega (arith, low, refers-level r)) (record {
-    size = record { same-tables = refl; same-words = length-set (s .words) (512 * p + i) v };
-    words = λ j m under k. store-other s p i v inside j k (λ at. refers-over r m (rw (← at .0) under));
-  })
+  run =
+      tree-freed shape (pool-sound (shaped-placed shape) P) depth e (storeAt p i v s) (r .used) (omega (arith, low, refers-level r))
+      (record {
+        size = record { same-tables = refl; same-words = length-set (s .words) (512 * p + i) v };
+        words = λ j m under k. store-other s p i v inside j k (λ at. refers-over r m (rw (← at .0) under));
+      })
 
   pub tree-frees : Frees (codecOf h (shaped-placed shape)) (view s) (view after) p i e v
   tree-frees = record {
@@ -51,7 +53,9 @@ module _ {h : Handle} {s : St} (shape : Shaped h s) (P : SoundPool h s) (depth p
   -- FREE: the slot now shows the leaf v
   pub free-step : Stands h (levelAt s p) v → Step h (shaped-placed shape) s after (suc depth) p i (leaf v)
   free-step stands = record {
-    move = move-free (pool-sound (shaped-placed shape) P) (suc depth) inUse inside low (stands-fits h (shaped-placed shape) (numberAt s p) stands) tree-frees r;
+    move =
+        move-free (pool-sound (shaped-placed shape) P) (suc depth) inUse inside low
+        (stands-fits h (shaped-placed shape) (numberAt s p) stands) tree-frees r;
     same-tables = run .size .same-tables;
     same-words = run .size .same-words ∙ length-set (s .words) (512 * p + i) v;
   }
@@ -66,14 +70,16 @@ module _ {h : Handle} {s : St} (shape : Shaped h s) (P : SoundPool h s) (depth p
       let b : used (after .ledger) ≡ sum n (λ k. cond (eqb (numberAt after k) 0) 0 1) =
       used-sum (after .ledger) ∙ ap (λ (m : ℕ). sum m (λ k. cond (eqb (numberAt after k) 0) 0 1)) (run .size .same-tables) in
       let c = sum-add n (λ k. cond (eqb (numberAt after k) 0) 0 1) (lies (codecOf h (shaped-placed shape)) (view s) e) in
-      let d = sum-ext n (λ k. cond (eqb (numberAt after k) 0) 0 1 + lies (codecOf h (shaped-placed shape)) (view s) e k) (λ k. cond (eqb (numberAt s k) 0) 0 1)
+      let d = sum-ext n (λ k. cond (eqb (numberAt after k) 0) 0 1 + lies (codecOf h (shaped-placed shape)) (view s) e k)
+      (λ k. cond (eqb (numberAt s k) 0) 0 1)
       (λ k small. at k (under-or e k)) in
       omega arith
     where
       mark : (x : ℕ) → 0 < x → cond {A = ℕ} (eqb x 0) 0 1 ≡ 1
       mark x some = rw (ne-eqb x 0 (λ z. omega arith))
 
-      at : (k : ℕ) → ((d : ℕ) × Under (codecOf h (shaped-placed shape)) (view s) e d k) ⊎ NotUnder (codecOf h (shaped-placed shape)) (view s) e k
+      at : (k : ℕ)
+          → ((d : ℕ) × Under (codecOf h (shaped-placed shape)) (view s) e d k) ⊎ NotUnder (codecOf h (shaped-placed shape)) (view s) e k
           → cond (eqb (numberAt after k) 0) 0 1 + lies (codecOf h (shaped-placed shape)) (view s) e k ≡ cond (eqb (numberAt s k) 0) 0 1
       at k (inl under) =
           let l = lies-yes (codecOf h (shaped-placed shape)) (view s) e (under .0) k (under .1) in

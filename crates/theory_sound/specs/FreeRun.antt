@@ -1,5 +1,4 @@
 -- The recursion that frees a subtree zeroes exactly the tables under its top, in words and ledger, and leaves every other table as it was.
--- Assumes nothing.
 use mathlib.Core.Path.{_≡_, refl, sym, ap, _∙_, subst}
 use mathlib.Core.Logic.{_⊎_, inl, inr, _≢_}
 use Prim.Native.Nat.{ℕ, zero, suc, _-_, _%_, _≤_, _<_}
@@ -13,10 +12,12 @@ use Rattle.pool.specs.Refuse.{Shaped}
 use Rattle.pool_table.specs.Table.{clear, freeSlot, freeTree, slot-table, slot-leaf}
 use Rattle.pool.specs.declared.Handle.{Handle}
 use Rattle.theory_forest.specs.Sound.{Codec, Refers, Sound}
-use Rattle.theory_forest.specs.Under.{Under, NotUnder, LevelsLeft, under-self, under-zero, under-via, refers-level, refers-table, refers-child, refers-under, refers-over, refers-one}
+use Rattle.theory_forest.specs.Under.{Under, NotUnder, LevelsLeft, under-self, under-zero, under-via, refers-level, refers-table}
+use Rattle.theory_forest.specs.Under.{refers-child, refers-under, refers-over, refers-one}
 use Rattle.theory_sound.specs.Codec.{shaped-placed, codecOf, slotWord, view, word-in}
 use Rattle.theory_sound.specs.Clauses.{InUse, levelAt}
-use Rattle.theory_sound.specs.Lists.{TableInside, clear-tables, clear-words, clear-number, clear-number-other, clear-word, clear-word-other}
+use Rattle.theory_sound.specs.Lists.{TableInside, clear-tables, clear-words, clear-number, clear-number-other, clear-word}
+use Rattle.theory_sound.specs.Lists.{clear-word-other}
 
 -- table j of q is zeroed
 pub record Zeroed (q : St) (j : ℕ) : Type 0 where
@@ -75,7 +76,9 @@ module _ {h : Handle} {s : St} (shape : Shaped h s) (S : Sound (codecOf h (shape
   clear-freed : (d : ℕ) (q q₁ : St) → InUse s d → SameSize s q₁ → Done d 512 q q₁ → Freed d q (clear d q₁)
   clear-freed d q q₁ used size done = record {
     gone = gone;
-    rest = λ j off. kept-trans (done .rest j (λ i e m r l under. off (suc m) (refers-under r under))) (kept j (λ same. off 0 (rw same (under-self used))));
+    rest =
+        λ j off. kept-trans (done .rest j (λ i e m r l under. off (suc m) (refers-under r under)))
+        (kept j (λ same. off 0 (rw same (under-self used))));
     size = size-trans (done .size) (record { same-tables = clear-tables d q₁; same-words = clear-words d q₁ at });
   }
     where
@@ -91,7 +94,8 @@ module _ {h : Handle} {s : St} (shape : Shaped h s) (S : Sound (codecOf h (shape
           let via = under-via S under in
           let r = via .refers in
           let slot : via .slot < 512 = rw (← r .at) (C .slot-lt (numberAt s (via .top))) in
-          zeroed-kept (done .gone j (via .slot) (via .top) (via .deep) r slot (via .under)) (kept j (λ same. omega (arith, under .deep, ap (levelAt s) same)))
+          zeroed-kept (done .gone j (via .slot) (via .top) (via .deep) r slot (via .under))
+          (kept j (λ same. omega (arith, under .deep, ap (levelAt s) same)))
 
   -- ---- one slot more
 
@@ -109,13 +113,16 @@ module _ {h : Handle} {s : St} (shape : Shaped h s) (S : Sound (codecOf h (shape
 
     -- d's own words still stand
     reads : wordAt q₁ d n ≡ slotWord s d n
-    reads = sym (word-in q₁ d n slot) ∙ done .rest d (λ i e m r l under. refers-over r m under) .words n ∙ start .words d 0 (under-self used) n
+    reads =
+        sym (word-in q₁ d n slot) ∙ done .rest d (λ i e m r l under. refers-over r m under) .words n ∙ start .words d 0 (under-self used) n
 
     -- the slot refers to no table
     slot-plain : slotWord s d n % 4 ≢ 3 → Done d (suc n) q step
     slot-plain other =
         let stays : q₁ ≡ step = slot-leaf (λ j t. freeTree depth h j t) h d (3 - suc depth) n q₁ refl
-        (sym (sub-leaf (h .base .0) (tables q₁) (3 - suc depth) (wordAt q₁ d n) (λ table. other (ap (λ (w : ℕ). w % 4) (sym reads) ∙ table .1)))) in
+        (sym
+        (sub-leaf (h .base .0) (tables q₁) (3 - suc depth) (wordAt q₁ d n)
+        (λ table. other (ap (λ (w : ℕ). w % 4) (sym reads) ∙ table .1)))) in
         subst (Done d (suc n) q) stays (record {
           gone = λ j i e m r l under. done .gone j i e m r (before i e r l) under;
           rest = λ j off. done .rest j (λ i e m r l under. off i e m r (omega arith) under);
@@ -129,7 +136,9 @@ module _ {h : Handle} {s : St} (shape : Shaped h s) (S : Sound (codecOf h (shape
     slot-refers : (e : ℕ) → Refers C (view s) d n e → Done d (suc n) q step
     slot-refers e r = subst (Done d (suc n) q) goes (record {
       gone = λ j i c m rc l under. gone j i c m rc l under (eq-or i n);
-      rest = λ j off. kept-trans (done .rest j (λ i c m rc l under. off i c m rc (omega arith) under)) (run .rest j (λ m under. off n e m r (omega arith) under));
+      rest =
+          λ j off. kept-trans (done .rest j (λ i c m rc l under. off i c m rc (omega arith) under))
+          (run .rest j (λ m under. off n e m r (omega arith) under));
       size = size-trans (done .size) (run .size);
     })
       where
@@ -137,15 +146,19 @@ module _ {h : Handle} {s : St} (shape : Shaped h s) (S : Sound (codecOf h (shape
         run = below e q₁ (r .used) (omega (arith, low, refers-level r)) (record {
           size = size;
           words = λ j m under i.
-              done .rest j (λ i′ c m′ rc l under′. omega (arith, l, refers-one rc r under′ under)) .words i ∙ start .words j (suc m) (refers-under r under) i;
+              done .rest j (λ i′ c m′ rc l under′. omega (arith, l, refers-one rc r under′ under)) .words i
+              ∙ start .words j (suc m) (refers-under r under) i;
         })
 
         goes : freeTree depth h e q₁ ≡ step
         goes = slot-table (λ j t. freeTree depth h j t) h d (3 - suc depth) n q₁ refl e
-            (rw (reads ∙ r .says) (sub-link (h .base .0) (tables q₁) e (3 - suc depth) (omega arith) (shape .paged) (omega (arith, shape .ended, size .same-tables))
+            (rw (reads ∙ r .says)
+            (sub-link (h .base .0) (tables q₁) e (3 - suc depth) (omega arith) (shape .paged)
+            (omega (arith, shape .ended, size .same-tables))
             (omega (arith, used-in s e (r .used), size .same-tables))))
 
-        gone : (j i c m : ℕ) → Refers C (view s) d i c → i < suc n → Under C (view s) c m j → (i ≡ n) ⊎ (i ≢ n) → Zeroed (freeTree depth h e q₁) j
+        gone : (j i c m : ℕ) → Refers C (view s) d i c → i < suc n → Under C (view s) c m j → (i ≡ n) ⊎ (i ≢ n)
+            → Zeroed (freeTree depth h e q₁) j
         gone j i c m rc l under (inl same) =
             let one : c ≡ e = sym (refers-child rc) ∙ ap (λ (i : ℕ). C .child (slotWord s d i)) same ∙ refers-child r in
             run .gone j m (rw (← one) under)

@@ -1,5 +1,5 @@
--- Document 01's clauses say the same as theory_forest's `Sound` for the codec of the handle, so all that is proved of forests holds of sound pools.
--- And a leaf's clauses say what the test `leafb` computes. Assumes nothing.
+-- Document 01's clauses say the same as theory_forest's `Sound` for the codec of the handle, so all that is proved of forests holds of
+-- sound pools. And a leaf's clauses say what the test `leafb` computes.
 use mathlib.Core.Path.{_≡_, refl, sym, ap, _∙_, subst, subst⁻¹}
 use mathlib.Core.Logic.{_⊎_, inl, inr, _≢_}
 use Prim.Native.Nat.{ℕ, zero, suc, _+_, _*_, _/_, _%_, _≤_, _<_}
@@ -30,22 +30,49 @@ leaf-says set level w low t =
     shape flags zero low t =
         let both : w % 4 ≡ 0 = eqb→eq (w % 4) 0 (and-l (eqb (w % 4) 0) (eqb (addressOf w) 0) t) in
         let address : addressOf w ≡ 0 = eqb→eq (addressOf w) 0 (and-r (eqb (w % 4) 0) (eqb (addressOf w) 0) t) in
-        record { flags = flags; clear = λ l. omega arith; aligned = λ a b. absurd (omega arith); top = λ e. (omega arith, address); page = λ e. absurd (omega arith) }
+        record {
+          flags = flags;
+          clear = λ l. omega arith;
+          aligned = λ a b. absurd (omega arith);
+          top = λ e. (omega arith, address);
+          page = λ e. absurd (omega arith);
+        }
     shape flags (suc zero) low t =
         let both : w % 4 < 2 = ltb→lt (w % 4) 2 (and-l (ltb (w % 4) 2) (eqb (addressOf w % sizeAt 1) 0) t) in
-        let address : addressOf w % sizeAt 1 ≡ 0 = eqb→eq (addressOf w % sizeAt 1) 0 (and-r (ltb (w % 4) 2) (eqb (addressOf w % sizeAt 1) 0) t) in
-        record { flags = flags; clear = λ l. omega arith; aligned = λ a b. address; top = λ e. absurd (omega arith); page = λ e. absurd (omega arith) }
+        let address : addressOf w % sizeAt 1 ≡ 0 =
+        eqb→eq (addressOf w % sizeAt 1) 0 (and-r (ltb (w % 4) 2) (eqb (addressOf w % sizeAt 1) 0) t) in
+        record {
+          flags = flags;
+          clear = λ l. omega arith;
+          aligned = λ a b. address;
+          top = λ e. absurd (omega arith);
+          page = λ e. absurd (omega arith);
+        }
     shape flags (suc (suc zero)) low t =
         let both : w % 4 < 2 = ltb→lt (w % 4) 2 (and-l (ltb (w % 4) 2) (eqb (addressOf w % sizeAt 2) 0) t) in
-        let address : addressOf w % sizeAt 2 ≡ 0 = eqb→eq (addressOf w % sizeAt 2) 0 (and-r (ltb (w % 4) 2) (eqb (addressOf w % sizeAt 2) 0) t) in
-        record { flags = flags; clear = λ l. omega arith; aligned = λ a b. address; top = λ e. absurd (omega arith); page = λ e. absurd (omega arith) }
+        let address : addressOf w % sizeAt 2 ≡ 0 =
+        eqb→eq (addressOf w % sizeAt 2) 0 (and-r (ltb (w % 4) 2) (eqb (addressOf w % sizeAt 2) 0) t) in
+        record {
+          flags = flags;
+          clear = λ l. omega arith;
+          aligned = λ a b. address;
+          top = λ e. absurd (omega arith);
+          page = λ e. absurd (omega arith);
+        }
     shape flags (suc (suc (suc l))) low t =
         let both : w % 4 ≢ 1 = λ e. T-not (eqb (w % 4) 1) t (eq→eqb (w % 4) 1 e) in
-        record { flags = flags; clear = λ l. absurd (omega arith); aligned = λ a b. absurd (omega arith); top = λ e. absurd (omega arith); page = λ e v. omega arith }
+        record {
+          flags = flags;
+          clear = λ l. absurd (omega arith);
+          aligned = λ a b. absurd (omega arith);
+          top = λ e. absurd (omega arith);
+          page = λ e v. omega arith;
+        }
 
 pub says-leaf : (set level w : ℕ) → level ≤ 3 → LeafWord set level w → T (leafb set level w)
 unfolding leafb only fits
-says-leaf set level w low leaf = and-i (only set (plainFlags w)) (fits level w) (eq→eqb _ (plainFlags w) (leaf .flags)) (shape level low leaf)
+says-leaf set level w low leaf =
+    and-i (only set (plainFlags w)) (fits level w) (eq→eqb _ (plainFlags w) (leaf .flags)) (shape level low leaf)
   where
     shape : (level : ℕ) → level ≤ 3 → LeafWord set level w → T (fits level w)
     shape zero low leaf =
@@ -54,12 +81,15 @@ says-leaf set level w low leaf = and-i (only set (plainFlags w)) (fits level w) 
         and-i (eqb (w % 4) 0) (eqb (addressOf w) 0) (eq→eqb (w % 4) 0 (omega arith)) (eq→eqb (addressOf w) 0 (top .1))
     shape (suc zero) low leaf =
         let clear = leaf .clear (omega arith) in
-        and-i (ltb (w % 4) 2) (eqb (addressOf w % sizeAt 1) 0) (lt→ltb (w % 4) 2 (omega arith)) (eq→eqb (addressOf w % sizeAt 1) 0 (leaf .aligned (omega arith) (omega arith)))
+        and-i (ltb (w % 4) 2) (eqb (addressOf w % sizeAt 1) 0) (lt→ltb (w % 4) 2 (omega arith))
+        (eq→eqb (addressOf w % sizeAt 1) 0 (leaf .aligned (omega arith) (omega arith)))
     shape (suc (suc zero)) low leaf =
         let clear = leaf .clear (omega arith) in
-        and-i (ltb (w % 4) 2) (eqb (addressOf w % sizeAt 2) 0) (lt→ltb (w % 4) 2 (omega arith)) (eq→eqb (addressOf w % sizeAt 2) 0 (leaf .aligned (omega arith) (omega arith)))
+        and-i (ltb (w % 4) 2) (eqb (addressOf w % sizeAt 2) 0) (lt→ltb (w % 4) 2 (omega arith))
+        (eq→eqb (addressOf w % sizeAt 2) 0 (leaf .aligned (omega arith) (omega arith)))
     shape (suc (suc (suc l))) low leaf =
-        not-T (eqb (w % 4) 1) (λ t. let one : w % 4 ≡ 1 = eqb→eq (w % 4) 1 t in let page = leaf .page (omega arith) (omega arith) in omega arith)
+        not-T (eqb (w % 4) 1)
+        (λ t. let one : w % 4 ≡ 1 = eqb→eq (w % 4) 1 t in let page = leaf .page (omega arith) (omega arith) in omega arith)
 
 -- ---- numbers that name a slot
 
@@ -119,7 +149,8 @@ module _ {h : Handle} (placed : Placed h) {s : St} where
           let to = P .links k i inside used (omega (arith, table .0), ap (λ (w : ℕ). w % 4) (sym (word-in s k i inside)) ∙ table .1) in
           (to .0, refer (to .0) (to .1))
         where
-          hung : (c : ℕ) → Names (numberAt s c) → ((c ≡ 0) × (numberAt s c ≡ rootNumber (h .level))) ⊎ Hangs (codecOf h placed) (view s) c → Hangs (codecOf h placed) (view s) c
+          hung : (c : ℕ) → Names (numberAt s c) → ((c ≡ 0) × (numberAt s c ≡ rootNumber (h .level))) ⊎ Hangs (codecOf h placed) (view s) c
+              → Hangs (codecOf h placed) (view s) c
           hung c names (inl root) = absurd (root-unnamed h (placed .level) (numberAt s c) (root .1) names)
           hung c names (inr hangs) = hangs
 
@@ -160,7 +191,8 @@ module _ {h : Handle} (placed : Placed h) {s : St} where
     root = S .rooted 0 (rootNumber (h .level)) (refl, refl);
     hangs = λ k other used. (parentOf (numberAt s k), slotOf (numberAt s k), hangs-of (hung k other (S .hangs k used)));
     links = λ k i inside used table.
-        let to = S .names k i used (omega (arith, table .0), ap (λ (w : ℕ). w % 4) (word-in s k i inside) ∙ table .1) in (to .0, link k i inside (to .0) (to .1));
+        let to = S .names k i used (omega (arith, table .0), ap (λ (w : ℕ). w % 4) (word-in s k i inside) ∙ table .1) in
+        (to .0, link k i inside (to .0) (to .1));
     leaves = λ k i inside used other.
         leaf-says (flagSet h) (levelAt s k) (wordAt s k i) (omega arith)
         (subst (λ (w : ℕ). T (leafb (flagSet h) (levelAt s k) w)) (word-in s k i inside)
@@ -168,7 +200,8 @@ module _ {h : Handle} (placed : Placed h) {s : St} where
     free = λ k i at inside none. sym (word-in s k i inside) ∙ S .free k i none;
   }
     where
-      hung : (k : ℕ) → k ≢ 0 → ((k ≡ 0) × (numberAt s k ≡ rootNumber (h .level))) ⊎ Hangs (codecOf h placed) (view s) k → Hangs (codecOf h placed) (view s) k
+      hung : (k : ℕ) → k ≢ 0 → ((k ≡ 0) × (numberAt s k ≡ rootNumber (h .level))) ⊎ Hangs (codecOf h placed) (view s) k
+          → Hangs (codecOf h placed) (view s) k
       hung k other (inl root) = absurd (other (root .0))
       hung k other (inr hangs) = hangs
 

@@ -1,5 +1,5 @@
--- What a sound pool is like, in plain words: every used table hangs from the root and is reached from there by following slots; exactly one slot
--- refers to it; nothing refers to the root or to a free table; as many tables are in use as the tree has nodes. Assumes nothing.
+-- What a sound pool is like, in plain words: every used table hangs from the root and is reached from there by following slots; exactly one
+-- slot refers to it; nothing refers to the root or to a free table; as many tables are in use as the tree has nodes.
 use mathlib.Core.Path.{_≡_, refl, sym, ap, _∙_, subst}
 use mathlib.Core.List.{List, [], _∷_}
 use mathlib.Core.Logic.{_⊎_, inl, inr, _≢_}
@@ -15,7 +15,8 @@ use Rattle.pool.specs.Refuse.{Shaped}
 use Rattle.pool.specs.declared.Handle.{Handle}
 use Rattle.theory_forest.specs.Sound.{TableWord, parent, slotIn, Refers, Hangs}
 use Rattle.theory_forest.specs.Under.{Under, hangs-refers, refers-table}
-use Rattle.theory_forest.specs.Hang.{here as at-last, down as by, Points, Reaches, grounded, reached, path, once, root-free, one-path as one-way}
+use Rattle.theory_forest.specs.Hang.{here as at-last, down as by, Points, Reaches, grounded, reached, path, once, root-free}
+use Rattle.theory_forest.specs.Hang.{one-path as one-way}
 use Rattle.theory_forest.specs.Nodes.{nodes, inUse as countInUse, used-nodes}
 use Rattle.theory_sound.specs.Alloc.{used-sum}
 use Rattle.theory_sound.specs.Codec.{Placed, shaped-placed, childOf, child-link, codecOf, view, word-in, table-in, rootTree}
@@ -51,7 +52,8 @@ pub root-left : {h : Handle} {s : St} → Placed h → SoundPool h s → levelAt
 unfolding rootNumber
 root-left placed P = omega (arith, placed .level, P .root)
 
-pub root-under : {h : Handle} {s : St} (placed : Placed h) → SoundPool h s → {j : ℕ} → InUse s j → (d : ℕ) × Under (codecOf h placed) (view s) 0 d j
+pub root-under : {h : Handle} {s : St} (placed : Placed h) → SoundPool h s → {j : ℕ} → InUse s j
+    → (d : ℕ) × Under (codecOf h placed) (view s) 0 d j
 root-under {h} {s} placed P {j} inUse =
     let g = grounded (pool-sound placed P) inUse in
     (g .deep, subst (λ (k : ℕ). Under (codecOf h placed) (view s) k (g .deep) j) (g .isRoot .0) (g .under))
@@ -66,7 +68,9 @@ module _ {h : Handle} {s : St} (shape : Shaped h s) (P : SoundPool h s) where
       record {
         used = inUse;
         slot = inside;
-        leads = rw (sym (word-in s k i inside) ∙ r .says) (sub-link (h .base .0) (tables s) c (levelAt s k) (table .0) (shape .paged) (shape .ended) (used-in s c (r .used)));
+        leads =
+            rw (sym (word-in s k i inside) ∙ r .says)
+            (sub-link (h .base .0) (tables s) c (levelAt s k) (table .0) (shape .paged) (shape .ended) (used-in s c (r .used)));
       }
 
   leads-points : {k i c : ℕ} → Leads h s k i c → Points (codecOf h (shaped-placed shape)) (view s) k i c
@@ -144,4 +148,5 @@ module _ {h : Handle} {s : St} (shape : Shaped h s) (P : SoundPool h s) where
   unfolding countInUse
   used-tree =
       used-sum (s .ledger)
-      ∙ used-nodes (pool-sound (shaped-placed shape) P) (tables s) (used-in s) (3 - h .level) 0 (refl, P .root) (λ k root. root .0) (root-left (shaped-placed shape) P)
+      ∙ used-nodes (pool-sound (shaped-placed shape) P) (tables s) (used-in s) (3 - h .level) 0 (refl, P .root) (λ k root. root .0)
+      (root-left (shaped-placed shape) P)

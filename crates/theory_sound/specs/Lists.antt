@@ -1,4 +1,4 @@
--- What a store, a replaced table and a cleared table do to the words and numbers that are read, slot by slot. Assumes nothing.
+-- What a store, a replaced table and a cleared table do to the words and numbers that are read, slot by slot.
 use mathlib.Core.Path.{_≡_, sym, _∙_}
 use mathlib.Core.List.{List}
 use mathlib.Core.Logic.{_⊎_, inl, inr, _≢_}
@@ -30,7 +30,8 @@ module _ (s : St) (p i v : ℕ) (inside : i < 512) where
       go (inl past) = word-out (storeAt p i v s) k j past ∙ sym (word-out s k j past)
       go (inr below) =
           word-in (storeAt p i v s) k j below
-          ∙ getD-set-other (s .words) (512 * p + i) (512 * k + j) v 0 (λ e. other (let a : k ≡ p = omega arith in a, let b : j ≡ i = omega arith in b))
+          ∙ getD-set-other (s .words) (512 * p + i) (512 * k + j) v 0
+          (λ e. other (let a : k ≡ p = omega arith in a, let b : j ≡ i = omega arith in b))
           ∙ sym (word-in s k j below)
 
 -- ---- one table replaced
@@ -42,7 +43,8 @@ module _ (s : St) (l t : List ℕ) (f : ℕ) (full : length t ≡ 512) (at : Tab
     where
       go : (512 ≤ i) ⊎ (i < 512) → slotWord (st (putTable f t (s .words)) l) f i ≡ getD t i 0
       go (inl past) = word-out (st (putTable f t (s .words)) l) f i past ∙ sym (List·getD-eq-default t 0 (omega arith))
-      go (inr below) = word-in (st (putTable f t (s .words)) l) f i below ∙ put-inside (512 * f) t (s .words) i 0 (omega arith) (omega arith)
+      go (inr below) =
+          word-in (st (putTable f t (s .words)) l) f i below ∙ put-inside (512 * f) t (s .words) i 0 (omega arith) (omega arith)
 
   pub put-other : (k i : ℕ) → k ≢ f → slotWord (st (putTable f t (s .words)) l) k i ≡ slotWord s k i
   unfolding putTable

@@ -1,4 +1,4 @@
--- A pool that was made is sound, whatever was lent. Leans on `Clauses`. Assumes nothing.
+-- A pool that was made is sound, whatever was lent. Leans on `Clauses`.
 use mathlib.Core.Path.{_≡_, _∙_}
 use mathlib.Core.Logic.{_⊎_, inl, inr, _≢_}
 use Prim.Native.Nat.{ℕ, _+_, _*_, _≤_, _<_}
@@ -20,7 +20,10 @@ zero-at : (n i : ℕ) → _≡_ {A = ℕ} (getD (replicate n 0) i 0) 0
 zero-at n i = go (le-or n i)
   where
     go : (n ≤ i) ⊎ (i < n) → _≡_ {A = ℕ} (getD (replicate n 0) i 0) 0
-    go (inl h) = let e = length-replicate {A = ℕ} n 0 in let past : length (replicate {A = ℕ} n 0) ≤ i = omega arith in List·getD-eq-default (replicate n 0) 0 past
+    go (inl h) =
+        let e = length-replicate {A = ℕ} n 0 in
+        let past : length (replicate {A = ℕ} n 0) ≤ i = omega arith in
+        List·getD-eq-default (replicate n 0) 0 past
     go (inr h) = getD-replicate n i 0 0 h
 
 module _ (h : Handle) (s : St) where
@@ -54,6 +57,8 @@ module _ (h : Handle) (s : St) where
       root = fresh-root;
       hangs = λ k n used. let z = other-free k n in absurd (omega arith);
       links = λ k i small used table. let z = word-zero k i in absurd (omega (arith, table .1));
-      leaves = λ k i small used plain. rw (word-zero k i) (leaf-says (flagSet h) (levelAt (fresh h s) k) 0 (omega arith) (zero-leaf (flagSet h) (levelAt (fresh h s) k)));
+      leaves =
+          λ k i small used plain. rw (word-zero k i)
+          (leaf-says (flagSet h) (levelAt (fresh h s) k) 0 (omega arith) (zero-leaf (flagSet h) (levelAt (fresh h s) k)));
       free = λ k i inside small none. word-zero k i;
     }

@@ -1,5 +1,5 @@
 -- One step on a sound pool's lists: a move of the forest that keeps the lists' lengths. The pool is sound again, and table
--- numbers stay. Assumes nothing.
+-- numbers stay.
 use mathlib.Core.Path.{_≡_, sym, ap, _∙_}
 use Prim.Native.Nat.{ℕ, _%_, _≤_, _<_}
 use native.Mathlib.Omega.{arith}
@@ -27,10 +27,12 @@ pub record Stands (h : Handle) (level v : ℕ) : Type 0 where
 
 module _ (h : Handle) where
   pub stands-fits : (placed : Placed h) (x : ℕ) {v : ℕ} → Stands h (levelOf x) v → Fits (codecOf h placed) x v
-  stands-fits placed x {v} stands = record { plain = stands .plain; good = says-leaf (flagSet h) (levelOf x) v (omega arith) (stands .leaf) }
+  stands-fits placed x {v} stands =
+      record { plain = stands .plain; good = says-leaf (flagSet h) (levelOf x) v (omega arith) (stands .leaf) }
 
   pub zero-stands : (level : ℕ) → level ≤ 3 → Stands h level 0
-  zero-stands level low = record { plain = λ table. omega (arith, table .1); leaf = leaf-says (flagSet h) level 0 low (zero-leaf (flagSet h) level) }
+  zero-stands level low =
+      record { plain = λ table. omega (arith, table .1); leaf = leaf-says (flagSet h) level 0 low (zero-leaf (flagSet h) level) }
 
 -- a word that is no table word is none for the forest
 pub not-table : {h : Handle} (placed : Placed h) (s : St) (k i : ℕ) → i < 512 → ¬ (TableWord (levelAt s k) (wordAt s k i))
@@ -47,7 +49,8 @@ pub record Step (h : Handle) (placed : Placed h) (s s′ : St) (depth p i : ℕ)
   pub same-tables : tables s′ ≡ tables s
   pub same-words : length (s′ .words) ≡ length (s .words)
 
-module _ {h : Handle} {placed : Placed h} {s s′ : St} {depth p i : ℕ} {t : Tree} (P : SoundPool h s) (step : Step h placed s s′ depth p i t) where
+module _ {h : Handle} {placed : Placed h} {s s′ : St} {depth p i : ℕ} {t : Tree} (P : SoundPool h s)
+    (step : Step h placed s s′ depth p i t) where
   -- SOUND AGAIN
   pub step-pool : SoundPool h s′
   step-pool = sound-pool placed (omega (arith, P .sized, step .same-tables, step .same-words)) (step .move .at .sound)

@@ -1,5 +1,4 @@
 -- The first step on lists: a leaf word stored over a leaf word. The fourth: a table whose words are all 0 is unlinked and cleared.
--- Assumes nothing.
 use mathlib.Core.Path.{_≡_, refl, ap, _∙_}
 use mathlib.Core.Logic.{_⊎_, inl, inr, _≢_}
 use Prim.Native.Nat.{ℕ, _+_, _*_, _≤_, _<_}
@@ -19,7 +18,8 @@ use Rattle.theory_forest.specs.Move.{move-store, move-free}
 use Rattle.theory_sound.specs.Codec.{Placed, codecOf, slotWord, view, word-in, word-out}
 use Rattle.theory_sound.specs.Clauses.{InUse, levelAt, SoundPool}
 use Rattle.theory_sound.specs.Generic.{pool-sound}
-use Rattle.theory_sound.specs.Lists.{TableInside, store-here, store-other, clear-tables, clear-words, clear-number, clear-number-other, clear-word, clear-word-other}
+use Rattle.theory_sound.specs.Lists.{TableInside, store-here, store-other, clear-tables, clear-words, clear-number}
+use Rattle.theory_sound.specs.Lists.{clear-number-other, clear-word, clear-word-other}
 use Rattle.theory_sound.specs.Step.{Stands, stands-fits, not-table, used-inside, Step}
 
 module _ {h : Handle} (placed : Placed h) {s : St} (P : SoundPool h s) (p i v : ℕ) (inUse : InUse s p) (inside : i < 512) where
@@ -34,7 +34,9 @@ module _ {h : Handle} (placed : Placed h) {s : St} (P : SoundPool h s) (p i v : 
   pub store-step : (depth : ℕ) → levelAt s p + depth ≡ 3 → ¬ (TableWord (levelAt s p) (wordAt s p i)) → Stands h (levelAt s p) v
       → Step h placed s (storeAt p i v s) depth p i (leaf v)
   store-step depth low old stands = record {
-    move = move-store (pool-sound placed P) depth inUse inside low (stands-fits h placed (numberAt s p) stands) stored (not-table placed s p i inside old);
+    move =
+        move-store (pool-sound placed P) depth inUse inside low (stands-fits h placed (numberAt s p) stands) stored
+        (not-table placed s p i inside old);
     same-tables = refl;
     same-words = length-set (s .words) (512 * p + i) v;
   }

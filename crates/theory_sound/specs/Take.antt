@@ -1,5 +1,4 @@
 -- The second step on lists, a split: the lowest free table is taken, filled with leaves, entered and linked in the place of a leaf.
--- Assumes nothing.
 use mathlib.Core.Path.{_≡_, refl, sym, ap, _∙_}
 use mathlib.Core.List.{List}
 use mathlib.Core.Logic.{_≢_}
@@ -9,7 +8,8 @@ use lib.ListN.{length, getD, set, length-set, List·getD-eq-default}
 use lib.Seq.{getD-set-same, getD-set-other}
 use Rattle.entry.specs.Word.{linkOf}
 use Rattle.pool.specs.State.{St, st, tables, wordAt, numberAt}
-use Rattle.pool.specs.Number.{levelOf, numberOf, Names, parent-back, slot-back, number-names, lowestFree, LowestFree, lowest-found, used, free, level-back}
+use Rattle.pool.specs.Number.{levelOf, numberOf, Names, parent-back, slot-back, number-names, lowestFree, LowestFree, lowest-found, used}
+use Rattle.pool.specs.Number.{free, level-back}
 use Rattle.pool_table.specs.Table.{putTable, length-table, takeAt, taken, takeTable, take-some}
 use Rattle.pool.specs.declared.Handle.{Handle}
 use Rattle.pool.specs.declared.Found.the-variants.{At}
@@ -58,10 +58,15 @@ module _ {h : Handle} (placed : Placed h) {s : St} (P : SoundPool h s) (p level 
   pub take-splits : Splits (codecOf h placed) (view s) (view after) p i f (numberOf p level i) (λ j. getD t j 0)
   unfolding takeAt
   take-splits = record {
-    linked = store-here filled p i (linkOf (h .base .0) f) inside (omega (arith, used-inside P p inUse, length-table f t (s .words) full at));
-    filled = λ j. store-other filled p i (linkOf (h .base .0) f) inside f j (λ e. apart (sym (e .0))) ∙ put-here s (set (s .ledger) f (numberOf p level i)) t f full at j;
+    linked =
+        store-here filled p i (linkOf (h .base .0) f) inside (omega (arith, used-inside P p inUse, length-table f t (s .words) full at));
+    filled =
+        λ j. store-other filled p i (linkOf (h .base .0) f) inside f j (λ e. apart (sym (e .0)))
+        ∙ put-here s (set (s .ledger) f (numberOf p level i)) t f full at j;
     number = getD-set-same (s .ledger) f (numberOf p level i) 0 (lowest .inside);
-    words = λ k j other off. store-other filled p i (linkOf (h .base .0) f) inside k j off ∙ put-other s (set (s .ledger) f (numberOf p level i)) t f full at k j other;
+    words =
+        λ k j other off. store-other filled p i (linkOf (h .base .0) f) inside k j off
+        ∙ put-other s (set (s .ledger) f (numberOf p level i)) t f full at k j other;
     ledger = λ k other. getD-set-other (s .ledger) f k (numberOf p level i) 0 other;
   }
     where
@@ -104,7 +109,10 @@ module _ {h : Handle} (placed : Placed h) {s : St} (P : SoundPool h s) (p level 
         let S′ = split-at S take-splits take-fit inUse inside none (lowest .free) .sound in
         record {
           move = move-split S take-splits take-fit inUse inside none (lowest .free) depth
-              (record { over = work-skip S′ depth f .over; tree = new-tree S take-splits take-fit inUse inside none (lowest .free) depth low′ });
+              (record {
+                over = work-skip S′ depth f .over;
+                tree = new-tree S take-splits take-fit inUse inside none (lowest .free) depth low′;
+              });
           same-tables = take-tables;
           same-words = take-words;
         }

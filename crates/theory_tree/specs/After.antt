@@ -1,4 +1,4 @@
--- Demand 2's walk: what each page shows after a map. Assumes nothing.
+-- Demand 2's walk: what each page shows after a map.
 use mathlib.Core.Path.{_≡_, sym, ap, _∙_, subst}
 use mathlib.Core.Bool.{Bool, true, false, cond, _&&_, true≢false}
 use Prim.Native.Nat.{ℕ, zero, suc, _+_, _-_, _%_, _^_, _≤_, _<_}
@@ -14,7 +14,8 @@ use Rattle.theory_tree.specs.Word.{frameIn, leafWordOf, leaf-hole, plain
 use Rattle.theory_tree.specs.Fine.{Fine, fine-flags, fine-leaf}
 use Rattle.theory_tree.specs.Walk.{Seen, mapped, hole, seen, seenIn, seen-leaf, seen-fine, seen-leaf-word, seen-flags}
 use Rattle.theory_tree.specs.Shown.{FineTree, Good, Right, Shows}
-use Rattle.theory_tree.specs.Rules.{Map, Given, meets, whole, frameAt, same, fits, drops, mapRule, yes-meets, whole-yes, drops-yes, fits-yes, same-yes, page-in, rule-off, rule-page}
+use Rattle.theory_tree.specs.Rules.{Map, Given, meets, whole, frameAt, same, fits, drops, mapRule, yes-meets, whole-yes, drops-yes}
+use Rattle.theory_tree.specs.Rules.{fits-yes, same-yes, page-in, rule-off, rule-page}
 use Rattle.theory_tree.specs.Rules.{rule-same, rule-block, rule-drop, rule-split, rule-down}
 
 -- the page is one of the region
@@ -36,7 +37,8 @@ module _ (m : Map) (page : ℕ) where
 
   pub covers-yes : covers m page ≡ true → (m .from ≤ page) × (page < m .upto)
   unfolding covers
-  covers-yes e = let h = both (leb (m .from) page) (ltb page (m .upto)) e in (leb-true (m .from) page (h .0), ltb-true page (m .upto) (h .1))
+  covers-yes e =
+      let h = both (leb (m .from) page) (ltb page (m .upto)) e in (leb-true (m .from) page (h .0), ltb-true page (m .upto) (h .1))
 
   pub after-in : (old : Seen) → covers m page ≡ true → after m page old ≡ asked m page
   unfolding after
@@ -66,7 +68,8 @@ module _ (m : Map) (depth q page : ℕ) (at : In depth q page) where
 
   -- of a whole entry it has all
   pub whole-in : whole depth (first depth q) m ≡ true → covers m page ≡ true
-  whole-in e = let x = whole-yes depth (first depth q) m e in let y = in-from depth q page at in yes-covers m page (omega arith) (omega arith)
+  whole-in e =
+      let x = whole-yes depth (first depth q) m e in let y = in-from depth q page at in yes-covers m page (omega arith) (omega arith)
 
   -- the frame of the entry's first page, and the page's offset
   pub frame-page : m .from ≤ first depth q → frameAt (first depth q) m + page % pagesIn depth ≡ m .frame + (page - m .from)
@@ -98,7 +101,8 @@ module _ (m : Map) (G : Given m) where
       fine-leaf depth (frameAt b m) (m .flags) (G .plain) (frame-at b (y .0) (omega arith)) (x .1) (x .2)
 
   map-good : (depth q : ℕ) (t : Tree) → FineTree depth t → Good depth (mapRule m depth (first depth q) t)
-  map-good depth q t fine = byBool (meets depth (first depth q) m) (met depth t fine) (λ e. subst (Good depth) (sym (rule-off m depth (first depth q) t e)) tt)
+  map-good depth q t fine =
+      byBool (meets depth (first depth q) m) (met depth t fine) (λ e. subst (Good depth) (sym (rule-off m depth (first depth q) t e)) tt)
     where
       met : (k : ℕ) (u : Tree) → FineTree k u → meets k (first k q) m ≡ true → Good k (mapRule m k (first k q) u)
       met zero (leaf w) fu e = subst (Good zero) (sym (rule-page m (first zero q) w e)) (page-good (first zero q) e)
@@ -116,7 +120,8 @@ module _ (m : Map) (G : Given m) where
 
   -- rules 1 and 3: frame and flags
   written-seen : (depth q page : ℕ) → In depth q page → m .from ≤ first depth q → frameAt (first depth q) m < 2 ^ 36
-      → frameAt (first depth q) m % pagesIn depth ≡ 0 → depth < 3 → seenIn depth (leafWordOf depth (frameAt (first depth q) m) (m .flags)) page ≡ asked m page
+      → frameAt (first depth q) m % pagesIn depth ≡ 0 → depth < 3
+      → seenIn depth (leafWordOf depth (frameAt (first depth q) m) (m .flags)) page ≡ asked m page
   written-seen depth q page at h below aligned low =
       let p : ℕ = frameAt (first depth q) m in
       byBool (valid (m .flags))
@@ -126,7 +131,8 @@ module _ (m : Map) (G : Given m) where
       ∙ seen-flags depth (m .flags) page (G .plain) v ∙ sym (asked-hole m page v))
 
   -- rule 2: what is there shows it already
-  same-seen : (depth q w page : ℕ) → Fine (suc depth) w → In (suc depth) q page → same (first (suc depth) q) m w ≡ true → covers m page ≡ true
+  same-seen : (depth q w page : ℕ) → Fine (suc depth) w → In (suc depth) q page → same (first (suc depth) q) m w ≡ true
+      → covers m page ≡ true
       → seenIn (suc depth) w page ≡ asked m page
   unfolding asked
   same-seen depth q w page fine at s c =
@@ -138,11 +144,14 @@ module _ (m : Map) (G : Given m) where
       let frame : frameIn w + page % pagesIn (suc depth) ≡ m .frame + (page - m .from) = omega arith in
       seen-fine (suc depth) w page fine ∙ rw (flags, odd, frame)
 
-  map-right : (depth q : ℕ) (t : Tree) (page : ℕ) → FineTree depth t → In depth q page → Right (after m) depth t page (mapRule m depth (first depth q) t)
+  map-right : (depth q : ℕ) (t : Tree) (page : ℕ) → FineTree depth t → In depth q page
+      → Right (after m) depth t page (mapRule m depth (first depth q) t)
   map-right depth q t page fine at = byBool (meets depth (first depth q) m) (met depth t fine at)
-      (λ e. subst (Right (after m) depth t page) (sym (rule-off m depth (first depth q) t e)) (sym (after-out m page (seen depth t page) (off-out m depth q page at e))))
+      (λ e. subst (Right (after m) depth t page) (sym (rule-off m depth (first depth q) t e))
+      (sym (after-out m page (seen depth t page) (off-out m depth q page at e))))
     where
-      met : (k : ℕ) (u : Tree) → FineTree k u → In k q page → meets k (first k q) m ≡ true → Right (after m) k u page (mapRule m k (first k q) u)
+      met : (k : ℕ) (u : Tree) → FineTree k u → In k q page → meets k (first k q) m ≡ true
+          → Right (after m) k u page (mapRule m k (first k q) u)
       met zero (node g) fu in0 e = absurd fu
       met zero (leaf w) fu in0 e =
           let b : ℕ = first zero q in

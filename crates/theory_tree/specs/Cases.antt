@@ -1,6 +1,5 @@
--- What maps without VALID may cost, computed on trees (root level 1, lower: two levels below the root's own, root number 0): the order of maps shows, and an
--- unmap takes tables. The starred cases stand in `theory_cases`.
--- Assumes nothing.
+-- What maps without VALID may cost, computed on trees (root level 1, lower: two levels below the root's own, root number 0): the order of
+-- maps shows, and an unmap takes tables. The starred cases stand in `theory_cases`.
 use mathlib.Core.Path.{_≡_, refl}
 use mathlib.Core.Bool.{true}
 use mathlib.Core.List.{List, [], _∷_}
@@ -34,8 +33,8 @@ takes ms m = mapMade 2 0 m (mapsOf ms)
 abbrev B : Map
 B = mapInPages 1 3 9 0x401
 
--- Q-13's case: without VALID the order shows in the tables. X maps page 0; Y, flags 0, is page 513 to frame 513. Y first finds its hole by rule 2,
--- after X's split it does not.
+-- Q-13's case: without VALID the order shows in the tables. X maps page 0; Y, flags 0, is page 513 to frame 513. Y first finds its hole by
+-- rule 2, after X's split it does not.
 abbrev X : Map
 X = mapInPages 0 1 9 0x401
 
@@ -47,7 +46,8 @@ pub record OrderShows : Type 0 where
   pub last : nodes (mapsOf (X ∷ Y ∷ [])) ≡ 4
 
 pub order-shows : OrderShows
-unfolding run freshTree mapsOf eachSlot nodes sum pagesIn first child valid frameIn pageBit leafWordOf fillWord flagsOf fillTree opened obey visit visitTable meets whole frameAt same
+unfolding run freshTree mapsOf eachSlot nodes sum pagesIn first child valid frameIn pageBit leafWordOf fillWord flagsOf fillTree opened obey
+    visit visitTable meets whole frameAt same
     fits drops mapRule mapTree
 order-shows = record { first = refl; last = refl }
 
@@ -56,6 +56,7 @@ abbrev U : Map
 U = mapInPages 0 0x4_0000 1 0
 
 pub unmap-twice : (takes (B ∷ []) U ≡ 0) × (takes (B ∷ U ∷ []) U ≡ 513)
-unfolding run freshTree mapsOf takes eachSlot nodes sum pagesIn first child valid frameIn pageBit leafWordOf fillWord flagsOf fillTree opened splits total obey counted visit made
+unfolding run freshTree mapsOf takes eachSlot nodes sum pagesIn first child valid frameIn pageBit leafWordOf fillWord flagsOf fillTree
+    opened splits total obey counted visit made
     visitTable madeTable meets whole frameAt same fits drops mapRule mapTree mapMade
 unmap-twice = (refl, refl)

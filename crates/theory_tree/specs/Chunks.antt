@@ -1,6 +1,6 @@
--- A call as document 01 runs it: for each chunk of the region, ascending, a rule; the frame rises by the chunk's length after each; where the rule goes
--- down, the chunk's own chunks below. Over addresses and the chunks of `region`; `Sweep` proves that this is the
--- visit of `Visit`. Assumes nothing.
+-- A call as document 01 runs it: for each chunk of the region, ascending, a rule; the frame rises by the chunk's length after each; where
+-- the rule goes down, the chunk's own chunks below. Over addresses and the chunks of `region`; `Sweep` proves that this is the visit of
+-- `Visit`.
 use mathlib.Core.Path.{_≡_, ap, _∙_}
 use mathlib.Core.Bool.{Bool, cond}
 use mathlib.Core.List.{List, [], _∷_}
@@ -12,7 +12,8 @@ use Rattle.address_slot.specs.Slot.{entryLast, entryIndex, chunkEnd}
 use Rattle.region.specs.Chunks.{chunks, chunk-fits}
 use Rattle.region.specs.declared.MemoryRegion.{MemoryRegion}
 use Rattle.theory_forest.specs.Tree.{Tree, leaf, node}
-use Rattle.theory_tree.specs.Page.{pagesIn, span-size, entry-number, entry-start, first, child, slotOfPage, In, in-from, in-of, in-child}
+use Rattle.theory_tree.specs.Page.{pagesIn, span-size, entry-number, entry-start, first, child, slotOfPage, In, in-from, in-of}
+use Rattle.theory_tree.specs.Page.{in-child}
 use Rattle.theory_tree.specs.Visit.{Rule, opened, obey}
 use Rattle.theory_tree.specs.Rules.{Map}
 
@@ -45,7 +46,8 @@ module _ (rules : ℕ → MemoryRegion → ℕ → Tree → Rule) where
 
 -- addresses as a call in pages
 abbrev pub inPages : ℕ → Bool → ℕ → ℕ → ℕ → Map
-inPages flags blocks start end frame = record { from = start / 4096; upto = end / 4096; frame = frame / 4096; flags = flags; blocks = blocks }
+inPages flags blocks start end frame =
+    record { from = start / 4096; upto = end / 4096; frame = frame / 4096; flags = flags; blocks = blocks }
 
 -- whole pages, in a table whose first page is b and that has n pages
 pub record Inside (b n start end frame : ℕ) : Type 0 where
@@ -61,13 +63,16 @@ unfolding entryIndex slotOfPage
 index-slot depth a h = ap (λ (x : ℕ). x % 512) (entry-number depth a h)
 
 -- where the chunk from an address ends
-chunk-end : (depth q s e : ℕ) → depth ≤ 3 → In depth q (s / 4096) → chunkEnd (3 - depth) s e ≡ min e ((first depth q + pagesIn depth) * 4096)
+chunk-end : (depth q s e : ℕ) → depth ≤ 3 → In depth q (s / 4096)
+    → chunkEnd (3 - depth) s e ≡ min e ((first depth q + pagesIn depth) * 4096)
 unfolding chunkEnd entryLast down
 chunk-end depth q s e h at =
     let size = span-size depth h in
     let pos = size-pos (3 - depth) in
-    let start : s / sizeAt (3 - depth) * sizeAt (3 - depth) ≡ first depth q * 4096 = entry-start depth s h ∙ ap (λ (x : ℕ). first depth x * 4096) at in
-    let last : s / sizeAt (3 - depth) * sizeAt (3 - depth) + (sizeAt (3 - depth) - 1) + 1 ≡ (first depth q + pagesIn depth) * 4096 = omega arith in
+    let start : s / sizeAt (3 - depth) * sizeAt (3 - depth) ≡ first depth q * 4096 =
+    entry-start depth s h ∙ ap (λ (x : ℕ). first depth x * 4096) at in
+    let last : s / sizeAt (3 - depth) * sizeAt (3 - depth) + (sizeAt (3 - depth) - 1) + 1 ≡ (first depth q + pagesIn depth) * 4096 =
+    omega arith in
     ap (min e) last
 
 -- ---- the first chunk of a region in a table
@@ -84,7 +89,8 @@ pub cut : (depth q s e p : ℕ) → depth ≤ 3 → s < e → Inside (first (suc
     → FirstCut depth q s e p (chunkEnd (3 - depth) s e) (slotOfPage (s / 4096) depth)
 cut depth q s e p low some I =
     let r : ℕ = child q (slotOfPage (s / 4096) depth) in
-    let in-table : In (suc depth) q (s / 4096) = in-of (suc depth) q (s / 4096) (I .low) (omega (arith, I .startPage, I .endPage, I .high)) in
+    let in-table : In (suc depth) q (s / 4096) =
+    in-of (suc depth) q (s / 4096) (I .low) (omega (arith, I .startPage, I .endPage, I .high)) in
     let in-entry : In depth r (s / 4096) = in-child depth q (s / 4096) in-table in
     let at = in-from depth r (s / 4096) in-entry in
     let end : chunkEnd (3 - depth) s e ≡ min e ((first depth r + pagesIn depth) * 4096) = chunk-end depth r s e low in-entry in

@@ -1,4 +1,4 @@
--- Two VALID maps that share no page: both orders leave the same tree. Assumes nothing.
+-- Two VALID maps that share no page: both orders leave the same tree.
 use mathlib.Core.Path.{_≡_, sym, ap, ap₂, _∙_}
 use mathlib.Core.Bool.{true, false}
 use Prim.Native.Nat.{ℕ, zero, suc, _+_, _*_, _-_, _≤_, _<_, max}
@@ -13,7 +13,8 @@ use Rattle.theory_tree.specs.Fine.{Fine, fill-flags, fill-is, fill-below
 use Rattle.theory_tree.specs.Visit.{opened, visit, visitTable, visit-keep, visit-write, visit-down}
 use Rattle.theory_tree.specs.Slots.{slotAfter, each-node, each-same, each-both, fillSlot, fill-node, fill-slot}
 use Rattle.theory_tree.specs.Shown.{FineTree, FineTable, fine-fill-slots}
-use Rattle.theory_tree.specs.Rules.{Map, meets, whole, frameAt, same, mapRule, meets-yes, whole-yes, drops-no, fits-no, same-yes, yes-same, page-in, rule-off, rule-page, rule-same}
+use Rattle.theory_tree.specs.Rules.{Map, meets, whole, frameAt, same, mapRule, meets-yes, whole-yes, drops-no, fits-no, same-yes}
+use Rattle.theory_tree.specs.Rules.{yes-same, page-in, rule-off, rule-page, rule-same}
 use Rattle.theory_tree.specs.Rules.{rule-split, rule-down}
 
 -- the regions share no page
@@ -50,7 +51,8 @@ module _ (m : Map) where
       let y = page-in b m e in
       let z = child-first zero q i in
       let frames : m .frame + (b - m .from) ≡ frameIn w + i * pagesIn zero = omega arith in
-      visit-write (mapRule m) zero (child q i) old _ (rule-page m b (fillWord zero w i) e) ∙ ap leaf (ap₂ (leafWordOf zero) frames (sym (x .0)) ∙ sym (fill-is zero w fine i)))
+      visit-write (mapRule m) zero (child q i) old _ (rule-page m b (fillWord zero w i) e)
+      ∙ ap leaf (ap₂ (leafWordOf zero) frames (sym (x .0)) ∙ sym (fill-is zero w fine i)))
       (λ e. work-off zero (child q i) old e)
   keeps-fill (suc depth) q w i v fine s l =
       let b : ℕ = first (suc depth) (child q i) in
@@ -64,13 +66,17 @@ module _ (m : Map) where
       let flags = ap flagsOf word ∙ leaf-flags (flagsOf w) F (suc depth) p below vw in
       let frame = ap frameIn word ∙ leaf-frame (flagsOf w) F (suc depth) p below vw in
       visit-keep (mapRule m) (suc depth) (child q i) (leaf (fillWord (suc depth) w i))
-      (rule-same m depth b (fillWord (suc depth) w i) (yes-same b m (fillWord (suc depth) w i) (flags ∙ add-zero (flagsOf w) ∙ x .0) (omega arith)))
+      (rule-same m depth b (fillWord (suc depth) w i)
+      (yes-same b m (fillWord (suc depth) w i) (flags ∙ add-zero (flagsOf w) ∙ x .0) (omega arith)))
 
   -- a table that the map goes down into
-  module _ (depth q : ℕ) (met : meets (suc depth) (first (suc depth) q) m ≡ true) (part : whole (suc depth) (first (suc depth) q) m ≡ false) where
+  module _ (depth q : ℕ) (met : meets (suc depth) (first (suc depth) q) m ≡ true)
+      (part : whole (suc depth) (first (suc depth) q) m ≡ false) where
     work-down : (f : ℕ → Tree) → work m (suc depth) q (node f) ≡ eachSlot (λ i u. work m depth (child q i) u) (node f)
     unfolding opened visitTable
-    work-down f = visit-down (mapRule m) depth q (node f) (rule-down m depth (first (suc depth) q) f met (drops-no (suc depth) (first (suc depth) q) m part))
+    work-down f =
+        visit-down (mapRule m) depth q (node f)
+        (rule-down m depth (first (suc depth) q) f met (drops-no (suc depth) (first (suc depth) q) m part))
 
     work-each : (h : ℕ → Tree → Tree) (f : ℕ → Tree)
         → work m (suc depth) q (eachSlot h (node f)) ≡ eachSlot (λ i u. work m depth (child q i) (h i u)) (node f)
@@ -83,7 +89,8 @@ module _ (m : Map) where
         → work m (suc depth) q (leaf w) ≡ eachSlot (λ i u. work m depth (child q i) u) (node (fillSlot depth w))
     unfolding opened visitTable
     work-split w s =
-        visit-down (mapRule m) depth q (leaf w) (rule-split m depth (first (suc depth) q) w met s (fits-no (suc depth) (first (suc depth) q) m part))
+        visit-down (mapRule m) depth q (leaf w)
+        (rule-split m depth (first (suc depth) q) w met s (fits-no (suc depth) (first (suc depth) q) m part))
         ∙ ap (visitTable (mapRule m) depth q) (fill-node depth w)
 
   work-same : (depth q w : ℕ) → same (first (suc depth) q) m w ≡ true → work m (suc depth) q (leaf w) ≡ leaf w
@@ -107,15 +114,18 @@ flip c = record { below = λ q t fine. sym (c .below q t fine); one = c .two; tw
 module _ (depth q : ℕ) (m n : Map) (c : Meet depth q m n) where
   -- both go down: slot by slot
   both-down : (f : ℕ → Tree) → ((i : ℕ) → i < 512 → FineTree depth (f i))
-      → work m (suc depth) q (eachSlot (λ i u. work n depth (child q i) u) (node f)) ≡ work n (suc depth) q (eachSlot (λ i u. work m depth (child q i) u) (node f))
+      → work m (suc depth) q (eachSlot (λ i u. work n depth (child q i) u) (node f))
+      ≡ work n (suc depth) q (eachSlot (λ i u. work m depth (child q i) u) (node f))
   both-down f fine =
       work-each m depth q (c .one) (c .partOne) (λ i u. work n depth (child q i) u) f
-      ∙ each-same (λ i u. work m depth (child q i) (work n depth (child q i) u)) (λ i u. work n depth (child q i) (work m depth (child q i) u)) f
+      ∙ each-same (λ i u. work m depth (child q i) (work n depth (child q i) u))
+      (λ i u. work n depth (child q i) (work m depth (child q i) u)) f
       (λ i l. c .below (child q i) (f i) (fine i l))
       ∙ sym (work-each n depth q (c .two) (c .partTwo) (λ i u. work m depth (child q i) u) f)
 
   -- m keeps the word and n splits it: m keeps what n made
-  one-splits : valid (m .flags) ≡ true → (w : ℕ) → Fine (suc depth) w → same (first (suc depth) q) m w ≡ true → same (first (suc depth) q) n w ≡ false
+  one-splits : valid (m .flags) ≡ true → (w : ℕ) → Fine (suc depth) w → same (first (suc depth) q) m w ≡ true
+      → same (first (suc depth) q) n w ≡ false
       → work m (suc depth) q (work n (suc depth) q (leaf w)) ≡ work n (suc depth) q (leaf w)
   one-splits v w fine sm sn =
       let g : ℕ → Tree = fillSlot depth w in
@@ -124,20 +134,24 @@ module _ (depth q : ℕ) (m n : Map) (c : Meet depth q m n) where
       ∙ work-each m depth q (c .one) (c .partOne) (λ i u. work n depth (child q i) u) g
       ∙ each-same (λ i u. work m depth (child q i) (work n depth (child q i) u)) (λ i u. work n depth (child q i) u) g
       (λ i l. c .below (child q i) (g i) (fine-fill-slots depth w fine i l)
-      ∙ ap (work n depth (child q i)) (ap (work m depth (child q i)) (fill-slot depth w i l) ∙ keeps-fill m depth q w i v fine sm l ∙ sym (fill-slot depth w i l)))
+      ∙ ap (work n depth (child q i))
+      (ap (work m depth (child q i)) (fill-slot depth w i l) ∙ keeps-fill m depth q w i v fine sm l ∙ sym (fill-slot depth w i l)))
       ∙ sym split
 
 -- both meet the entry
-inside : (depth q : ℕ) (m n : Map) → Meet depth q m n → valid (m .flags) ≡ true → valid (n .flags) ≡ true → (t : Tree) → FineTree (suc depth) t
+inside : (depth q : ℕ) (m n : Map) → Meet depth q m n → valid (m .flags) ≡ true → valid (n .flags) ≡ true → (t : Tree)
+    → FineTree (suc depth) t
     → work m (suc depth) q (work n (suc depth) q t) ≡ work n (suc depth) q (work m (suc depth) q t)
 inside depth q m n c vm vn (leaf w) fine =
     let b : ℕ = first (suc depth) q in
     byBool (same b m w)
     (λ sm. let keeps = work-same m depth q w sm in byBool (same b n w)
-    (λ sn. let keeps′ = work-same n depth q w sn in ap (work m (suc depth) q) keeps′ ∙ keeps ∙ sym (ap (work n (suc depth) q) keeps ∙ keeps′))
+    (λ sn. let keeps′ = work-same n depth q w sn in
+    ap (work m (suc depth) q) keeps′ ∙ keeps ∙ sym (ap (work n (suc depth) q) keeps ∙ keeps′))
     (λ sn. one-splits depth q m n c vm w fine sm sn ∙ ap (work n (suc depth) q) (sym keeps)))
     (λ sm. byBool (same b n w)
-    (λ sn. let keeps′ = work-same n depth q w sn in ap (work m (suc depth) q) keeps′ ∙ sym (one-splits depth q n m (flip c) vn w fine sn sm))
+    (λ sn. let keeps′ = work-same n depth q w sn in
+    ap (work m (suc depth) q) keeps′ ∙ sym (one-splits depth q n m (flip c) vn w fine sn sm))
     (λ sn. ap (work m (suc depth) q) (work-split n depth q (c .two) (c .partTwo) w sn)
     ∙ both-down depth q m n c (fillSlot depth w) (fine-fill-slots depth w fine)
     ∙ ap (work n (suc depth) q) (sym (work-split m depth q (c .one) (c .partOne) w sm))))
@@ -148,10 +162,12 @@ inside depth q m n c vm vn (node f) fine =
 
 module _ (m n : Map) (apart : Apart m n) (vm : valid (m .flags) ≡ true) (vn : valid (n .flags) ≡ true) where
   -- one of them does not meet the entry
-  away : (depth q : ℕ) (t : Tree) → meets depth (first depth q) n ≡ false → work m depth q (work n depth q t) ≡ work n depth q (work m depth q t)
+  away : (depth q : ℕ) (t : Tree) → meets depth (first depth q) n ≡ false
+      → work m depth q (work n depth q t) ≡ work n depth q (work m depth q t)
   away depth q t e = ap (work m depth q) (work-off n depth q t e) ∙ sym (work-off n depth q (work m depth q t) e)
 
-  away′ : (depth q : ℕ) (t : Tree) → meets depth (first depth q) m ≡ false → work m depth q (work n depth q t) ≡ work n depth q (work m depth q t)
+  away′ : (depth q : ℕ) (t : Tree) → meets depth (first depth q) m ≡ false
+      → work m depth q (work n depth q t) ≡ work n depth q (work m depth q t)
   away′ depth q t e = work-off m depth q (work n depth q t) e ∙ ap (work n depth q) (sym (work-off m depth q t e))
 
   -- THE ORDER OF TWO MAPS, at an entry ..
@@ -179,11 +195,13 @@ module _ (m n : Map) (apart : Apart m n) (vm : valid (m .flags) ≡ true) (vn : 
 
   -- .. and in a table
   pub commute-table : (depth q : ℕ) (t : Tree) → FineTable depth t
-      → visitTable (mapRule m) depth q (visitTable (mapRule n) depth q t) ≡ visitTable (mapRule n) depth q (visitTable (mapRule m) depth q t)
+      → visitTable (mapRule m) depth q (visitTable (mapRule n) depth q t)
+      ≡ visitTable (mapRule n) depth q (visitTable (mapRule m) depth q t)
   unfolding visitTable
   commute-table depth q (leaf w) fine = absurd fine
   commute-table depth q (node f) fine =
       each-both (λ i u. work m depth (child q i) u) (λ i u. work n depth (child q i) u) (node f)
-      ∙ each-same (λ i u. work m depth (child q i) (work n depth (child q i) u)) (λ i u. work n depth (child q i) (work m depth (child q i) u)) f
+      ∙ each-same (λ i u. work m depth (child q i) (work n depth (child q i) u))
+      (λ i u. work n depth (child q i) (work m depth (child q i) u)) f
       (λ i l. commute depth (child q i) (f i) (fine i l))
       ∙ sym (each-both (λ i u. work n depth (child q i) u) (λ i u. work m depth (child q i) u) (node f))

@@ -1,4 +1,4 @@
--- Compact on trees: no empty table is left below the root, and the tables that go are counted. Leans on `compactTree` of `theory_forest`. Assumes nothing.
+-- Compact on trees: no empty table is left below the root, and the tables that go are counted. Leans on `compactTree` of `theory_forest`.
 use mathlib.Core.Path.{_≡_, refl, sym, ap, subst, _∙_}
 use mathlib.Core.Bool.{true, false, true≢false}
 use Prim.Native.Nat.{ℕ, zero, suc, _+_, _<_}
@@ -60,7 +60,8 @@ pub compact-count : (depth : ℕ) (t : Tree) → nodes (compactTree depth t) + e
 unfolding compactTree emptied
 compact-count zero t = omega arith
 compact-count (suc depth) t =
-    let balance : nodes (eachSlot (λ i u. squashed depth u) t) + total (λ i u. gone (λ v. emptied depth v) (λ v. compactTree depth v) u) t ≡ nodes t + total (λ i u. 0) t =
+    let balance : nodes (eachSlot (λ i u. squashed depth u) t) + total (λ i u. gone (λ v. emptied depth v) (λ v. compactTree depth v) u) t
+    ≡ nodes t + total (λ i u. 0) t =
     table-balance (λ i u. squashed depth u) (λ i u. gone (λ v. emptied depth v) (λ v. compactTree depth v) u) (λ i u. 0)
     (λ i u. slot-count depth u (λ f. compact-count depth (node f))) t in
     let none = total-none (λ i u. 0) (λ i u. refl) t in
@@ -72,12 +73,24 @@ tight-leaf : (depth w : ℕ) → Tight depth (leaf w)
 tight-leaf zero w = tt
 tight-leaf (suc depth) w = tt
 
-slot-tight : (depth : ℕ) (u : Tree) → ((f : ℕ → Tree) → Tight depth (compactTree depth (node f))) → (emptyTree (squashed depth u) ≡ false) × Tight depth (squashed depth u)
-slot-tight depth (leaf w) ih =
-    (ap emptyTree (squash-leaf (λ v. compactTree depth v) w) ∙ not-empty w, subst (Tight depth) (sym (squash-leaf (λ v. compactTree depth v) w)) (tight-leaf depth w))
+slot-tight : (depth : ℕ) (u : Tree) → ((f : ℕ → Tree) → Tight depth (compactTree depth (node f)))
+    → (emptyTree (squashed depth u) ≡ false) × Tight depth (squashed depth u)
+slot-tight depth (leaf w) ih = (
+  ap emptyTree (squash-leaf (λ v. compactTree depth v) w)
+      ∙ not-empty w,
+  subst (Tight depth) (sym (squash-leaf (λ v. compactTree depth v) w)) (tight-leaf depth w),
+)
 slot-tight depth (node f) ih = byBool (emptyTree (compactTree depth (node f)))
-    (λ e. (ap emptyTree (squash-drops (λ v. compactTree depth v) f e) ∙ not-empty 0, subst (Tight depth) (sym (squash-drops (λ v. compactTree depth v) f e)) (tight-leaf depth 0)))
-    (λ e. (ap emptyTree (squash-stays (λ v. compactTree depth v) f e) ∙ e, subst (Tight depth) (sym (squash-stays (λ v. compactTree depth v) f e)) (ih f)))
+    (λ e. (
+      ap emptyTree (squash-drops (λ v. compactTree depth v) f e)
+          ∙ not-empty 0,
+      subst (Tight depth) (sym (squash-drops (λ v. compactTree depth v) f e)) (tight-leaf depth 0),
+    ))
+    (λ e. (
+      ap emptyTree (squash-stays (λ v. compactTree depth v) f e)
+          ∙ e,
+      subst (Tight depth) (sym (squash-stays (λ v. compactTree depth v) f e)) (ih f),
+    ))
 
 pub compact-tight : (depth : ℕ) (t : Tree) → Tight depth (compactTree depth t)
 unfolding compactTree eachSlot

@@ -1,4 +1,4 @@
--- Tables: after a visit there are as many as before, more by those that it makes and fewer by those that it frees. Assumes nothing.
+-- Tables: after a visit there are as many as before, more by those that it makes and fewer by those that it frees.
 use mathlib.Core.Path.{_≡_, refl, ap, _∙_}
 use Prim.Native.Nat.{ℕ, zero, suc, _+_}
 use native.Mathlib.Omega.{arith}
@@ -7,7 +7,8 @@ use Rattle.theory_forest.specs.Tree.{Tree, leaf, node, eachSlot}
 use Rattle.theory_forest.specs.Nodes.{nodes}
 use Rattle.theory_tree.specs.Page.{first, child}
 use Rattle.theory_tree.specs.Word.{fillWord}
-use Rattle.theory_tree.specs.Visit.{Rule, keep, write, down, opened, splits, total, obey, counted, visit, made, freed, visitTable, madeTable, freedTable}
+use Rattle.theory_tree.specs.Visit.{Rule, keep, write, down, opened, splits, total, obey, counted, visit, made, freed, visitTable}
+use Rattle.theory_tree.specs.Visit.{madeTable, freedTable}
 use Rattle.theory_tree.specs.Slots.{each-node, each-leaf, slot-after, fill-node, fill-slot, slotAfter, fillSlot}
 
 pub nodes-leaf : (w : ℕ) → nodes (leaf w) ≡ 0
@@ -50,7 +51,8 @@ total-none h each (leaf w) = refl
 total-none h each (node f) = sum-none 512 (λ i. h i (f i)) (λ i l. each i (f i))
 
 -- a rule obeyed
-obey-balance : (r : Rule) (t u : Tree) (less more : ℕ) → nodes u + less ≡ nodes t + more → nodes (obey r t u) + counted r (nodes t) less ≡ nodes t + counted r 0 more
+obey-balance : (r : Rule) (t u : Tree) (less more : ℕ) → nodes u + less ≡ nodes t + more
+    → nodes (obey r t u) + counted r (nodes t) less ≡ nodes t + counted r 0 more
 unfolding obey counted
 obey-balance keep t u less more e = refl
 obey-balance (write x) t u less more e = let z = nodes-leaf x in omega arith
@@ -69,12 +71,14 @@ module _ (rule : ℕ → ℕ → Tree → Rule) where
   balance zero q t =
       obey-balance (rule zero (first zero q) t) t t 0 0 refl ∙ ap (λ (x : ℕ). nodes t + x) (counted-none (rule zero (first zero q) t))
   balance (suc depth) q t =
-      let table = table-balance (λ i u. visit rule depth (child q i) u) (λ i u. freed rule depth (child q i) u) (λ i u. made rule depth (child q i) u)
+      let table = table-balance (λ i u. visit rule depth (child q i) u) (λ i u. freed rule depth (child q i) u)
+      (λ i u. made rule depth (child q i) u)
       (λ i u. balance depth (child q i) u) (opened depth t) in
       let new = nodes-opened depth t in
       obey-balance (rule (suc depth) (first (suc depth) q) t) t _ _ _ (omega arith)
 
-  pub table-count : (depth q : ℕ) (t : Tree) → nodes (visitTable rule depth q t) + freedTable rule depth q t ≡ nodes t + madeTable rule depth q t
+  pub table-count : (depth q : ℕ) (t : Tree)
+      → nodes (visitTable rule depth q t) + freedTable rule depth q t ≡ nodes t + madeTable rule depth q t
   unfolding visitTable freedTable madeTable
   table-count depth q t =
       table-balance (λ i u. visit rule depth (child q i) u) (λ i u. freed rule depth (child q i) u) (λ i u. made rule depth (child q i) u)
@@ -102,7 +106,8 @@ module _ (rule : ℕ → ℕ → Tree → Rule) where
     unfolding freed
     frees-none zero q t = counted-below zero (first zero q) t 0 refl
     frees-none (suc depth) q t =
-        counted-below (suc depth) (first (suc depth) q) t _ (total-none (λ i u. freed rule depth (child q i) u) (λ i u. frees-none depth (child q i) u) (opened depth t))
+        counted-below (suc depth) (first (suc depth) q) t _
+        (total-none (λ i u. freed rule depth (child q i) u) (λ i u. frees-none depth (child q i) u) (opened depth t))
 
     pub table-frees-none : (depth q : ℕ) (t : Tree) → freedTable rule depth q t ≡ 0
     unfolding freedTable

@@ -1,7 +1,7 @@
--- THE DEMANDS, over the tree t that a sound pool's root shows: its entries have `depth` = 3 - (root level) levels below, the root is the r-th table of
--- its span (`Root`). Pages and frames are addresses / 4096; `In (suc left) r page` says that the root spans the page. `seen` is what a walk
--- shows of a page, "as before" in the document's sense; `walk` has the level too. `FineTable` says that each word is fine where it stands: `Forest`
--- gives it for the trees of a sound pool, and a map keeps it (`map-fine`). Assumes nothing.
+-- THE DEMANDS, over the tree t that a sound pool's root shows: its entries have `depth` = 3 - (root level) levels below, the root is the
+-- r-th table of its span (`Root`). Pages and frames are addresses / 4096; `In (suc left) r page` says that the root spans the page. `seen`
+-- is what a walk shows of a page, "as before" in the document's sense; `walk` has the level too. `FineTable` says that each word is fine
+-- where it stands: `Forest` gives it for the trees of a sound pool, and a map keeps it (`map-fine`).
 use mathlib.Core.Path.{_≡_, sym, ap, _∙_}
 use mathlib.Core.Bool.{true, false, cond}
 use mathlib.Core.List.{List, Permᴰ·symm}
@@ -18,9 +18,11 @@ use Rattle.theory_tree.specs.Rules.{Map, Given}
 use Rattle.theory_tree.specs.After.{covers, yes-covers, covers-yes, after-in, after-out, asked-valid, asked-hole}
 use Rattle.theory_tree.specs.Commute.{Apart}
 use Rattle.theory_tree.specs.Root.{mapTree, mapMade, mapFreed, map-seen, map-count, valid-frees-none, map-commute}
-use Rattle.theory_tree.specs.Order.{Reorders, Each, Pairwise, ValidMap, run, RoomFor, madeAll, each-reorders, pairwise-reorders, run-reorders, room-reorders, seen-reorders}
+use Rattle.theory_tree.specs.Order.{Reorders, Each, Pairwise, ValidMap, run, RoomFor, madeAll, each-reorders, pairwise-reorders}
+use Rattle.theory_tree.specs.Order.{run-reorders, room-reorders, seen-reorders}
 use Rattle.theory_tree.specs.Order.{room-enough}
-use Rattle.theory_tree.specs.Modify.{Modify, GivenModify, pagesOf, changed, afterModify, modifyTree, modifyMade, modify-seen, modify-count}
+use Rattle.theory_tree.specs.Modify.{Modify, GivenModify, pagesOf, changed, afterModify, modifyTree, modifyMade, modify-seen}
+use Rattle.theory_tree.specs.Modify.{modify-count}
 
 -- the page is one of the region
 pub record OfRegion (start end page : ℕ) : Type 0 where
@@ -35,12 +37,15 @@ module _ (depth r : ℕ) (t : Tree) (fine : FineTable depth t) where
     pub region-mapped : OfRegion (m .from) (m .upto) page → valid (m .flags) ≡ true
         → seen (suc depth) (mapTree depth r m t) page ≡ mapped (m .flags) (m .frame + (page - m .from))
     region-mapped p v =
-        map-seen depth r m given t fine page spans ∙ after-in m page (seen (suc depth) t page) (yes-covers m page (p .from) (p .below)) ∙ asked-valid m page v
+        map-seen depth r m given t fine page spans ∙ after-in m page (seen (suc depth) t page) (yes-covers m page (p .from) (p .below))
+        ∙ asked-valid m page v
 
     -- without VALID the region's pages are holes with its flags;
-    pub region-holes : OfRegion (m .from) (m .upto) page → valid (m .flags) ≡ false → seen (suc depth) (mapTree depth r m t) page ≡ hole (m .flags)
+    pub region-holes : OfRegion (m .from) (m .upto) page → valid (m .flags) ≡ false
+        → seen (suc depth) (mapTree depth r m t) page ≡ hole (m .flags)
     region-holes p v =
-        map-seen depth r m given t fine page spans ∙ after-in m page (seen (suc depth) t page) (yes-covers m page (p .from) (p .below)) ∙ asked-hole m page v
+        map-seen depth r m given t fine page spans ∙ after-in m page (seen (suc depth) t page) (yes-covers m page (p .from) (p .below))
+        ∙ asked-hole m page v
 
     -- every other page walks as before: kind of answer, frame, flags
     pub others-as-before : ¬ (OfRegion (m .from) (m .upto) page) → seen (suc depth) (mapTree depth r m t) page ≡ seen (suc depth) t page
@@ -71,7 +76,8 @@ module _ (depth r : ℕ) (t : Tree) (fine : FineTable depth t) where
       record {
         accepted = (
           room-reorders depth r k reorders apart valid t fine room,
-          room-reorders depth r k (Permᴰ·symm reorders) (pairwise-reorders reorders apart) (each-reorders ValidMap reorders valid) t fine room,
+          room-reorders depth r k (Permᴰ·symm reorders) (pairwise-reorders reorders apart)
+              (each-reorders ValidMap reorders valid) t fine room,
         );
         answers = λ page. ap (λ (u : Tree). walk (suc depth) u page) same;
         tables = ap nodes same;
@@ -85,7 +91,8 @@ module _ (depth r : ℕ) (t : Tree) (fine : FineTable depth t) where
   -- ---- MODIFY
 
   module _ (e : Modify) (given : GivenModify e) (page : ℕ) (spans : In (suc depth) r page) where
-    -- a page of the region that was mapped keeps its frame, with the flags (flags or set) without clear, and is a hole where that clears VALID;
+    -- a page of the region that was mapped keeps its frame, with the flags (flags or set) without clear, and is a hole where that clears
+    -- VALID;
     pub modified : (f p : ℕ) → OfRegion (e .from) (e .upto) page → seen (suc depth) t page ≡ mapped f p
         → seen (suc depth) (modifyTree depth r e t) page
         ≡ cond (valid (edited (e .set) (e .clear) f)) (mapped (edited (e .set) (e .clear) f) p) (hole (edited (e .set) (e .clear) f))
@@ -95,7 +102,8 @@ module _ (depth r : ℕ) (t : Tree) (fine : FineTable depth t) where
         ∙ rw (yes-covers (pagesOf e) page (of .from) (of .below), old)
 
     -- a hole of the region stays as it is;
-    pub holes-stay : (f : ℕ) → OfRegion (e .from) (e .upto) page → seen (suc depth) t page ≡ hole f → seen (suc depth) (modifyTree depth r e t) page ≡ hole f
+    pub holes-stay : (f : ℕ) → OfRegion (e .from) (e .upto) page → seen (suc depth) t page ≡ hole f
+        → seen (suc depth) (modifyTree depth r e t) page ≡ hole f
     unfolding afterModify changed
     holes-stay f of old = modify-seen depth r e given t fine page spans ∙ rw (yes-covers (pagesOf e) page (of .from) (of .below), old)
 

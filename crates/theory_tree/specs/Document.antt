@@ -1,6 +1,6 @@
--- "Putting down a map" word for word, over addresses: the first rule that fits a chunk. Run chunk by chunk as `Chunks` has it, it is the map of `Root`.
--- By address the leaf's word is entry's `leafWordOf`, here `written`, and the test of a whole entry region's `whole`, here `wholeEntry`; `leafWordOf` of `Word` and
--- `whole` of `Rules` say the same by pages. `word-frames` and `whole-is` join them. Assumes nothing.
+-- "Putting down a map" word for word, over addresses: the first rule that fits a chunk. Run chunk by chunk as `Chunks` has it, it is the
+-- map of `Root`. By address the leaf's word is entry's `leafWordOf`, here `written`, and the test of a whole entry region's `whole`, here
+-- `wholeEntry`; `leafWordOf` of `Word` and `whole` of `Rules` say the same by pages. `word-frames` and `whole-is` join them.
 use mathlib.Core.Path.{_≡_, refl, ap, ap₂, _∙_}
 use mathlib.Core.Bool.{Bool, true, false, not, cond, _&&_}
 use mathlib.Core.Logic.{_⊎_, inl, inr}
@@ -23,7 +23,8 @@ use Rattle.theory_tree.specs.Chunks.{inPages, Inside, chunkedTable}
 use Rattle.theory_tree.specs.Sweep.{RulesSay, table-is}
 use Rattle.theory_tree.specs.Root.{mapTree}
 
--- rule 2's test of the word w: "same flags, and frame at least the chunk's offset in the entry with difference equal to the entry's address"
+-- rule 2's test of the word w: "same flags, and frame at least the chunk's offset in the entry with difference equal to the entry's
+-- address"
 unfoldable pub already : ℕ → MemoryRegion → ℕ → ℕ → ℕ → Bool
 already level c frame flags w =
     let offset = c .start .0 % sizeAt level in
@@ -66,10 +67,14 @@ module _ (depth q s e p flags : ℕ) (blocks : Bool) (low : depth ≤ 3) (some :
 
   -- the chunk's offset in the entry
   offset : s % sizeAt (3 - depth) ≡ (s / 4096 - b) * 4096
-  offset = entry-rest depth s low (I .startPage) ∙ (let r = in-rest depth q (s / 4096) start-in in let e : s / 4096 % pagesIn depth * 4096 ≡ (s / 4096 - b) * 4096 = omega arith in e)
+  offset =
+      entry-rest depth s low (I .startPage)
+      ∙ (let r = in-rest depth q (s / 4096) start-in in let e : s / 4096 % pagesIn depth * 4096 ≡ (s / 4096 - b) * 4096 = omega arith in e)
 
   pub meets-is : meets depth b m ≡ true
-  meets-is = yes-meets depth b m (s / 4096) (omega arith) (omega (arith, I .startPage, I .endPage)) (I .low) (omega (arith, I .startPage, I .endPage, I .high))
+  meets-is =
+      yes-meets depth b m (s / 4096) (omega arith) (omega (arith, I .startPage, I .endPage)) (I .low)
+      (omega (arith, I .startPage, I .endPage, I .high))
 
   already-is : (w : ℕ) → already (3 - depth) (region s e) p flags w ≡ same b m w
   unfolding already same
@@ -96,7 +101,8 @@ module _ (depth q s e p flags : ℕ) (blocks : Bool) (low : depth ≤ 3) (some :
   -- it ends with the entry
   end-is : eqb (e % sizeAt (3 - depth)) 0 ≡ leb (b + pagesIn depth) (e / 4096)
   end-is = let r = entry-rest depth e low (I .endPage) in same-test (eqb (e % sizeAt (3 - depth)) 0) (leb (b + pagesIn depth) (e / 4096))
-      (λ t. let x = eqb→eq (e % sizeAt (3 - depth)) 0 t in le→leb (b + pagesIn depth) (e / 4096) (ends (omega arith) (le-or (b + pagesIn depth) (e / 4096))))
+      (λ t. let x = eqb→eq (e % sizeAt (3 - depth)) 0 t in
+      le→leb (b + pagesIn depth) (e / 4096) (ends (omega arith) (le-or (b + pagesIn depth) (e / 4096))))
       (λ t. let x = leb→le (b + pagesIn depth) (e / 4096) t in
       let y : e / 4096 ≡ b + pagesIn depth = omega (arith, I .high) in
       let z : e / 4096 % pagesIn depth ≡ 0 = ap (λ (x : ℕ). x % pagesIn depth) y ∙ end-rest depth q in
@@ -168,7 +174,10 @@ module _ (flags : ℕ) (blocks : Bool) where
       rw (meets-is (suc depth) q s e p flags blocks low some I, drops-is (suc depth) q s e p flags blocks low some I)
 
   -- THE DOCUMENT'S LOOP IS THE MAP ON TREES, also for a region with no page
-  pub document-is : (depth r start end frame : ℕ) (f : ℕ → Tree) → depth ≤ 3 → Inside (first (suc depth) r) (pagesIn (suc depth)) start end frame
-      → chunkedTable (documentRule flags blocks) depth (region start end) frame (node f) ≡ mapTree depth r (inPages flags blocks start end frame) (node f)
+  pub document-is : (depth r start end frame : ℕ) (f : ℕ → Tree) → depth ≤ 3
+      → Inside (first (suc depth) r) (pagesIn (suc depth)) start end frame
+      → chunkedTable (documentRule flags blocks) depth (region start end) frame (node f)
+      ≡ mapTree depth r (inPages flags blocks start end frame) (node f)
   unfolding mapTree
-  document-is depth r start end frame f low I = table-is map-local (documentRule flags blocks) flags blocks document-says depth r start end frame f low I
+  document-is depth r start end frame f low I =
+      table-is map-local (documentRule flags blocks) flags blocks document-says depth r start end frame f low I

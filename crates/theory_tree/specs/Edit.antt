@@ -1,5 +1,4 @@
 -- An edit of a word by bits to set and bits to clear, both flags that a call may give: the frame and bit 1 stay, the flags are edited.
--- Assumes nothing.
 use mathlib.Core.Path.{_≡_, sym, ap, ap₂, _∙_}
 use mathlib.Core.Bool.{true}
 use Prim.Native.Nat.{ℕ, _*_, _-_, _/_, _%_, _^_, _<_}
@@ -16,7 +15,8 @@ bit-mask w = and-high w 1 1
 
 module _ (set clear : ℕ) (S : Plain set) (C : Plain clear) where
   -- bits that neither touches
-  edited-keeps : (w mask : ℕ) → w < 2 ^ 64 → mask < 2 ^ 64 → bitAnd set mask ≡ 0 → bitAnd clear mask ≡ 0 → bitAnd (edited set clear w) mask ≡ bitAnd w mask
+  edited-keeps : (w mask : ℕ) → w < 2 ^ 64 → mask < 2 ^ 64 → bitAnd set mask ≡ 0 → bitAnd clear mask ≡ 0
+      → bitAnd (edited set clear w) mask ≡ bitAnd w mask
   unfolding edited
   edited-keeps w mask wide small noSet noClear =
       let none : bitAnd (bitAnd w mask) clear ≡ 0 = and-assoc w mask clear ∙ ap (bitAnd w) (and-comm mask clear ∙ noClear) ∙ and-zero-r w in
@@ -51,7 +51,8 @@ module _ (set clear : ℕ) (S : Plain set) (C : Plain clear) where
   edited-plain w wide =
       sym (mask-plain (bitAnd (bitOr w set) (2 ^ 64 - 1 - clear)) (edited-wide w))
       ∙ and-swap (bitOr w set) (2 ^ 64 - 1 - clear) 0xFFFF_0000_0000_0FFD
-      ∙ ap (λ (x : ℕ). bitAnd x (2 ^ 64 - 1 - clear)) (and-or w set 0xFFFF_0000_0000_0FFD ∙ ap₂ bitOr (mask-plain w wide) (mask-plain set (S .wide) ∙ flags-shown set S))
+      ∙ ap (λ (x : ℕ). bitAnd x (2 ^ 64 - 1 - clear))
+      (and-or w set 0xFFFF_0000_0000_0FFD ∙ ap₂ bitOr (mask-plain w wide) (mask-plain set (S .wide) ∙ flags-shown set S))
 
   plain-odd : (w : ℕ) → plainFlags w % 2 ≡ w % 2
   unfolding plainFlags
@@ -59,7 +60,8 @@ module _ (set clear : ℕ) (S : Plain set) (C : Plain clear) where
 
   pub edited-valid : (w : ℕ) → w < 2 ^ 64 → valid (edited set clear (plainFlags w)) ≡ valid (edited set clear w)
   edited-valid w wide =
-      valid-same (edited set clear (plainFlags w)) (edited set clear w) (ap (λ (x : ℕ). x % 2) (sym (edited-plain w wide)) ∙ plain-odd (edited set clear w))
+      valid-same (edited set clear (plainFlags w)) (edited set clear w)
+      (ap (λ (x : ℕ). x % 2) (sym (edited-plain w wide)) ∙ plain-odd (edited set clear w))
 
   -- an edited word is fine where the word was
   pub fine-edited : (depth w : ℕ) → Fine depth w → valid w ≡ true → Fine depth (edited set clear w)

@@ -1,5 +1,5 @@
--- A rule that looks at an entry's own part of the region alone: two calls that agree on an entry do the same to it. Map and modify have such rules.
--- Assumes nothing.
+-- A rule that looks at an entry's own part of the region alone: two calls that agree on an entry do the same to it. Map and modify have
+-- such rules.
 use mathlib.Core.Path.{_≡_, refl, sym, ap, ap₂, _∙_}
 use mathlib.Core.Bool.{Bool, false, not, _&&_}
 use Prim.Native.Nat.{ℕ, zero, suc, _+_, _≤_, _<_, min, max}
@@ -32,7 +32,8 @@ unfolding meets
 meets-no depth b m h = le-ltb (max (m .from) b) (min (m .upto) (b + pagesIn depth)) h
 
 -- .. then on the entries below
-pub agree-child : (depth q i : ℕ) (m n : Map) → i < 512 → Agree (suc depth) (first (suc depth) q) m n → Agree depth (first depth (child q i)) m n
+pub agree-child : (depth q i : ℕ) (m n : Map) → i < 512 → Agree (suc depth) (first (suc depth) q) m n
+    → Agree depth (first depth (child q i)) m n
 agree-child depth q i m n l a =
     let c = child-in depth q i l in
     record {
@@ -48,7 +49,8 @@ module _ {rule : Map → ℕ → ℕ → Tree → Rule} (L : Local rule) where
   visit-off m depth q t e = visit-keep (rule m) depth q t (L .off m depth (first depth q) t e)
 
   -- one tree from two calls that agree on its entry
-  pub visit-agree : (m n : Map) (depth q : ℕ) (t : Tree) → Agree depth (first depth q) m n → visit (rule m) depth q t ≡ visit (rule n) depth q t
+  pub visit-agree : (m n : Map) (depth q : ℕ) (t : Tree) → Agree depth (first depth q) m n
+      → visit (rule m) depth q t ≡ visit (rule n) depth q t
   unfolding visit opened
   visit-agree m n zero q t a = ap (λ (x : Rule). obey x t t) (L .agree m n zero (first zero q) t a)
   visit-agree m n (suc depth) q (leaf w) a =
@@ -99,9 +101,12 @@ module _ (depth b : ℕ) (m n : Map) (a : Agree depth b m n) where
 
   agree-same : (w : ℕ) → same b m w ≡ same b n w
   unfolding same
-  agree-same w = ap₂ _&&_ (ap (eqb (flagsOf w)) (a .sameFlags)) (same-test (eqb (m .frame + b) (frameIn w + m .from)) (eqb (n .frame + b) (frameIn w + n .from))
+  agree-same w =
+      ap₂ _&&_ (ap (eqb (flagsOf w)) (a .sameFlags))
+      (same-test (eqb (m .frame + b) (frameIn w + m .from)) (eqb (n .frame + b) (frameIn w + n .from))
       (λ t. eq→eqb (n .frame + b) (frameIn w + n .from) (let e = eqb→eq (m .frame + b) (frameIn w + m .from) t in omega (arith, a .frames)))
-      (λ t. eq→eqb (m .frame + b) (frameIn w + m .from) (let e = eqb→eq (n .frame + b) (frameIn w + n .from) t in omega (arith, a .frames))))
+      (λ t. eq→eqb (m .frame + b) (frameIn w + m .from)
+      (let e = eqb→eq (n .frame + b) (frameIn w + n .from) t in omega (arith, a .frames))))
 
   -- what rules 1 and 3 write
   agree-word : m .from ≤ b → leafWordOf depth (frameAt b m) (m .flags) ≡ leafWordOf depth (frameAt b n) (n .flags)

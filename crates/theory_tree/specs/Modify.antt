@@ -1,5 +1,5 @@
--- Modify on trees (document 01, "Putting down a map", Modify): valid blocks and pages of the region get their flags edited, a table's word never; a partly
--- covered entry is split first, hole or not. Assumes nothing.
+-- Modify on trees (document 01, "Putting down a map", Modify): valid blocks and pages of the region get their flags edited, a table's word
+-- never; a partly covered entry is split first, hole or not.
 use mathlib.Core.Path.{_≡_, refl, sym, ap, _∙_}
 use mathlib.Core.Bool.{true, false, cond}
 use Prim.Native.Nat.{ℕ, zero, suc, _+_}
@@ -116,7 +116,9 @@ module _ (set clear : ℕ) where
       unfolding editRule
       edit-right depth w page fine c = byBool (valid w)
           (λ v. rw v (edit-seen depth w page fine v ∙ ap changed (sym (seen-leaf depth w page)) ∙ in-region depth page (leaf w) c))
-          (λ v. rw v (seen-leaf depth w page ∙ hole-seen depth w page fine v ∙ ap changed (sym (seen-leaf depth w page)) ∙ in-region depth page (leaf w) c))
+          (λ v. rw v
+          (seen-leaf depth w page ∙ hole-seen depth w page fine v ∙ ap changed (sym (seen-leaf depth w page))
+          ∙ in-region depth page (leaf w) c))
 
       modify-good : (depth q : ℕ) (t : Tree) → FineTree depth t → Good depth (modifyRule m depth (first depth q) t)
       unfolding modifyRule
@@ -129,7 +131,8 @@ module _ (set clear : ℕ) where
           (λ e. rw e tt)
       modify-good (suc depth) q (node f) fine = byBool (meets (suc depth) (first (suc depth) q) m) (λ e. rw e tt) (λ e. rw e tt)
 
-      modify-right : (depth q : ℕ) (t : Tree) (page : ℕ) → FineTree depth t → In depth q page → Right (afterModify m) depth t page (modifyRule m depth (first depth q) t)
+      modify-right : (depth q : ℕ) (t : Tree) (page : ℕ) → FineTree depth t → In depth q page
+          → Right (afterModify m) depth t page (modifyRule m depth (first depth q) t)
       unfolding modifyRule
       modify-right zero q (leaf w) page fine at =
           let b : ℕ = first zero q in
@@ -172,4 +175,9 @@ module _ (depth r : ℕ) where
   unfolding modifyTree modifyMade
   modify-count e t =
       let rule : ℕ → ℕ → Tree → Rule = modifyRule (e .set) (e .clear) (pagesOf e) in
-      omega (arith, table-count rule depth r t, table-frees-none rule (λ k b f x. modify-keeps-table (e .set) (e .clear) (pagesOf e) k b f x) depth r t)
+      omega (
+        arith,
+        table-count rule depth r t,
+        table-frees-none rule
+            (λ k b f x. modify-keeps-table (e .set) (e .clear) (pagesOf e) k b f x) depth r t,
+      )

@@ -1,4 +1,4 @@
--- The new tables that the document's loop takes, chunk by chunk (refusal 9's count), are those that the visit takes. Assumes nothing.
+-- The new tables that the document's loop takes, chunk by chunk (refusal 9's count), are those that the visit takes.
 use mathlib.Core.Path.{_≡_, refl, sym, ap, ap₂, subst, _∙_}
 use mathlib.Core.Bool.{Bool, false, cond}
 use mathlib.Core.List.{List, [], _∷_}
@@ -42,7 +42,8 @@ module _ (rules : ℕ → MemoryRegion → ℕ → Tree → Rule) where
   unfoldable pub needed : ℕ → MemoryRegion → ℕ → Tree → ℕ
   needed zero c frame t = 0
   needed (suc depth) c frame t =
-      let below = splits t + tallied depth (λ d p u. needed depth d p u) (chunks (3 - depth) (c .start .0) (c .end .0)) frame (opened depth t) in
+      let below = splits t
+      + tallied depth (λ d p u. needed depth d p u) (chunks (3 - depth) (c .start .0) (c .end .0)) frame (opened depth t) in
       counted (rules (suc depth) c frame t) 0 below
 
   -- .. for the region c of a table
@@ -51,7 +52,8 @@ module _ (rules : ℕ → MemoryRegion → ℕ → Tree → Rule) where
 
 -- ---- it is the visit's
 
-table-made : (depth q : ℕ) (rule : ℕ → ℕ → Tree → Rule) (t : Tree) → madeTable rule depth q t ≡ total (λ i u. made rule depth (child q i) u) t
+table-made : (depth q : ℕ) (rule : ℕ → ℕ → Tree → Rule) (t : Tree)
+    → madeTable rule depth q t ≡ total (λ i u. made rule depth (child q i) u) t
 unfolding madeTable
 table-made depth q rule t = refl
 
@@ -94,7 +96,8 @@ module _ {rule : Map → ℕ → ℕ → Tree → Rule} (L : Local rule) (rules 
     none : (j : ℕ) → j ≢ i → only j ≡ 0
     none j other = rw (ne-eqb j i other)
 
-    here : meets depth (first depth (child q i)) (call z e (p + (z - s))) ≡ false → Agree depth (first depth (child q i)) (call s z p) (call s e p) → Slot i
+    here : meets depth (first depth (child q i)) (call z e (p + (z - s))) ≡ false
+        → Agree depth (first depth (child q i)) (call s z p) (call s e p) → Slot i
     here past same =
         let one : only i ≡ needed rules depth (region s z) p (f i) = rw (eq-eqb i i refl) in
         omega (
@@ -110,14 +113,23 @@ module _ {rule : Map → ℕ → ℕ → Tree → Rule} (L : Local rule) (rules 
       where
         go : Shares flags blocks depth q s e p z i j → Slot j
         go (nothing other off past) =
-            omega (arith, none j other, made-off L (call z e (p + (z - s))) depth (child q j) (f j) past, made-off L (call s e p) depth (child q j) (f j) off)
+            omega (
+              arith,
+              none j other,
+              made-off L (call z e (p + (z - s))) depth (child q j) (f j) past,
+              made-off L (call s e p) depth
+                  (child q j) (f j) off,
+            )
         go (chunk at past same) = subst Slot (sym at) (here past same)
         go (rest other same) = omega (arith, none j other, made-agree L (call z e (p + (z - s))) (call s e p) depth (child q j) (f j) same)
 
-    table : i < 512 → madeTable (rule (call s e p)) depth q (node f) ≡ needed rules depth (region s z) p (f i) + madeTable (rule (call z e (p + (z - s)))) depth q (node f)
+    table : i < 512
+        → madeTable (rule (call s e p)) depth q (node f)
+        ≡ needed rules depth (region s z) p (f i) + madeTable (rule (call z e (p + (z - s)))) depth q (node f)
     unfolding madeTable total
     table l =
-        sum-ext 512 (λ j. made (rule (call s e p)) depth (child q j) (f j)) (λ j. only j + made (rule (call z e (p + (z - s)))) depth (child q j) (f j)) (λ j h. slot j)
+        sum-ext 512 (λ j. made (rule (call s e p)) depth (child q j) (f j))
+        (λ j. only j + made (rule (call z e (p + (z - s)))) depth (child q j) (f j)) (λ j h. slot j)
         ∙ sum-add 512 only (λ j. made (rule (call z e (p + (z - s)))) depth (child q j) (f j))
         ∙ ap (λ (x : ℕ). x + sum 512 (λ j. made (rule (call z e (p + (z - s)))) depth (child q j) (f j)))
         (sum-only 512 only i l none ∙ (let one : only i ≡ needed rules depth (region s z) p (f i) = rw (eq-eqb i i refl) in one))
@@ -130,12 +142,17 @@ module _ {rule : Map → ℕ → ℕ → Tree → Rule} (L : Local rule) (rules 
 
   tallied-is : (depth : ℕ) → depth ≤ 3 → Counts depth → (n q s e p : ℕ) (f : ℕ → Tree) → met (3 - depth) s e ≡ n
       → Inside (first (suc depth) q) (pagesIn (suc depth)) s e p
-      → tallied depth (λ d x u. needed rules depth d x u) (chunks (3 - depth) s e) p (node f) ≡ madeTable (rule (call s e p)) depth q (node f)
+      → tallied depth (λ d x u. needed rules depth d x u) (chunks (3 - depth) s e) p (node f)
+      ≡ madeTable (rule (call s e p)) depth q (node f)
   unfolding tallied slotTree
   tallied-is depth low counts zero q s e p f n I = go (le-or e s)
     where
-      go : (e ≤ s) ⊎ (s < e) → tallied depth (λ d x u. needed rules depth d x u) (chunks (3 - depth) s e) p (node f) ≡ madeTable (rule (call s e p)) depth q (node f)
-      go (inl h) = ap (λ (cs : List MemoryRegion). tallied depth (λ d x u. needed rules depth d x u) cs p (node f)) (chunks-none (3 - depth) s e h) ∙ sym (table-none depth q s e p f h)
+      go : (e ≤ s) ⊎ (s < e)
+          → tallied depth (λ d x u. needed rules depth d x u) (chunks (3 - depth) s e) p (node f)
+          ≡ madeTable (rule (call s e p)) depth q (node f)
+      go (inl h) =
+          ap (λ (cs : List MemoryRegion). tallied depth (λ d x u. needed rules depth d x u) cs p (node f)) (chunks-none (3 - depth) s e h)
+          ∙ sym (table-none depth q s e p f h)
       go (inr h) = absurd (let k = met-step (3 - depth) s e h in omega arith)
   tallied-is depth low counts (suc n) q s e p f k I = go (le-or e s) (λ z. tallied-is depth low counts n q z e (p + (z - s)) f)
     where
@@ -146,13 +163,16 @@ module _ {rule : Map → ℕ → ℕ → Tree → Rule} (L : Local rule) (rules 
           → ((z : ℕ) → met (3 - depth) z e ≡ n → Inside (first (suc depth) q) (pagesIn (suc depth)) z e (p + (z - s))
           → tallied depth each (chunks (3 - depth) z e) (p + (z - s)) (node f) ≡ madeTable (rule (call z e (p + (z - s)))) depth q (node f))
           → tallied depth each (chunks (3 - depth) s e) p (node f) ≡ madeTable (rule (call s e p)) depth q (node f)
-      go (inl h) ih = ap (λ (cs : List MemoryRegion). tallied depth each cs p (node f)) (chunks-none (3 - depth) s e h) ∙ sym (table-none depth q s e p f h)
+      go (inl h) ih =
+          ap (λ (cs : List MemoryRegion). tallied depth each cs p (node f)) (chunks-none (3 - depth) s e h)
+          ∙ sym (table-none depth q s e p f h)
       go (inr h) ih =
           let z : ℕ = chunkEnd (3 - depth) s e in
           let c = cut depth q s e p low h I in
           let fewer : met (3 - depth) (chunkEnd (3 - depth) s e) e ≡ n = let m = met-step (3 - depth) s e h in omega arith in
           ap (λ (cs : List MemoryRegion). tallied depth each cs p (node f)) (chunks-step (3 - depth) s e h)
-          ∙ ap (λ (x : ℕ). each (region s z) p (f x) + tallied depth each (chunks (3 - depth) z e) (p + (z - s)) (node f)) (index-slot depth s low)
+          ∙ ap (λ (x : ℕ). each (region s z) p (f x) + tallied depth each (chunks (3 - depth) z e) (p + (z - s)) (node f))
+          (index-slot depth s low)
           ∙ ap (λ (x : ℕ). each (region s z) p (f (slotOfPage (s / 4096) depth)) + x) (ih z fewer (c .rest))
           ∙ sym (table depth q s e p z (slotOfPage (s / 4096) depth) low counts c f (slot-lt (s / 4096) depth))
 
@@ -167,7 +187,8 @@ module _ {rule : Map → ℕ → ℕ → Tree → Rule} (L : Local rule) (rules 
         ∙ ap (madeTable (rule (call s e p)) depth q) (sym (fill-node depth w)) ∙ table-made depth q (rule (call s e p)) (fillTree depth w))
     needed-is (suc depth) q s e p (node f) low some I =
         ap₂ (λ (x : Rule) (k : ℕ). counted x 0 (splits (node f) + k)) (says (suc depth) q s e p (node f) low some I)
-        (tallied-is depth (omega arith) (needed-is depth) (met (3 - depth) s e) q s e p f refl I ∙ table-made depth q (rule (call s e p)) (node f))
+        (tallied-is depth (omega arith) (needed-is depth) (met (3 - depth) s e) q s e p f refl I
+        ∙ table-made depth q (rule (call s e p)) (node f))
 
     pub table-needed : (depth q s e p : ℕ) (f : ℕ → Tree) → depth ≤ 3 → Inside (first (suc depth) q) (pagesIn (suc depth)) s e p
         → neededTable rules depth (region s e) p (node f) ≡ madeTable (rule (call s e p)) depth q (node f)
@@ -177,7 +198,8 @@ module _ {rule : Map → ℕ → ℕ → Tree → Rule} (L : Local rule) (rules 
 -- WHAT THE DOCUMENT'S LOOP TAKES IS WHAT THE MAP TAKES
 pub document-needs : (flags : ℕ) (blocks : Bool) (depth r start end frame : ℕ) (f : ℕ → Tree) → depth ≤ 3
     → Inside (first (suc depth) r) (pagesIn (suc depth)) start end frame
-    → neededTable (documentRule flags blocks) depth (region start end) frame (node f) ≡ mapMade depth r (inPages flags blocks start end frame) (node f)
+    → neededTable (documentRule flags blocks) depth (region start end) frame (node f)
+    ≡ mapMade depth r (inPages flags blocks start end frame) (node f)
 unfolding mapMade
 document-needs flags blocks depth r start end frame f low I =
     table-needed map-local (documentRule flags blocks) flags blocks (document-says flags blocks) depth r start end frame f low I

@@ -1,4 +1,4 @@
--- Any number of maps in any order (Q-13); demand 3 is the case of two. Assumes nothing.
+-- Any number of maps in any order (Q-13); demand 3 is the case of two.
 use mathlib.Core.Path.{_≡_, refl, sym, ap, ap₂, subst, subst₂, _∙_}
 use mathlib.Core.Bool.{true}
 use mathlib.Core.List.{List, [], _∷_, List·Permᴰ, List·Permᴰ·nil, List·Permᴰ·cons, List·Permᴰ·swap, List·Permᴰ·trans}
@@ -48,9 +48,11 @@ each-reorders P (List·Permᴰ·cons e d) h = (subst P e (h .0), each-reorders P
 each-reorders P (List·Permᴰ·swap p q) h = (subst P q (h .1 .0), (subst P p (h .0), h .1 .1))
 each-reorders P (List·Permᴰ·trans c d) h = each-reorders P d (each-reorders P c h)
 
-pub pairs-reorders : {A : Type 0} (R : A → A → Type 0) → ((m n : A) → R m n → R n m) → {ms ns : List A} → Reorders ms ns → Pairs R ms → Pairs R ns
+pub pairs-reorders : {A : Type 0} (R : A → A → Type 0) → ((m n : A) → R m n → R n m) → {ms ns : List A} → Reorders ms ns → Pairs R ms
+    → Pairs R ns
 pairs-reorders R flip List·Permᴰ·nil h = h
-pairs-reorders R flip (List·Permᴰ·cons {a = a} {l₂ = k} e d) h = (subst (λ m. Each (R m) k) e (each-reorders (R a) d (h .0)), pairs-reorders R flip d (h .1))
+pairs-reorders R flip (List·Permᴰ·cons {a = a} {l₂ = k} e d) h =
+    (subst (λ m. Each (R m) k) e (each-reorders (R a) d (h .0)), pairs-reorders R flip d (h .1))
 pairs-reorders R flip (List·Permᴰ·swap {a = a} {b = b} {l = k} p q) h =
     ((subst₂ R q p (flip a b (h .0 .0)), subst (λ m. Each (R m) k) q (h .1 .0)), (subst (λ m. Each (R m) k) p (h .0 .1), h .1 .1))
 pairs-reorders R flip (List·Permᴰ·trans c d) h = pairs-reorders R flip d (pairs-reorders R flip c h)
@@ -77,7 +79,8 @@ afters-reorders List·Permᴰ·nil h page old = refl
 afters-reorders (List·Permᴰ·cons {a = a} {l₂ = k} e d) h page old =
     afters-reorders d (h .1) page (after a page old) ∙ ap (λ (m : Map). afters k page (after m page old)) e
 afters-reorders (List·Permᴰ·swap {a = a} {b = b} {l = k} p q) h page old =
-    ap (afters k page) (after-swap b a (apart-flip a b (h .0 .0)) page old) ∙ ap₂ (λ (m n : Map). afters k page (after m page (after n page old))) p q
+    ap (afters k page) (after-swap b a (apart-flip a b (h .0 .0)) page old)
+    ∙ ap₂ (λ (m n : Map). afters k page (after m page (after n page old))) p q
 afters-reorders (List·Permᴰ·trans c d) h page old = afters-reorders c h page old ∙ afters-reorders d (pairwise-reorders c h) page old
 
 -- ---- a list of calls on a root's tree
@@ -100,11 +103,13 @@ module _ (depth r : ℕ) where
 
   -- ---- with VALID: every order leaves the same tree
 
-  pub run-reorders : {ms ns : List Map} → Reorders ms ns → Pairwise ms → Each ValidMap ms → (t : Tree) → FineTable depth t → run ms t ≡ run ns t
+  pub run-reorders : {ms ns : List Map} → Reorders ms ns → Pairwise ms → Each ValidMap ms → (t : Tree) → FineTable depth t
+      → run ms t ≡ run ns t
   unfolding run
   run-reorders List·Permᴰ·nil h v t fine = refl
   run-reorders (List·Permᴰ·cons {a = a} {l₂ = k} e d) h v t fine =
-      run-reorders d (h .1) (v .1) (mapTree depth r a t) (map-fine depth r a (v .0 .given) t fine) ∙ ap (λ (m : Map). run k (mapTree depth r m t)) e
+      run-reorders d (h .1) (v .1) (mapTree depth r a t) (map-fine depth r a (v .0 .given) t fine)
+      ∙ ap (λ (m : Map). run k (mapTree depth r m t)) e
   run-reorders (List·Permᴰ·swap {a = a} {b = b} {l = k} p q) h v t fine =
       ap (run k) (map-commute depth r b a (apart-flip a b (h .0 .0)) (v .1 .0 .valid) (v .0 .valid) t fine)
       ∙ ap₂ (λ (m n : Map). run k (mapTree depth r m (mapTree depth r n t))) p q
@@ -128,10 +133,12 @@ module _ (depth r : ℕ) where
     ),
   )
 
-  pub room-reorders : (n : ℕ) {ms ns : List Map} → Reorders ms ns → Pairwise ms → Each ValidMap ms → (t : Tree) → FineTable depth t → nodes t ≤ n
+  pub room-reorders : (n : ℕ) {ms ns : List Map} → Reorders ms ns → Pairwise ms → Each ValidMap ms → (t : Tree) → FineTable depth t
+      → nodes t ≤ n
       → RoomFor n ms t → RoomFor n ns t
   room-reorders n {ms} {ns} d h v t fine k room =
-      room-if n ns (each-reorders ValidMap d v) t k .1 (subst (λ (u : Tree). nodes u ≤ n) (run-reorders d h v t fine) (room-if n ms v t k .0 room))
+      room-if n ns (each-reorders ValidMap d v) t k .1
+      (subst (λ (u : Tree). nodes u ≤ n) (run-reorders d h v t fine) (room-if n ms v t k .0 room))
 
   -- ---- with and without VALID: what each page shows in the end, in any order
 
@@ -140,12 +147,15 @@ module _ (depth r : ℕ) where
   unfolding run afters
   run-seen [] g t fine page at = refl
   run-seen (m ∷ ms) g t fine page at =
-      run-seen ms (g .1) (mapTree depth r m t) (map-fine depth r m (g .0) t fine) page at ∙ ap (afters ms page) (map-seen depth r m (g .0) t fine page at)
+      run-seen ms (g .1) (mapTree depth r m t) (map-fine depth r m (g .0) t fine) page at
+      ∙ ap (afters ms page) (map-seen depth r m (g .0) t fine page at)
 
-  pub seen-reorders : {ms ns : List Map} → Reorders ms ns → Pairwise ms → Each Given ms → (t : Tree) → FineTable depth t → (page : ℕ) → In (suc depth) r page
+  pub seen-reorders : {ms ns : List Map} → Reorders ms ns → Pairwise ms → Each Given ms → (t : Tree) → FineTable depth t → (page : ℕ)
+      → In (suc depth) r page
       → seen (suc depth) (run ms t) page ≡ seen (suc depth) (run ns t) page
   seen-reorders {ms} {ns} d h g t fine page at =
-      run-seen ms g t fine page at ∙ afters-reorders d h page (seen (suc depth) t page) ∙ sym (run-seen ns (each-reorders Given d g) t fine page at)
+      run-seen ms g t fine page at ∙ afters-reorders d h page (seen (suc depth) t page)
+      ∙ sym (run-seen ns (each-reorders Given d g) t fine page at)
 
   -- where the tables that a list makes are free at entry, no call is refused 9
   pub room-enough : (n : ℕ) (ms : List Map) (t : Tree) → nodes t + madeAll ms t ≤ n → RoomFor n ms t

@@ -1,8 +1,9 @@
--- Pages and entries by number. A page's number is its address / 4096. An entry of a table with `depth` levels below its own spans 512^left pages;
--- the q-th entry of that size begins at page q · 512^left, in the lower and in the upper range. Assumes nothing.
+-- Pages and entries by number. A page's number is its address / 4096. An entry of a table with `depth` levels below its own spans 512^left
+-- pages; the q-th entry of that size begins at page q · 512^left, in the lower and in the upper range.
 use mathlib.Core.Path.{_≡_, refl, sym, ap, _∙_}
 use Prim.Native.Nat.{ℕ, zero, suc, _+_, _*_, _-_, _/_, _%_, _^_, _≤_, _<_}
-use native.Mathlib.Nat.{pow-suc, one-le-pow, mul-le-mul-right, div-add-mod', mod-lt, div-eq-of-lt-le, div-div-eq-div-mul, mul-comm, mul-assoc, mul-mod-left, add-mul}
+use native.Mathlib.Nat.{pow-suc, one-le-pow, mul-le-mul-right, div-add-mod', mod-lt, div-eq-of-lt-le, div-div-eq-div-mul, mul-comm}
+use native.Mathlib.Nat.{mul-assoc, mul-mod-left, add-mul}
 use native.Mathlib.Omega.{arith}
 use Rattle.laws.specs.Size.{sizeAt, size-step, size-page}
 
@@ -48,13 +49,15 @@ span-size (suc depth) h =
 
 -- an address's entry, by its page
 pub entry-number : (depth a : ℕ) → depth ≤ 3 → a / sizeAt (3 - depth) ≡ a / 4096 / pagesIn depth
-entry-number depth a h = ap (λ (x : ℕ). a / x) (span-size depth h ∙ mul-comm (pagesIn depth) 4096) ∙ sym (div-div-eq-div-mul a 4096 (pagesIn depth))
+entry-number depth a h =
+    ap (λ (x : ℕ). a / x) (span-size depth h ∙ mul-comm (pagesIn depth) 4096) ∙ sym (div-div-eq-div-mul a 4096 (pagesIn depth))
 
 pub entry-start : (depth a : ℕ) → depth ≤ 3 → a / sizeAt (3 - depth) * sizeAt (3 - depth) ≡ first depth (a / 4096 / pagesIn depth) * 4096
 unfolding first
 entry-start depth a h =
     let q : ℕ = a / 4096 / pagesIn depth in
-    ap (λ (x : ℕ). x * sizeAt (3 - depth)) (entry-number depth a h) ∙ ap (λ (x : ℕ). q * x) (span-size depth h) ∙ sym (mul-assoc q (pagesIn depth) 4096)
+    ap (λ (x : ℕ). x * sizeAt (3 - depth)) (entry-number depth a h) ∙ ap (λ (x : ℕ). q * x) (span-size depth h)
+    ∙ sym (mul-assoc q (pagesIn depth) 4096)
 
 -- .. and its offset there
 pub entry-rest : (depth a : ℕ) → depth ≤ 3 → a % 4096 ≡ 0 → a % sizeAt (3 - depth) ≡ a / 4096 % pagesIn depth * 4096
@@ -74,7 +77,9 @@ child-first depth q i =
     add-mul (q * 512) i (pagesIn depth)
     ∙ ap (λ (x : ℕ). x + i * pagesIn depth) (mul-assoc q 512 (pagesIn depth) ∙ ap (λ (x : ℕ). q * x) (mul-comm 512 (pagesIn depth) ∙ sym s))
 
-pub child-in : (depth q i : ℕ) → i < 512 → (first (suc depth) q ≤ first depth (child q i)) × (first depth (child q i) + pagesIn depth ≤ first (suc depth) q + pagesIn (suc depth))
+pub child-in : (depth q i : ℕ) → i < 512
+    → (first (suc depth) q ≤ first depth (child q i))
+    × (first depth (child q i) + pagesIn depth ≤ first (suc depth) q + pagesIn (suc depth))
 child-in depth q i h =
     let c = child-first depth q i in
     let s = span-suc depth in
@@ -139,7 +144,8 @@ slot-lt page depth = mod-lt (page / pagesIn depth) (omega arith)
 pub in-child : (depth q page : ℕ) → In (suc depth) q page → In depth (child q (slotOfPage page depth)) page
 unfolding child slotOfPage
 in-child depth q page e =
-    let up : page / pagesIn (suc depth) ≡ page / pagesIn depth / 512 = ap (λ (x : ℕ). page / x) (span-suc depth) ∙ sym (div-div-eq-div-mul page (pagesIn depth) 512) in
+    let up : page / pagesIn (suc depth) ≡ page / pagesIn depth / 512 =
+    ap (λ (x : ℕ). page / x) (span-suc depth) ∙ sym (div-div-eq-div-mul page (pagesIn depth) 512) in
     let d = div-add-mod' (page / pagesIn depth) 512 in
     omega arith
 

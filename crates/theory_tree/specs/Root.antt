@@ -1,5 +1,5 @@
--- Calls on a whole tree: the root's table, whose entries have `depth` = 3 - (root level) levels below. The root is the r-th table of its span: 0 in the
--- lower range, the last below 2^64 in the upper. Assumes nothing.
+-- Calls on a whole tree: the root's table, whose entries have `depth` = 3 - (root level) levels below. The root is the r-th table of its
+-- span: 0 in the lower range, the last below 2^64 in the upper.
 use mathlib.Core.Path.{_≡_}
 use mathlib.Core.Bool.{true}
 use Prim.Native.Nat.{ℕ, zero, suc, _+_, _*_, _-_, _/_, _^_, _≤_, _<_}
@@ -42,7 +42,8 @@ in-upper (suc (suc zero)) page h l u = omega arith
 in-upper (suc (suc (suc zero))) page h l u = omega arith
 in-upper (suc (suc (suc (suc depth)))) page h l u = absurd (omega arith)
 
-pub upper-span : (depth address : ℕ) → depth ≤ 3 → 2 ^ 64 - 512 * sizeAt (3 - depth) ≤ address → address < 2 ^ 64 → Spans depth (upperRoot depth) address
+pub upper-span : (depth address : ℕ) → depth ≤ 3 → 2 ^ 64 - 512 * sizeAt (3 - depth) ≤ address → address < 2 ^ 64
+    → Spans depth (upperRoot depth) address
 upper-span depth address low l u =
     let s = span-size depth low in
     let n = span-suc depth in

@@ -1,5 +1,5 @@
--- Document 01, "Putting down a map", on trees: the five rules for an entry. A map stays whole on the way down, no chunk is cut and no frame rises;
--- `Document` proves that this is the document's loop. Assumes nothing.
+-- Document 01, "Putting down a map", on trees: the five rules for an entry. A map stays whole on the way down, no chunk is cut and no frame
+-- rises; `Document` proves that this is the document's loop.
 use mathlib.Core.Path.{_≡_, refl}
 use mathlib.Core.Bool.{Bool, true, false, not, cond, _&&_, and-false}
 use Prim.Native.Nat.{ℕ, zero, suc, _+_, _-_, _%_, _^_, _≤_, _<_, min, max}
@@ -13,8 +13,8 @@ use Rattle.theory_tree.specs.Page.{pagesIn, span-zero}
 use Rattle.theory_tree.specs.Word.{frameIn, leafWordOf}
 use Rattle.theory_tree.specs.Visit.{Rule, keep, write, down, no-write}
 
--- A call of map: the pages from `from` up to `upto`, to the frames from `frame` on, with the flags; `blocks` says that NO_BLOCK_MAPPINGS is unset.
--- Pages and frames are addresses / 4096.
+-- A call of map: the pages from `from` up to `upto`, to the frames from `frame` on, with the flags; `blocks` says that NO_BLOCK_MAPPINGS is
+-- unset. Pages and frames are addresses / 4096.
 pub record Map : Type 0 where
   pub from : ℕ
   pub upto : ℕ
@@ -58,7 +58,8 @@ unfoldable pub mapRule : Map → ℕ → ℕ → Tree → Rule
 mapRule m zero b (leaf w) = cond (meets zero b m) (write (leafWordOf zero (frameAt b m) (m .flags))) keep
 mapRule m zero b (node f) = keep
 mapRule m (suc depth) b (leaf w) =
-    cond (meets (suc depth) b m) (cond (same b m w) keep (cond (fits (suc depth) b m) (write (leafWordOf (suc depth) (frameAt b m) (m .flags))) down)) keep
+    cond (meets (suc depth) b m)
+    (cond (same b m w) keep (cond (fits (suc depth) b m) (write (leafWordOf (suc depth) (frameAt b m) (m .flags))) down)) keep
 mapRule m (suc depth) b (node f) = cond (meets (suc depth) b m) (cond (drops (suc depth) b m) (write (m .flags)) down) keep
 
 -- ---- what the tests say
@@ -145,11 +146,13 @@ module _ (m : Map) where
     unfolding mapRule
     rule-block w e s k = rw (e, s, k)
 
-    pub rule-drop : (f : ℕ → Tree) → meets (suc depth) b m ≡ true → drops (suc depth) b m ≡ true → mapRule m (suc depth) b (node f) ≡ write (m .flags)
+    pub rule-drop : (f : ℕ → Tree) → meets (suc depth) b m ≡ true → drops (suc depth) b m ≡ true
+        → mapRule m (suc depth) b (node f) ≡ write (m .flags)
     unfolding mapRule
     rule-drop f e d = rw (e, d)
 
-    pub rule-split : (w : ℕ) → meets (suc depth) b m ≡ true → same b m w ≡ false → fits (suc depth) b m ≡ false → mapRule m (suc depth) b (leaf w) ≡ down
+    pub rule-split : (w : ℕ) → meets (suc depth) b m ≡ true → same b m w ≡ false → fits (suc depth) b m ≡ false
+        → mapRule m (suc depth) b (leaf w) ≡ down
     unfolding mapRule
     rule-split w e s k = rw (e, s, k)
 

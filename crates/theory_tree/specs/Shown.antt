@@ -1,5 +1,5 @@
--- What a page shows after a visit, from what each rule does to its own entry; and that a visit leaves fine words where it writes fine words.
--- Assumes nothing.
+-- What a page shows after a visit, from what each rule does to its own entry; and that a visit leaves fine words where it writes fine
+-- words.
 use mathlib.Core.Path.{_≡_, sym, ap, subst, _∙_}
 use Prim.Native.Nat.{ℕ, zero, suc, _<_}
 use Rattle.theory_forest.specs.Tree.{Tree, leaf, node, eachSlot}
@@ -41,14 +41,16 @@ Right new (suc depth) t page down = Unit {0}
 -- the rule brings about `new`
 pub record Shows (rule : ℕ → ℕ → Tree → Rule) (new : ℕ → Seen → Seen) : Type 0 where
   pub good : (depth q : ℕ) (t : Tree) → FineTree depth t → Good depth (rule depth (first depth q) t)
-  pub right : (depth q : ℕ) (t : Tree) (page : ℕ) → FineTree depth t → In depth q page → Right new depth t page (rule depth (first depth q) t)
+  pub right : (depth q : ℕ) (t : Tree) (page : ℕ) → FineTree depth t → In depth q page
+      → Right new depth t page (rule depth (first depth q) t)
 
 -- ---- a split
 
 pub fine-fill-slots : (depth w : ℕ) → Fine (suc depth) w → (i : ℕ) → i < 512 → FineTree depth (fillSlot depth w i)
 fine-fill-slots depth w fine i l = subst (FineTree depth) (sym (fill-slot depth w i l)) (fine-fill depth w fine i l)
 
-fill-slot-seen : (depth w page : ℕ) → Fine (suc depth) w → seen depth (fillSlot depth w (slotOfPage page depth)) page ≡ seen (suc depth) (leaf w) page
+fill-slot-seen : (depth w page : ℕ) → Fine (suc depth) w
+    → seen depth (fillSlot depth w (slotOfPage page depth)) page ≡ seen (suc depth) (leaf w) page
 fill-slot-seen depth w page fine =
     let i : ℕ = slotOfPage page depth in
     ap (λ (t : Tree). seen depth t page) (fill-slot depth w i (slot-lt page depth))
@@ -63,8 +65,10 @@ module _ {rule : ℕ → ℕ → Tree → Rule} {new : ℕ → Seen → Seen} (S
   obey-fine depth (write x) t u g ft fu = g
   obey-fine depth down t u g ft fu = fu
 
-  each-fine : (depth : ℕ) (h : ℕ → Tree → Tree) (f : ℕ → Tree) → ((i : ℕ) → i < 512 → FineTree depth (h i (f i))) → FineTree (suc depth) (eachSlot h (node f))
-  each-fine depth h f each = subst (FineTree (suc depth)) (sym (each-node h f)) (λ i l. subst (FineTree depth) (sym (slot-after h f i l)) (each i l))
+  each-fine : (depth : ℕ) (h : ℕ → Tree → Tree) (f : ℕ → Tree) → ((i : ℕ) → i < 512 → FineTree depth (h i (f i)))
+      → FineTree (suc depth) (eachSlot h (node f))
+  each-fine depth h f each =
+      subst (FineTree (suc depth)) (sym (each-node h f)) (λ i l. subst (FineTree depth) (sym (slot-after h f i l)) (each i l))
 
   -- FINE AGAIN
   pub fine-visit : (depth q : ℕ) (t : Tree) → FineTree depth t → FineTree depth (visit rule depth q t)
@@ -73,7 +77,8 @@ module _ {rule : ℕ → ℕ → Tree → Rule} {new : ℕ → Seen → Seen} (S
   fine-visit (suc depth) q (leaf w) fine =
       obey-fine (suc depth) (rule (suc depth) (first (suc depth) q) (leaf w)) (leaf w) _ (S .good (suc depth) q (leaf w) fine) fine
       (subst (λ (t : Tree). FineTree (suc depth) (eachSlot (λ i u. visit rule depth (child q i) u) t)) (sym (fill-node depth w))
-      (each-fine depth (λ i u. visit rule depth (child q i) u) (fillSlot depth w) (λ i l. fine-visit depth (child q i) (fillSlot depth w i) (fine-fill-slots depth w fine i l))))
+      (each-fine depth (λ i u. visit rule depth (child q i) u) (fillSlot depth w)
+      (λ i l. fine-visit depth (child q i) (fillSlot depth w i) (fine-fill-slots depth w fine i l))))
   fine-visit (suc depth) q (node f) fine =
       obey-fine (suc depth) (rule (suc depth) (first (suc depth) q) (node f)) (node f) _ (S .good (suc depth) q (node f) fine) fine
       (each-fine depth (λ i u. visit rule depth (child q i) u) f (λ i l. fine-visit depth (child q i) (f i) (fine i l)))
@@ -83,7 +88,8 @@ module _ {rule : ℕ → ℕ → Tree → Rule} {new : ℕ → Seen → Seen} (S
   fine-table depth q (leaf w) fine = absurd fine
   fine-table depth q (node f) fine =
       subst (FineTable depth) (sym (each-node (λ i u. visit rule depth (child q i) u) f))
-      (λ i l. subst (FineTree depth) (sym (slot-after (λ i u. visit rule depth (child q i) u) f i l)) (fine-visit depth (child q i) (f i) (fine i l)))
+      (λ i l. subst (FineTree depth) (sym (slot-after (λ i u. visit rule depth (child q i) u) f i l))
+      (fine-visit depth (child q i) (f i) (fine i l)))
 
   -- a page's slot after the visit of a table
   each-seen : (depth : ℕ) (h : ℕ → Tree → Tree) (f : ℕ → Tree) (page : ℕ)
@@ -93,7 +99,8 @@ module _ {rule : ℕ → ℕ → Tree → Rule} {new : ℕ → Seen → Seen} (S
       ap (λ (t : Tree). seen (suc depth) t page) (each-node h f) ∙ seen-node depth (slotAfter h f) page
       ∙ ap (λ (t : Tree). seen depth t page) (slot-after h f (slotOfPage page depth) (slot-lt page depth)) ∙ below
 
-  obey-seen : (depth : ℕ) (r : Rule) (t u : Tree) (page : ℕ) → Right new (suc depth) t page r → seen (suc depth) u page ≡ new page (seen (suc depth) t page)
+  obey-seen : (depth : ℕ) (r : Rule) (t u : Tree) (page : ℕ) → Right new (suc depth) t page r
+      → seen (suc depth) u page ≡ new page (seen (suc depth) t page)
       → seen (suc depth) (obey r t u) page ≡ new page (seen (suc depth) t page)
   unfolding obey
   obey-seen depth keep t u page right below = right
@@ -107,7 +114,8 @@ module _ {rule : ℕ → ℕ → Tree → Rule} {new : ℕ → Seen → Seen} (S
   low-seen down t page right = absurd right
 
   -- WHAT EACH PAGE SHOWS
-  pub seen-visit : (depth q : ℕ) (t : Tree) (page : ℕ) → FineTree depth t → In depth q page → seen depth (visit rule depth q t) page ≡ new page (seen depth t page)
+  pub seen-visit : (depth q : ℕ) (t : Tree) (page : ℕ) → FineTree depth t → In depth q page
+      → seen depth (visit rule depth q t) page ≡ new page (seen depth t page)
   unfolding visit opened
   seen-visit zero q t page fine at = low-seen (rule zero (first zero q) t) t page (S .right zero q t page fine at)
   seen-visit (suc depth) q (leaf w) page fine at =
@@ -116,7 +124,8 @@ module _ {rule : ℕ → ℕ → Tree → Rule} {new : ℕ → Seen → Seen} (S
       obey-seen depth (rule (suc depth) (first (suc depth) q) (leaf w)) (leaf w) _ page (S .right (suc depth) q (leaf w) page fine at)
       (ap (λ (t : Tree). seen (suc depth) (eachSlot h t) page) (fill-node depth w)
       ∙ each-seen depth h (fillSlot depth w) page
-      (seen-visit depth (child q i) (fillSlot depth w i) page (fine-fill-slots depth w fine i (slot-lt page depth)) (in-child depth q page at))
+      (seen-visit depth (child q i) (fillSlot depth w i) page (fine-fill-slots depth w fine i (slot-lt page depth))
+      (in-child depth q page at))
       ∙ ap (new page) (fill-slot-seen depth w page fine))
   seen-visit (suc depth) q (node f) page fine at =
       let i : ℕ = slotOfPage page depth in
@@ -131,5 +140,6 @@ module _ {rule : ℕ → ℕ → Tree → Rule} {new : ℕ → Seen → Seen} (S
   seen-table depth q (leaf w) page fine at = absurd fine
   seen-table depth q (node f) page fine at =
       let i : ℕ = slotOfPage page depth in
-      each-seen depth (λ i u. visit rule depth (child q i) u) f page (seen-visit depth (child q i) (f i) page (fine i (slot-lt page depth)) (in-child depth q page at))
+      each-seen depth (λ i u. visit rule depth (child q i) u) f page
+      (seen-visit depth (child q i) (f i) page (fine i (slot-lt page depth)) (in-child depth q page at))
       ∙ ap (new page) (sym (seen-node depth f page))

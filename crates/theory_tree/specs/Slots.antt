@@ -1,4 +1,4 @@
--- Something done to each slot of a table: when two such tables are the same, and the slots of a split's fill. Assumes nothing.
+-- Something done to each slot of a table: when two such tables are the same, and the slots of a split's fill.
 use mathlib.Core.Path.{_≡_, refl}
 use mathlib.Core.Bool.{cond}
 use Prim.Native.Nat.{ℕ, _≤_, _<_}
@@ -30,7 +30,8 @@ unfolding slotAfter
 slot-past h f i l = rw (le-ltb i 512 l)
 
 -- the same done to each slot
-pub each-same : (h g : ℕ → Tree → Tree) (f : ℕ → Tree) → ((i : ℕ) → i < 512 → h i (f i) ≡ g i (f i)) → eachSlot h (node f) ≡ eachSlot g (node f)
+pub each-same : (h g : ℕ → Tree → Tree) (f : ℕ → Tree) → ((i : ℕ) → i < 512 → h i (f i) ≡ g i (f i))
+    → eachSlot h (node f) ≡ eachSlot g (node f)
 unfolding eachSlot
 each-same h g f same = node-ext (λ i. byBool (ltb i 512) (λ e. rw e (same i (ltb-true i 512 e))) (λ e. rw e))
 

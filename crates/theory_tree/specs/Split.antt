@@ -1,5 +1,5 @@
--- The crate's split runs its own map over a new table of zeros: the whole entry, to the old address, with the old flags, blocks allowed. That is the
--- fill of rule 5, of a hole too. And the fill in addresses. Assumes nothing.
+-- The crate's split runs its own map over a new table of zeros: the whole entry, to the old address, with the old flags, blocks allowed.
+-- That is the fill of rule 5, of a hole too. And the fill in addresses.
 use mathlib.Core.Path.{_≡_, sym, ap, _∙_}
 use mathlib.Core.Bool.{true, cond}
 use mathlib.Core.Logic.{_⊎_, inl, inr}
@@ -17,14 +17,22 @@ use Rattle.theory_tree.specs.Word.{frameIn, leafWordOf, fillWord, pageBi
 use Rattle.theory_tree.specs.Fine.{Fine, fill-flags, fill-is, fill-aligned}
 use Rattle.theory_tree.specs.Visit.{fillTree, visit, visitTable, visit-keep, visit-write}
 use Rattle.theory_tree.specs.Slots.{slotAfter, each-node, slot-after, slot-past, fillSlot, fill-node, fill-slot, fill-past}
-use Rattle.theory_tree.specs.Rules.{Map, meets, frameAt, same, fits, mapRule, yes-meets, yes-whole, same-yes, rule-page, rule-same, rule-block}
+use Rattle.theory_tree.specs.Rules.{Map, meets, frameAt, same, fits, mapRule, yes-meets, yes-whole, same-yes, rule-page, rule-same}
+use Rattle.theory_tree.specs.Rules.{rule-block}
 use Rattle.theory_tree.specs.Chunks.{Inside, chunkedTable}
 use Rattle.theory_tree.specs.Document.{word-frames, documentRule, document-is}
 use Rattle.theory_tree.specs.Root.{mapTree}
 
 -- the map that the split of the q-th entry runs, in pages
 abbrev splitMap : ℕ → ℕ → ℕ → Map
-splitMap depth q w = record { from = first (suc depth) q; upto = first (suc depth) q + pagesIn (suc depth); frame = frameIn w; flags = flagsOf w; blocks = true }
+splitMap depth q w =
+    record {
+      from = first (suc depth) q;
+      upto = first (suc depth) q + pagesIn (suc depth);
+      frame = frameIn w;
+      flags = flagsOf w;
+      blocks = true;
+    }
 
 module _ (depth q w : ℕ) (fine : Fine (suc depth) w) (low : suc depth ≤ 3) (i : ℕ) (l : i < 512) where
   abbrev m : Map
@@ -34,7 +42,8 @@ module _ (depth q w : ℕ) (fine : Fine (suc depth) w) (low : suc depth ≤ 3) (
   b = first depth (child q i)
 
   slot-meets : meets depth b m ≡ true
-  slot-meets = let c = child-in depth q i l in let s = span-pos depth in yes-meets depth b m b (c .0) (omega arith) (omega arith) (omega arith)
+  slot-meets =
+      let c = child-in depth q i l in let s = span-pos depth in yes-meets depth b m b (c .0) (omega arith) (omega arith) (omega arith)
 
   frame-is : frameAt b m ≡ frameIn w + i * pagesIn depth
   unfolding frameAt
@@ -53,13 +62,16 @@ module _ (depth q w : ℕ) (fine : Fine (suc depth) w) (low : suc depth ≤ 3) (
 bare : (depth w i : ℕ) → (fine : Fine (suc depth) w) → flagsOf w ≡ 0 → fillWord depth w i ≡ 0
 bare depth w i fine e =
     fill-is depth w fine i
-    ∙ leaf-hole (flagsOf w) (fill-flags depth w fine) depth (frameIn w + i * pagesIn depth) (valid-none (flagsOf w) (ap (λ (x : ℕ). x % 2) e)) ∙ e
+    ∙ leaf-hole (flagsOf w) (fill-flags depth w fine) depth (frameIn w + i * pagesIn depth)
+    (valid-none (flagsOf w) (ap (λ (x : ℕ). x % 2) e))
+    ∙ e
 
 -- a slot of zeros after it
 slot-fill : (depth q w : ℕ) → Fine (suc depth) w → suc depth ≤ 3 → (i : ℕ) → i < 512
     → visit (mapRule (splitMap depth q w)) depth (child q i) (leaf 0) ≡ leaf (fillWord depth w i)
 slot-fill zero q w fine low i l =
-    visit-write (mapRule (splitMap 0 q w)) zero (child q i) (leaf 0) _ (rule-page (splitMap 0 q w) (first zero (child q i)) 0 (slot-meets zero q w fine low i l))
+    visit-write (mapRule (splitMap 0 q w)) zero (child q i) (leaf 0) _
+    (rule-page (splitMap 0 q w) (first zero (child q i)) 0 (slot-meets zero q w fine low i l))
     ∙ ap leaf (word-is zero q w fine low i l)
 slot-fill (suc depth) q w fine low i l =
     let m : Map = splitMap (suc depth) q w in
@@ -91,7 +103,8 @@ table-fill depth q w fine low = each-node each zeros ∙ node-ext (λ i. go i (l
 
 -- THE CRATE'S SPLIT of the word w in the q-th entry is the fill
 pub crate-split : (depth q w : ℕ) → Fine (suc depth) w → suc depth ≤ 3
-    → chunkedTable (documentRule (flagsOf w) true) depth (region (first (suc depth) q * 4096) ((first (suc depth) q + pagesIn (suc depth)) * 4096)) (addressOf w)
+    → chunkedTable (documentRule (flagsOf w) true) depth
+    (region (first (suc depth) q * 4096) ((first (suc depth) q + pagesIn (suc depth)) * 4096)) (addressOf w)
     (node (λ i. leaf 0))
     ≡ fillTree depth w
 unfolding zeros
@@ -106,9 +119,11 @@ crate-split depth q w fine low =
     document-is (flagsOf w) true depth q (b * 4096) ((b + n) * 4096) (addressOf w) (λ i. leaf 0) (omega arith) inside
     ∙ rw (start, end, frame) (table-fill depth q w fine low)
 
--- ---- the fill in addresses: the old address, cleared below the entry's size, in steps of the child's size; the flags alone if it wasn't valid
+-- ---- the fill in addresses: the old address, cleared below the entry's size, in steps of the child's size; the flags alone if it wasn't
+-- valid
 pub fill-address : (depth w i : ℕ) → suc depth ≤ 3
-    → fillWord depth w i ≡ cond (valid w) (written (3 - depth) (down (addressOf w) (sizeAt (3 - suc depth))) (flagsOf w) + i * sizeAt (3 - depth)) (flagsOf w)
+    → fillWord depth w i
+    ≡ cond (valid w) (written (3 - depth) (down (addressOf w) (sizeAt (3 - suc depth))) (flagsOf w) + i * sizeAt (3 - depth)) (flagsOf w)
 unfolding down fillWord leafWordOf first
 fill-address depth w i low =
     let f : ℕ = frameIn w / pagesIn (suc depth) * pagesIn (suc depth) in
@@ -117,7 +132,8 @@ fill-address depth w i low =
     let start : addressOf w / sizeAt (3 - suc depth) * sizeAt (3 - suc depth) ≡ f * 4096 =
     entry-start (suc depth) (addressOf w) low ∙ ap (λ (x : ℕ). x / pagesIn (suc depth) * pagesIn (suc depth) * 4096) frame in
     let pages : f * 4096 / 4096 ≡ f = omega arith in
-    let word = word-frames depth (f * 4096) (flagsOf w) (omega arith) (omega arith) ∙ ap (λ (x : ℕ). leafWordOf depth x (flagsOf w)) pages in
+    let word = word-frames depth (f * 4096) (flagsOf w) (omega arith) (omega arith)
+    ∙ ap (λ (x : ℕ). leafWordOf depth x (flagsOf w)) pages in
     byBool (valid w)
     (λ v. rw (start, word, flags-valid w, v) (steps f (i * pagesIn depth) (flagsOf w) (pageBit depth) (i * sizeAt (3 - depth))
     (ap (λ (x : ℕ). i * x) size ∙ sym (mul-assoc i (pagesIn depth) 4096))))

@@ -1,4 +1,4 @@
--- The document's loop over chunks is a visit, for any rule that looks at an entry's own part of the region alone. Assumes nothing.
+-- The document's loop over chunks is a visit, for any rule that looks at an entry's own part of the region alone.
 use mathlib.Core.Path.{_≡_, refl, sym, ap, ap₂, subst, _∙_}
 use mathlib.Core.Bool.{Bool, false, cond}
 use mathlib.Core.List.{List}
@@ -27,10 +27,13 @@ pub data Shares (flags : ℕ) (blocks : Bool) (depth q s e p z i j : ℕ) : Type
   nothing : j ≢ i → meets depth (first depth (child q j)) (inPages flags blocks s e p) ≡ false
       → meets depth (first depth (child q j)) (inPages flags blocks z e (p + (z - s))) ≡ false → Shares flags blocks depth q s e p z i j
   chunk : j ≡ i → meets depth (first depth (child q i)) (inPages flags blocks z e (p + (z - s))) ≡ false
-      → Agree depth (first depth (child q i)) (inPages flags blocks s z p) (inPages flags blocks s e p) → Shares flags blocks depth q s e p z i j
-  rest : j ≢ i → Agree depth (first depth (child q j)) (inPages flags blocks z e (p + (z - s))) (inPages flags blocks s e p) → Shares flags blocks depth q s e p z i j
+      → Agree depth (first depth (child q i)) (inPages flags blocks s z p) (inPages flags blocks s e p)
+      → Shares flags blocks depth q s e p z i j
+  rest : j ≢ i → Agree depth (first depth (child q j)) (inPages flags blocks z e (p + (z - s))) (inPages flags blocks s e p)
+      → Shares flags blocks depth q s e p z i j
 
-pub shares : (flags : ℕ) (blocks : Bool) (depth q s e p z i : ℕ) → FirstCut depth q s e p z i → (j : ℕ) → Shares flags blocks depth q s e p z i j
+pub shares : (flags : ℕ) (blocks : Bool) (depth q s e p z i : ℕ) → FirstCut depth q s e p z i → (j : ℕ)
+    → Shares flags blocks depth q s e p z i j
 shares flags blocks depth q s e p z i c j = go (eq-or j i) (le-or i j)
   where
     go : (j ≡ i) ⊎ (j ≢ i) → (i ≤ j) ⊎ (j < i) → Shares flags blocks depth q s e p z i j
@@ -77,9 +80,11 @@ module _ {rule : Map → ℕ → ℕ → Tree → Rule} (L : Local rule) (rules 
     g-other : (j : ℕ) → j ≢ i → g j ≡ f j
     g-other j other = rw (ne-eqb j i other)
 
-    here : meets depth (first depth (child q i)) (call z e (p + (z - s))) ≡ false → Agree depth (first depth (child q i)) (call s z p) (call s e p) → Slot i
+    here : meets depth (first depth (child q i)) (call z e (p + (z - s))) ≡ false
+        → Agree depth (first depth (child q i)) (call s z p) (call s e p) → Slot i
     here past same =
-        ap (visit (rule (call z e (p + (z - s)))) depth (child q i)) (let h : g i ≡ chunked rules depth (region s z) p (f i) = rw (eq-eqb i i refl) in h)
+        ap (visit (rule (call z e (p + (z - s)))) depth (child q i))
+        (let h : g i ≡ chunked rules depth (region s z) p (f i) = rw (eq-eqb i i refl) in h)
         ∙ visit-off L (call z e (p + (z - s))) depth (child q i) _ past
         ∙ does (child q i) s z p (f i) low (c .more) (c .chunk)
         ∙ visit-agree L (call s z p) (call s e p) depth (child q i) (f i) same
@@ -119,18 +124,24 @@ module _ {rule : Map → ℕ → ℕ → Tree → Rule} (L : Local rule) (rules 
       each-none (λ j u. visit (rule (call s e p)) depth (child q j) u) f
       (λ j l. visit-off L (call s e p) depth (child q j) (f j) (meets-no depth (first depth (child q j)) (call s e p) (omega arith)))
 
-  table-visit : (depth q s e p : ℕ) (t : Tree) → visitTable (rule (call s e p)) depth q t ≡ eachSlot (λ i u. visit (rule (call s e p)) depth (child q i) u) t
+  table-visit : (depth q s e p : ℕ) (t : Tree)
+      → visitTable (rule (call s e p)) depth q t ≡ eachSlot (λ i u. visit (rule (call s e p)) depth (child q i) u) t
   unfolding visitTable
   table-visit depth q s e p t = refl
 
   sweep-is : (depth : ℕ) → depth ≤ 3 → Does depth → (n q s e p : ℕ) (f : ℕ → Tree) → met (3 - depth) s e ≡ n
       → Inside (first (suc depth) q) (pagesIn (suc depth)) s e p
-      → sweep depth (λ d x u. chunked rules depth d x u) (chunks (3 - depth) s e) p (node f) ≡ visitTable (rule (call s e p)) depth q (node f)
+      → sweep depth (λ d x u. chunked rules depth d x u) (chunks (3 - depth) s e) p (node f)
+      ≡ visitTable (rule (call s e p)) depth q (node f)
   unfolding sweep atSlot
   sweep-is depth low does zero q s e p f n I = go (le-or e s)
     where
-      go : (e ≤ s) ⊎ (s < e) → sweep depth (λ d x u. chunked rules depth d x u) (chunks (3 - depth) s e) p (node f) ≡ visitTable (rule (call s e p)) depth q (node f)
-      go (inl h) = ap (λ (cs : List MemoryRegion). sweep depth (λ d x u. chunked rules depth d x u) cs p (node f)) (chunks-none (3 - depth) s e h) ∙ sym (table-none depth q s e p f h)
+      go : (e ≤ s) ⊎ (s < e)
+          → sweep depth (λ d x u. chunked rules depth d x u) (chunks (3 - depth) s e) p (node f)
+          ≡ visitTable (rule (call s e p)) depth q (node f)
+      go (inl h) =
+          ap (λ (cs : List MemoryRegion). sweep depth (λ d x u. chunked rules depth d x u) cs p (node f)) (chunks-none (3 - depth) s e h)
+          ∙ sym (table-none depth q s e p f h)
       go (inr h) = absurd (let k = met-step (3 - depth) s e h in omega arith)
   sweep-is depth low does (suc n) q s e p f k I = go (le-or e s) (λ z y. sweep-is depth low does n q z e (p + (z - s)) y)
     where
@@ -144,14 +155,19 @@ module _ {rule : Map → ℕ → ℕ → Tree → Rule} (L : Local rule) (rules 
           → ((z : ℕ) (y : ℕ → Tree) → met (3 - depth) z e ≡ n → Inside (first (suc depth) q) (pagesIn (suc depth)) z e (p + (z - s))
           → sweep depth each (chunks (3 - depth) z e) (p + (z - s)) (node y) ≡ visitTable (rule (call z e (p + (z - s)))) depth q (node y))
           → Goal
-      go (inl h) ih = ap (λ (cs : List MemoryRegion). sweep depth each cs p (node f)) (chunks-none (3 - depth) s e h) ∙ sym (table-none depth q s e p f h)
+      go (inl h) ih =
+          ap (λ (cs : List MemoryRegion). sweep depth each cs p (node f)) (chunks-none (3 - depth) s e h)
+          ∙ sym (table-none depth q s e p f h)
       go (inr h) ih =
           let z : ℕ = chunkEnd (3 - depth) s e in
           let i : ℕ = slotOfPage (s / 4096) depth in
           let c = cut depth q s e p low h I in
           let fewer : met (3 - depth) (chunkEnd (3 - depth) s e) e ≡ n = let m = met-step (3 - depth) s e h in omega arith in
           ap (λ (cs : List MemoryRegion). sweep depth each cs p (node f)) (chunks-step (3 - depth) s e h)
-          ∙ ap (λ (x : ℕ). sweep depth each (chunks (3 - depth) z e) (p + (z - s)) (node (λ j. cond (eqb j x) (each (region s z) p (f j)) (f j)))) (index-slot depth s low)
+          ∙ ap
+          (λ (x : ℕ). sweep depth each (chunks (3 - depth) z e) (p + (z - s))
+          (node (λ j. cond (eqb j x) (each (region s z) p (f j)) (f j))))
+          (index-slot depth s low)
           ∙ ih z (λ j. cond (eqb j i) (each (region s z) p (f j)) (f j)) fewer (c .rest)
           ∙ table depth q s e p z i low does c f (slot-lt (s / 4096) depth)
 

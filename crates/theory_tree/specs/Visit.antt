@@ -1,5 +1,5 @@
--- A visit of a tree: a rule says for each entry that it meets whether the entry is kept, written, or gone down into, where a split comes first if there
--- is no table. Map and modify are visits. Assumes nothing.
+-- A visit of a tree: a rule says for each entry that it meets whether the entry is kept, written, or gone down into, where a split comes
+-- first if there is no table. Map and modify are visits.
 use mathlib.Core.Path.{_≡_, refl}
 use mathlib.Core.Bool.{Bool, true, false, cond}
 use Prim.Native.Nat.{ℕ, zero, suc, _+_}
@@ -111,6 +111,7 @@ module _ (rule : ℕ → ℕ → Tree → Rule) where
   visit-write zero q t x e = rw e
   visit-write (suc depth) q t x e = rw e
 
-  pub visit-down : (depth q : ℕ) (t : Tree) → rule (suc depth) (first (suc depth) q) t ≡ down → visit (suc depth) q t ≡ visitTable depth q (opened depth t)
+  pub visit-down : (depth q : ℕ) (t : Tree) → rule (suc depth) (first (suc depth) q) t ≡ down
+      → visit (suc depth) q t ≡ visitTable depth q (opened depth t)
   unfolding visit obey visitTable
   visit-down depth q t e = rw e

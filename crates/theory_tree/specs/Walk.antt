@@ -1,5 +1,5 @@
--- The walk on trees, and what it answers (document 01, "What a word says"): the walk of `theory_forest`, with the slots of a page, and the word where it
--- ends read at its level. Assumes nothing.
+-- The walk on trees, and what it answers (document 01, "What a word says"): the walk of `theory_forest`, with the slots of a page, and the
+-- word where it ends read at its level.
 use mathlib.Core.Path.{_≡_, refl, sym, ap, _∙_}
 use mathlib.Core.Bool.{Bool, true, false, cond}
 use mathlib.Core.Logic.{_⊎_, inl, inr, _≢_}
@@ -7,13 +7,15 @@ use Prim.Native.Nat.{ℕ, zero, suc, _+_, _*_, _-_, _/_, _%_, _^_, _<_}
 use native.Mathlib.Nat.{div-add-mod'}
 use native.Mathlib.Omega.{arith}
 use Rattle.laws.specs.Test.{byBool, eq-or}
-use Rattle.entry.specs.Word.{kindOf, flagsOf, kind-page, kind-block, kind-clear, valid, plainFlags, Plain, flags-valid, valid-of, valid-none}
+use Rattle.entry.specs.Word.{kindOf, flagsOf, kind-page, kind-block, kind-clear, valid, plainFlags, Plain, flags-valid, valid-of}
+use Rattle.entry.specs.Word.{valid-none}
 use Rattle.entry.specs.declared.Kind.{Kind}
 use Rattle.entry.specs.declared.Kind.the-variants.{Table, Block, Page, Hole}
 use Rattle.theory_forest.specs.Tree.{Tree, leaf, node}
 use Rattle.theory_forest.specs.Walk.{walkTree}
 use Rattle.theory_tree.specs.Page.{pagesIn, slotOfPage, slot-lt, rest-child}
-use Rattle.theory_tree.specs.Word.{frameIn, leafWordOf, fillWord, flags-shown, plain-flags, leaf-hole, leaf-frame, leaf-plain, leaf-true}
+use Rattle.theory_tree.specs.Word.{frameIn, leafWordOf, fillWord, flags-shown, plain-flags, leaf-hole, leaf-frame, leaf-plain}
+use Rattle.theory_tree.specs.Word.{leaf-true}
 use Rattle.theory_tree.specs.Fine.{Fine, fine-flags, fine-leaf, fine-low, fill-flags, fill-is, fill-below, fill-aligned}
 
 -- what a page shows, which is what "as before" compares: flags without bit 1 and frame (its address / 4096), or a hole with its flags
@@ -32,10 +34,12 @@ framed Block = true
 framed Page = true
 framed Hole = false
 
--- a word in an entry with `depth` levels below, read for a page: "the entry's address, cleared below the entry's size, plus the page's offset"
+-- a word in an entry with `depth` levels below, read for a page: "the entry's address, cleared below the entry's size, plus the page's
+-- offset"
 unfoldable pub seenIn : ℕ → ℕ → ℕ → Seen
 seenIn depth w page =
-    cond (framed (kindOf (3 - depth) w)) (mapped (plainFlags w) (frameIn w / pagesIn depth * pagesIn depth + page % pagesIn depth)) (hole (plainFlags w))
+    cond (framed (kindOf (3 - depth) w)) (mapped (plainFlags w) (frameIn w / pagesIn depth * pagesIn depth + page % pagesIn depth))
+    (hole (plainFlags w))
 
 -- the walk to a page, from a tree that stands in an entry with `depth` levels below
 unfoldable pub walk : ℕ → Tree → ℕ → Answer
@@ -87,7 +91,8 @@ pub seen-fine : (depth w page : ℕ) → Fine depth w
     → seenIn depth w page ≡ cond (valid w) (mapped (plainFlags w) (frameIn w + page % pagesIn depth)) (hole (plainFlags w))
 unfolding seenIn
 seen-fine depth w page fine =
-    let whole : frameIn w / pagesIn depth * pagesIn depth ≡ frameIn w = omega (arith, div-add-mod' (frameIn w) (pagesIn depth), fine .aligned) in
+    let whole : frameIn w / pagesIn depth * pagesIn depth ≡ frameIn w =
+    omega (arith, div-add-mod' (frameIn w) (pagesIn depth), fine .aligned) in
     rw (fine-framed depth w fine, whole)
 
 -- what a map writes is seen: the frame and the flags
@@ -102,11 +107,13 @@ pub seen-flags : (depth f page : ℕ) → Plain f → valid f ≡ false → seen
 seen-flags depth f page F v = seen-fine depth f page (fine-flags depth f F v) ∙ rw (v, flags-shown f F)
 
 -- a split is not seen
-pub fill-seen : (depth w page : ℕ) → Fine (suc depth) w → seenIn depth (fillWord depth w (slotOfPage page depth)) page ≡ seenIn (suc depth) w page
+pub fill-seen : (depth w page : ℕ) → Fine (suc depth) w
+    → seenIn depth (fillWord depth w (slotOfPage page depth)) page ≡ seenIn (suc depth) w page
 fill-seen depth w page fine =
     let i : ℕ = slotOfPage page depth in
     let F = fill-flags depth w fine in
-    let sum : frameIn w + i * pagesIn depth + page % pagesIn depth ≡ frameIn w + page % pagesIn (suc depth) = omega (arith, rest-child page depth) in
+    let sum : frameIn w + i * pagesIn depth + page % pagesIn depth ≡ frameIn w + page % pagesIn (suc depth) =
+    omega (arith, rest-child page depth) in
     let clear = plain-flags w (fine .clear (omega arith)) in
     ap (λ (x : ℕ). seenIn depth x page) (fill-is depth w fine i)
     ∙ byBool (valid w)

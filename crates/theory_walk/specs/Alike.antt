@@ -1,5 +1,5 @@
--- What look up answers at two addresses of one entry: the same kind, level and flags and, where they are mapped, frames that differ as their pages do.
--- In any pool, sound or not. Leans on arm's `Page`, look_up's `Call`. Assumes nothing.
+-- What look up answers at two addresses of one entry: the same kind, level and flags and, where they are mapped, frames that differ as
+-- their pages do. In any pool, sound or not. Leans on arm's `Page`, look_up's `Call`.
 use mathlib.Core.Path.{_≡_, refl, sym, ap, _∙_}
 use mathlib.Core.Bool.{true}
 use Prim.Native.Nat.{ℕ, _+_, _-_, _/_}
@@ -21,10 +21,13 @@ use Rattle.look_up.specs.declared.Looked.the-variants.{Hole, Block, Page}
 
 pub data Alike (a b : ℕ) : Looked → Looked → Type 0 where
   holes : {level flags : ℕ} → Alike a b (Hole level flags) (Hole level flags)
-  blocks : {level flags : ℕ} {f g : PhysicalAddress} → f .0 + down b 4096 ≡ g .0 + down a 4096 → Alike a b (Block level flags f) (Block level flags g)
-  pages : {level flags : ℕ} {f g : PhysicalAddress} → f .0 + down b 4096 ≡ g .0 + down a 4096 → Alike a b (Page level flags f) (Page level flags g)
+  blocks : {level flags : ℕ} {f g : PhysicalAddress} → f .0 + down b 4096 ≡ g .0 + down a 4096
+      → Alike a b (Block level flags f) (Block level flags g)
+  pages : {level flags : ℕ} {f g : PhysicalAddress} → f .0 + down b 4096 ≡ g .0 + down a 4096
+      → Alike a b (Page level flags f) (Page level flags g)
 
-pub says-alike : (level w a b : ℕ) → a / sizeAt level ≡ b / sizeAt level → Alike a b (answer (says a (at level w))) (answer (says b (at level w)))
+pub says-alike : (level w a b : ℕ) → a / sizeAt level ≡ b / sizeAt level
+    → Alike a b (answer (says a (at level w))) (answer (says b (at level w)))
 unfolding answer
 says-alike level w a b e = go (kindOf level w) refl (kind-says level w)
   where
@@ -47,4 +50,9 @@ module _ (h : Handle) (s : St) (shape : shaped h s ≡ true) {level w : ℕ} whe
       → Alike a b (lookUpCall h s a) (lookUpCall h s b)
   unfolding reach
   entry-alike a b spanA spanB ends same =
-      rw (looks-up a spanA ends, looks-up b spanB (reach-same (h .base .0) (tables s) (s .words) a b (3 - h .level) 0 (omega arith) same ends)) (says-alike level w a b same)
+      rw (
+        looks-up a spanA ends,
+        looks-up b spanB
+            (reach-same (h .base .0) (tables s) (s .words) a b (3 - h .level) 0 (omega arith) same ends),
+      )
+      (says-alike level w a b same)

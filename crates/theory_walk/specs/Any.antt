@@ -1,4 +1,4 @@
--- In any pool, sound or not, the walk of the words is the walk of the tree that they show, wherever the Arm walk does not lead away. Assumes nothing.
+-- In any pool, sound or not, the walk of the words is the walk of the tree that they show, wherever the Arm walk does not lead away.
 use mathlib.Core.Path.{_≡_, refl, sym, ap, _∙_}
 use mathlib.Core.Bool.{Bool, true, false, cond, _&&_}
 use mathlib.Core.Logic.{_⊎_, inl, inr, _≢_}
@@ -47,12 +47,15 @@ module _ (base n : ℕ) (s : St) (va : ℕ) where
   -- ---- on from a table above the last level: a table word leads on or away, any other ends the walk
 
   reach-open : (depth k : ℕ) → from (suc depth) k
-      ≡ cond (eqb (word (suc depth) k % 4) 3) (cond (hasTable base n (word (suc depth) k)) (from depth (tableOf base (word (suc depth) k))) away) (at (3 - suc depth) (word (suc depth) k))
+      ≡ cond (eqb (word (suc depth) k % 4) 3)
+      (cond (hasTable base n (word (suc depth) k)) (from depth (tableOf base (word (suc depth) k))) away)
+      (at (3 - suc depth) (word (suc depth) k))
   unfolding reachFrom hasTable tableOf
   reach-open depth k = let l : 3 - suc depth ≡ 2 - depth = omega arith in rw (word-fetched (suc depth) k, l, low-bits)
 
   module _ (depth k : ℕ) where
-    pub reach-on : word (suc depth) k % 4 ≡ 3 → hasTable base n (word (suc depth) k) ≡ true → from (suc depth) k ≡ from depth (tableOf base (word (suc depth) k))
+    pub reach-on : word (suc depth) k % 4 ≡ 3 → hasTable base n (word (suc depth) k) ≡ true
+        → from (suc depth) k ≡ from depth (tableOf base (word (suc depth) k))
     reach-on e i = reach-open depth k ∙ rw (e, i)
 
     reach-off : word (suc depth) k % 4 ≡ 3 → hasTable base n (word (suc depth) k) ≡ false → from (suc depth) k ≡ away
@@ -64,7 +67,8 @@ module _ (base n : ℕ) (s : St) (va : ℕ) where
   -- ---- one induction for any reading of the table words that agrees with the Arm walk at the tables that the walk comes to
 
   module _ (child : ℕ → ℕ) (On : ℕ → ℕ → Type 0)
-      (on : (depth k : ℕ) → On (suc depth) k → let x = word (suc depth) k in x % 4 ≡ 3 → (hasTable base n x ≡ true) × (tableOf base x ≡ child x) × On depth (child x)) where
+      (on : (depth k : ℕ) → On (suc depth) k → let x = word (suc depth) k in
+      x % 4 ≡ 3 → (hasTable base n x ≡ true) × (tableOf base x ≡ child x) × On depth (child x)) where
     abbrev words : ℕ → ℕ → Ends
     words depth k = walkWord (slotsTaken va) child depth (slotWord s) (word depth k)
 
@@ -76,20 +80,25 @@ module _ (base n : ℕ) (s : St) (va : ℕ) where
         x : ℕ
         x = word (suc depth) k
 
-        go : ((j : ℕ) → On depth j → from depth j ≡ reachedAt (words depth j)) → ((x % 4 ≡ 3) × (eqb (x % 4) 3 ≡ true)) ⊎ ((x % 4 ≢ 3) × (eqb (x % 4) 3 ≡ false))
+        go : ((j : ℕ) → On depth j → from depth j ≡ reachedAt (words depth j))
+            → ((x % 4 ≡ 3) × (eqb (x % 4) 3 ≡ true)) ⊎ ((x % 4 ≢ 3) × (eqb (x % 4) 3 ≡ false))
             → from (suc depth) k ≡ reachedAt (words (suc depth) k)
-        go below (inl e) = let t = on depth k o (e .0) in reach-on depth k (e .0) (t .0) ∙ ap (from depth) (t .1) ∙ below (child x) (t .2) ∙ rw (e .1)
+        go below (inl e) =
+            let t = on depth k o (e .0) in reach-on depth k (e .0) (t .0) ∙ ap (from depth) (t .1) ∙ below (child x) (t .2) ∙ rw (e .1)
         go below (inr e) = reach-end depth k (e .1) ∙ rw (e .1)
 
-    pub reach-reading : (depth k : ℕ) → On depth k → from depth k ≡ reachedAt (walkTree (slotsTaken va) (suc depth) (treeAt child depth (slotWord s) k))
+    pub reach-reading : (depth k : ℕ) → On depth k
+        → from depth k ≡ reachedAt (walkTree (slotsTaken va) (suc depth) (treeAt child depth (slotWord s) k))
     reach-reading depth k o = reach-words depth k o ∙ ap reachedAt (walk-tree (slotsTaken va) child depth (slotWord s) k)
 
   -- ---- any pool
 
   -- down from table k: where the walk does not lead away it ends where the walk of the tree does
-  pub reach-any : (depth k : ℕ) → from depth k ≢ away → from depth k ≡ reachedAt (walkTree (slotsTaken va) (suc depth) (treeRead base s depth k))
+  pub reach-any : (depth k : ℕ) → from depth k ≢ away
+      → from depth k ≡ reachedAt (walkTree (slotsTaken va) (suc depth) (treeRead base s depth k))
   reach-any = reach-reading (tableOf base) (λ depth k. from depth k ≢ away)
-      (λ depth k stays e. byBool (hasTable base n (word (suc depth) k)) (λ i. (i, refl, λ q. stays (reach-on depth k e i ∙ q))) (λ i. absurd (stays (reach-off depth k e i))))
+      (λ depth k stays e. byBool (hasTable base n (word (suc depth) k)) (λ i. (i, refl, λ q. stays (reach-on depth k e i ∙ q)))
+      (λ i. absurd (stays (reach-off depth k e i))))
 
   -- the walk of an address, down from a root of this level
   pub walk-any : (root : ℕ) → reach base n (s .words) va root ≢ away

@@ -1,4 +1,4 @@
--- Document 01, "What a word says": what "as before" compares of a walk's answer. Definitions alone. Assumes nothing.
+-- Document 01, "What a word says": what "as before" compares of a walk's answer. Definitions alone.
 use Prim.Native.Nat.{ℕ}
 use Rattle.pool.specs.State.{St, tables}
 use Rattle.pool.specs.declared.Handle.{Handle}

@@ -1,5 +1,5 @@
--- An accepted list against the Arm walk: its lines ascend, share no address, cover the region exactly, and each says what the walk meets at every address of it.
--- Leans on `Alike`, `Walked`, list_lines' `Cover`. Assumes nothing.
+-- An accepted list against the Arm walk: its lines ascend, share no address, cover the region exactly, and each says what the walk meets at
+-- every address of it. Leans on `Alike`, `Walked`, list_lines' `Cover`.
 use mathlib.Core.Path.{_≡_, refl, sym, ap, _∙_}
 use mathlib.Core.Bool.{true}
 use mathlib.Core.List.{List}
@@ -44,12 +44,14 @@ pub record Accepts (h : Handle) (s : St) (start end : ℕ) (list : List ℕ) (co
   pub written : put (linesOf h s (rounded start end)) list ≡ after
 
 never : {r : Refusal} {l after : List ℕ} {count : ℕ} → listing (refused r) l ≡ listing (Lines count) after → ⊥
-never {r} {count = count} e = let q : _≡_ {A = Listed} (refused r) (Lines count) = ap (λ x. x .answer) e in let z : _≡_ {A = ℕ} 0 1 = cc in omega arith
+never {r} {count = count} e =
+    let q : _≡_ {A = Listed} (refused r) (Lines count) = ap (λ x. x .answer) e in let z : _≡_ {A = ℕ} 0 1 = cc in omega arith
 
 module _ {h : Handle} {s : St} {start end : ℕ} {list : List ℕ} {count : ℕ} {after : List ℕ} where
   pub list-accepted : listCall h s start end list ≡ listing (Lines count) after → Accepts h s start end list count after
   unfolding listCall listVerified listSound listLines
-  list-accepted e = byBool (shaped h s) (λ shape. verified shape (verifyEnds h start end) refl (rw shape at e)) (λ shape. absurd (never (rw shape at e)))
+  list-accepted e =
+      byBool (shaped h s) (λ shape. verified shape (verifyEnds h start end) refl (rw shape at e)) (λ shape. absurd (never (rw shape at e)))
     where
       ls : List Line
       ls = linesOf h s (rounded start end)
@@ -66,12 +68,14 @@ module _ {h : Handle} {s : St} {start end : ℕ} {list : List ℕ} {count : ℕ}
       verified : shaped h s ≡ true → (x : Outcome) → verifyEnds h start end ≡ x
           → listVerified h s (rounded start end) list x ≡ listing (Lines count) after → Accepts h s start end list count after
       verified shape (Refused r) region q = absurd (never q)
-      verified shape Accepted region q = byBool (soundb h s) (λ sound. written shape region sound (rw sound at q)) (λ sound. absurd (never (rw sound at q)))
+      verified shape Accepted region q =
+          byBool (soundb h s) (λ sound. written shape region sound (rw sound at q)) (λ sound. absurd (never (rw sound at q)))
 
 -- ---- its lines
 
 module _ (h : Handle) (s : St) where
-  -- at every address of the line the walk ends in its word, at its level; look up answers with what that word says; two addresses of the line are told alike
+  -- at every address of the line the walk ends in its word, at its level; look up answers with what that word says; two addresses of the
+  -- line are told alike
   pub record Walks (l : Line) : Type 0 where
     pub meets : (a : ℕ) → l .start ≤ a → a < l .end → reach (h .base .0) (tables s) (s .words) a (h .level) ≡ at (l .level) (l .word)
     pub looks : (a : ℕ) → l .start ≤ a → a < l .end → lookUpCall h s a ≡ answer (says a (at (l .level) (l .word)))
@@ -79,7 +83,8 @@ module _ (h : Handle) (s : St) where
 
   pub record LinesShow (r : MemoryRegion) (ls : List Line) : Type 0 where
     -- in the region, and none empty
-    pub within : (i : ℕ) → i < length ls → (r .start .0 ≤ nthLine ls i .start) × (nthLine ls i .start < nthLine ls i .end) × (nthLine ls i .end ≤ r .end .0)
+    pub within : (i : ℕ) → i < length ls
+        → (r .start .0 ≤ nthLine ls i .start) × (nthLine ls i .start < nthLine ls i .end) × (nthLine ls i .end ≤ r .end .0)
     -- ascending and disjoint: a line ends where a later one begins, or before
     pub ascends : (i j : ℕ) → i < j → j < length ls → nthLine ls i .end ≤ nthLine ls j .start
     -- every address of the region is in a line
@@ -88,7 +93,8 @@ module _ (h : Handle) (s : St) where
     pub walks : (i : ℕ) → i < length ls → Walks (nthLine ls i)
 
 -- the addresses of a region that was verified lie in the span
-spans : (range : VaRange) (level : ℕ) (r : MemoryRegion) → RegionInSpan range level r → (a : ℕ) → r .start .0 ≤ a → a < r .end .0 → spanned range level a ≡ true
+spans : (range : VaRange) (level : ℕ) (r : MemoryRegion) → RegionInSpan range level r → (a : ℕ) → r .start .0 ≤ a → a < r .end .0
+    → spanned range level a ≡ true
 unfolding spanned span
 spans Lower level r e a l u = lt-ltb a (512 * 2 ^ lowBit level) (let p = size-is level in omega arith)
 spans Upper level r e a l u = le-leb (2 ^ 64 - 512 * 2 ^ lowBit level) a (let p = size-is level in omega arith)
@@ -102,7 +108,8 @@ module _ (h : Handle) (s : St) (start end : ℕ) where
 
   lines-walk : {list after : List ℕ} {count : ℕ} → Accepts h s start end list count after → Covers (Walks h s) (r .end .0) (r .start .0) ls
   unfolding reach
-  lines-walk accepted = covers-map {from = r .start .0} (omega arith) walks (list-covers h s r (shape .level) (verified-forwards h r verified))
+  lines-walk accepted =
+      covers-map {from = r .start .0} (omega arith) walks (list-covers h s r (shape .level) (verified-forwards h r verified))
     where
       shape : Shaped h s
       shape = shaped-says h s (rw (accepted .shape) tt)
@@ -116,12 +123,14 @@ module _ (h : Handle) (s : St) (start end : ℕ) where
       inSpan : (a : ℕ) → r .start .0 ≤ a → a < r .end .0 → spanned (h .range) (h .level) a ≡ true
       inSpan = spans (h .range) (h .level) r (verified-span h r verified)
 
-      walks : (l : Line) → r .start .0 ≤ l .start → l .end ≤ r .end .0 → Meets (h .base .0) (tables s) (s .words) (3 - h .level) 0 l → Walks h s l
+      walks : (l : Line) → r .start .0 ≤ l .start → l .end ≤ r .end .0 → Meets (h .base .0) (tables s) (s .words) (3 - h .level) 0 l
+          → Walks h s l
       walks l from to m = record {
         meets = ends;
         looks = λ a low high. looks-up h s (accepted .shape) a (known a low high) (ends a low high);
         alike = λ a b low high low′ high′.
-            entry-alike h s (accepted .shape) a b (known a low high) (known b low′ high′) (ends a low high) (m .entry a low high ∙ sym (m .entry b low′ high′));
+            entry-alike h s (accepted .shape) a b (known a low high) (known b low′ high′) (ends a low high)
+            (m .entry a low high ∙ sym (m .entry b low′ high′));
       }
         where
           known : (a : ℕ) → l .start ≤ a → a < l .end → spanned (h .range) (h .level) a ≡ true
@@ -130,15 +139,21 @@ module _ (h : Handle) (s : St) (start end : ℕ) where
           ends : (a : ℕ) → l .start ≤ a → a < l .end → reach (h .base .0) (tables s) (s .words) a (h .level) ≡ at (l .level) (l .word)
           ends a low high = m .meets a low high (stays a)
 
-  -- THE LIST IS THE WALK: an accepted list gives the count of the lines, writes them at the front of what was lent, and they show what the walk meets
+  -- THE LIST IS THE WALK: an accepted list gives the count of the lines, writes them at the front of what was lent, and they show what the
+  -- walk meets
   pub list-walks : (list : List ℕ) {after : List ℕ} {count : ℕ} → listCall h s start end list ≡ listing (Lines count) after
       → (length ls ≡ count) × (put ls list ≡ after) × LinesShow h s r ls
   list-walks list e =
       let accepted = list-accepted e in
-      let walk = lines-walk accepted in
-      (accepted .counted, accepted .written, record { within = inside walk; ascends = ascending walk; covers = covered walk; walks = holds walk })
+      let walk = lines-walk accepted in (
+        accepted .counted,
+        accepted .written,
+        record { within = inside walk; ascends = ascending walk; covers = covered walk; walks = holds walk },
+      )
 
   -- look up answers alike in every page of one line
-  pub line-alike : (list : List ℕ) {after : List ℕ} {count : ℕ} → listCall h s start end list ≡ listing (Lines count) after → (i : ℕ) → i < count → (a b : ℕ)
-      → nthLine ls i .start ≤ a → a < nthLine ls i .end → nthLine ls i .start ≤ b → b < nthLine ls i .end → Alike a b (lookUpCall h s a) (lookUpCall h s b)
+  pub line-alike : (list : List ℕ) {after : List ℕ} {count : ℕ} → listCall h s start end list ≡ listing (Lines count) after → (i : ℕ)
+      → i < count → (a b : ℕ)
+      → nthLine ls i .start ≤ a → a < nthLine ls i .end → nthLine ls i .start ≤ b → b < nthLine ls i .end
+      → Alike a b (lookUpCall h s a) (lookUpCall h s b)
   line-alike list e i known = let shown = list-walks list e in shown .2 .walks i (omega (arith, shown .0)) .alike

@@ -1,4 +1,4 @@
--- In a sound pool the Arm walk never leads away, and is the walk of the root's tree. Leans on `Any`. Assumes nothing.
+-- In a sound pool the Arm walk never leads away, and is the walk of the root's tree. Leans on `Any`.
 use mathlib.Core.Path.{_≡_, sym, ap, _∙_}
 use mathlib.Core.Bool.{true}
 use mathlib.Core.Logic.{_≢_}
@@ -30,8 +30,11 @@ unfolding hasTable tableOf
 found-in base n {x = x} is found =
     let a = table-address x ∙ ap addressOf is in
     let from : base ≤ tableAddress x = omega (arith, a, found .from) in
-    let to : tableAddress x < base + 4096 * n = omega (arith, a, found .from, found .below, found .place) in
-    (rw (le-leb base (tableAddress x) from, lt-ltb (tableAddress x) (base + 4096 * n) to), ap (λ (y : ℕ). (y - base) / 4096) a ∙ found .place)
+    let to : tableAddress x < base + 4096 * n = omega (arith, a, found .from, found .below, found .place) in (
+      rw (le-leb base (tableAddress x) from, lt-ltb (tableAddress x) (base + 4096 * n) to),
+      ap (λ (y : ℕ). (y - base) / 4096) a
+          ∙ found .place,
+    )
 
 module _ {h : Handle} {s : St} (shape : Shaped h s) (P : SoundPool h s) (va : ℕ) where
   abbrev base : ℕ
@@ -70,12 +73,14 @@ module _ {h : Handle} {s : St} (shape : Shaped h s) (P : SoundPool h s) (va : �
   -- the walk of an address is the walk of the root's tree, and so never leads away
   pub reach-tree : reach base (tables s) (s .words) va (h .level) ≡ reachedAt (walkTree (slotsTaken va) (suc (3 - h .level)) (rootTree h s))
   unfolding reach
-  reach-tree = reach-reading base (tables s) s va (childOf base) On on (3 - h .level) 0 (root-left (shaped-placed shape) P, root-used shape P)
+  reach-tree =
+      reach-reading base (tables s) s va (childOf base) On on (3 - h .level) 0 (root-left (shaped-placed shape) P, root-used shape P)
 
   pub never-away : reach base (tables s) (s .words) va (h .level) ≢ away
   unfolding reachedAt
   never-away e = let z : _≡_ {A = ℕ} 0 1 = cc (sym reach-tree ∙ e) in omega arith
 
-  pub walk-of-tree : walk base (tables s) (s .words) va (h .level) ≡ says va (reachedAt (walkTree (slotsTaken va) (suc (3 - h .level)) (rootTree h s)))
+  pub walk-of-tree : walk base (tables s) (s .words) va (h .level)
+      ≡ says va (reachedAt (walkTree (slotsTaken va) (suc (3 - h .level)) (rootTree h s)))
   unfolding walk
   walk-of-tree = ap (says va) reach-tree

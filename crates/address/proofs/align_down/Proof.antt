@@ -1,4 +1,4 @@
--- `align_down`: each way through the code by its law. Assumes nothing.
+-- `align_down`: each way through the code by its law.
 use mathlib.Core.Path.{refl, sym, ap, _∙_}
 use native.Mathlib.Omega.{arith}
 use Rattle.laws.specs.Size.{down, down-zero, down-le}

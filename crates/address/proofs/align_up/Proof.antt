@@ -1,4 +1,4 @@
--- `align_up`: each way through the code by its law. Assumes nothing.
+-- `align_up`: each way through the code by its law.
 use native.Mathlib.Nat.{mod-le}
 use native.Mathlib.Omega.{arith}
 use Rattle.address.specs.Address.{align-up-none, align-up-exact, align-up-past, align-up-next}

@@ -1,4 +1,4 @@
--- `granularity_at_level`: each way through the code by its law. Assumes nothing.
+-- `granularity_at_level`: each way through the code by its law.
 use mathlib.Core.Path.{sym, ap}
 use Rattle.laws.specs.Size.{sizeAt, size-page, high-level}
 use Rattle.address.proofs.granularity_at_level.Statement.{statement}

@@ -1,4 +1,4 @@
--- `is_aligned`: each way through the code by its law. Assumes nothing.
+-- `is_aligned`: each way through the code by its law.
 use mathlib.Core.Path.{sym, ap, _∙_}
 use Prim.Native.Nat.{ℕ, _%_}
 use native.Mathlib.Nat.{mod-zero}

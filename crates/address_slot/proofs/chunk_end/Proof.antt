@@ -1,4 +1,4 @@
--- `chunk_end`: each way through the code by its law. Assumes nothing.
+-- `chunk_end`: each way through the code by its law.
 use native.Mathlib.Omega.{arith}
 use Rattle.address_slot.specs.Slot.{chunkEnd}
 use borrow.Author.Needs.{needs}

@@ -1,4 +1,4 @@
--- `entry_last`: each way through the code by its law. Assumes nothing.
+-- `entry_last`: each way through the code by its law.
 use mathlib.Core.Path.{ap, _∙_}
 use Prim.Native.Nat.{ℕ, _-_}
 use native.Mathlib.Omega.{arith}

@@ -1,4 +1,4 @@
--- `check`: each way through the code by its law. Assumes nothing.
+-- `check`: each way through the code by its law.
 use native.Mathlib.Omega.{arith}
 use mathlib.Core.Bool.{true}
 use mathlib.Core.Path.{_≡_, sym, _∙_}

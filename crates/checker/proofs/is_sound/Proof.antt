@@ -1,4 +1,4 @@
--- `is_sound`: each way through the code by its law. Assumes nothing.
+-- `is_sound`: each way through the code by its law.
 use mathlib.Core.Path.{sym}
 use Rattle.pool.specs.State.{st}
 use Rattle.checker.specs.Call.{count-unsound, count-sound}

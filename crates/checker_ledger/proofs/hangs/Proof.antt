@@ -1,4 +1,4 @@
--- `hangs`: each way through the code by its law. Assumes nothing.
+-- `hangs`: each way through the code by its law.
 use mathlib.Core.Bool.{false}
 use mathlib.Core.Path.{_≡_, sym, ap, _∙_}
 use Prim.Native.Nat.{ℕ, _+_, _*_, _/_, _-_, _<_}

@@ -1,4 +1,4 @@
--- `table_holds`: each way through the code by its law. Assumes nothing.
+-- `table_holds`: each way through the code by its law.
 use mathlib.Core.Bool.{true}
 use mathlib.Core.Path.{_≡_, refl, sym, ap, _∙_}
 use Prim.Native.Nat.{ℕ, zero, suc}

@@ -1,4 +1,4 @@
--- `scan_tables`: each way through the code by its law. Assumes nothing.
+-- `scan_tables`: each way through the code by its law.
 use borrow.Author.Tests.{not-true, not-false}
 use mathlib.Core.Path.{_≡_, sym, ap, ap₂, _∙_, subst⁻¹}
 use Prim.Native.Nat.{ℕ, _+_, _*_, _-_, _≤_}

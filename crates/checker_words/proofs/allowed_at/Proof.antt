@@ -1,4 +1,4 @@
--- `allowed_at`: each way through the code by its law. Assumes nothing.
+-- `allowed_at`: each way through the code by its law.
 use native.Mathlib.Omega.{arith}
 use mathlib.Core.Path.{_≡_, refl, sym, ap}
 use Prim.Native.Nat.{ℕ, zero, suc, _+_, _-_, _^_}

@@ -1,4 +1,4 @@
--- `scan_links`: each way through the code by its law. Assumes nothing.
+-- `scan_links`: each way through the code by its law.
 use mathlib.Core.Logic.{⊎-elim}
 use mathlib.Core.Path.{_≡_, sym, ap, _∙_}
 use Prim.Native.Nat.{ℕ, _+_, _-_, _≤_}

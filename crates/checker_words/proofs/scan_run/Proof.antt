@@ -1,4 +1,4 @@
--- `scan_run`: each way through the code by its law. Assumes nothing.
+-- `scan_run`: each way through the code by its law.
 use mathlib.Core.Path.{_≡_, refl, sym, ap, _∙_}
 use Prim.Native.Nat.{ℕ}
 use native.Mathlib.Omega.{arith}

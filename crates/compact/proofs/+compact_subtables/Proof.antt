@@ -1,4 +1,4 @@
--- `compact_subtables`: each way through the code by its law. Assumes nothing.
+-- `compact_subtables`: each way through the code by its law.
 use mathlib.Core.Logic.{⊎-elim}
 use mathlib.Core.Path.{_≡_, refl, sym, ap, _∙_, subst⁻¹}
 use Prim.Native.Nat.{ℕ, _+_, _*_, _-_, _≤_, _<_}

@@ -1,4 +1,4 @@
--- `compact`: each way through the code by its law. Assumes nothing.
+-- `compact`: each way through the code by its law.
 use mathlib.Core.Path.{_≡_, sym, _∙_}
 use mathlib.Core.Bool.{true}
 use native.Mathlib.Omega.{arith}

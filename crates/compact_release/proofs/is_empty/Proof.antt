@@ -1,4 +1,4 @@
--- `is_empty`: each way through the code by its law. Assumes nothing.
+-- `is_empty`: each way through the code by its law.
 use mathlib.Core.Path.{_≡_, refl, sym, _∙_}
 use Prim.Native.Nat.{_≤_, _-_}
 use native.Mathlib.Omega.{arith}

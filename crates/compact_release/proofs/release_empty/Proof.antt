@@ -1,4 +1,4 @@
--- `release_empty`: each way through the code by its law. Assumes nothing.
+-- `release_empty`: each way through the code by its law.
 use mathlib.Core.Path.{_≡_, sym, ap, _∙_}
 use Prim.Native.Nat.{ℕ, _+_, _*_, _-_}
 use native.Mathlib.Omega.{arith}

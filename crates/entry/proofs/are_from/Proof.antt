@@ -1,4 +1,4 @@
--- `are_from`: each way through the code by its law. Assumes nothing.
+-- `are_from`: each way through the code by its law.
 use mathlib.Core.Path.{refl}
 use Rattle.entry.specs.Word.{only}
 use Rattle.entry.proofs.are_from.Statement.{statement}

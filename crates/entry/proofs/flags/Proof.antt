@@ -1,4 +1,4 @@
--- `flags`: each way through the code by its law. Assumes nothing.
+-- `flags`: each way through the code by its law.
 use Rattle.entry.specs.Word.{mask-flags}
 use Rattle.entry.proofs.flags.Statement.{statement}
 use Rattle.entry.proofs.flags.Tie as tie

@@ -1,4 +1,4 @@
--- `kind_of`: each way through the code by its law. Assumes nothing.
+-- `kind_of`: each way through the code by its law.
 use mathlib.Core.Path.{_≡_, sym}
 use mathlib.Core.Logic.{_⊎_, inl, inr, _≢_}
 use Prim.Native.Nat.{ℕ, _%_, _<_}

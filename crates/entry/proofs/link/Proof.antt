@@ -1,4 +1,4 @@
--- `link`: each way through the code by its law. Assumes nothing.
+-- `link`: each way through the code by its law.
 use native.Mathlib.Omega.{arith}
 use Rattle.entry.specs.Word.{linkOf}
 use borrow.Author.Needs.{needs}

@@ -1,4 +1,4 @@
--- `put_word`: each way through the code by its law. Assumes nothing.
+-- `put_word`: each way through the code by its law.
 use mathlib.Core.List.{List, _++_}
 use mathlib.Core.Path.{_≡_, refl, sym, ap, ap₂, _∙_}
 use Prim.Native.Nat.{ℕ, _/_, _%_, _-_, _≤_}

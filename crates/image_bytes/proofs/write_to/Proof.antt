@@ -1,4 +1,4 @@
--- `write_to`: each way through the code by its law. Assumes nothing.
+-- `write_to`: each way through the code by its law.
 use mathlib.Core.Path.{_≡_, refl, ap, _∙_}
 use Prim.Native.Nat.{ℕ, _+_, _*_, _-_, _≤_}
 use native.Mathlib.Omega.{arith}

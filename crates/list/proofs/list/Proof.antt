@@ -1,4 +1,4 @@
--- `list`: each way through the code by its law. Assumes nothing.
+-- `list`: each way through the code by its law.
 use mathlib.Core.Bool.{true}
 use mathlib.Core.Path.{_≡_, sym, _∙_}
 use native.Mathlib.Omega.{arith}

@@ -1,4 +1,4 @@
--- `list_lines`: each way through the code by its law. Assumes nothing.
+-- `list_lines`: each way through the code by its law.
 use mathlib.Core.Path.{ap, ap₂, _∙_}
 use mathlib.Core.List.{List}
 use Prim.Native.Nat.{ℕ, _*_, _-_, _^_, _≤_}

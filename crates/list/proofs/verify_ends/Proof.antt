@@ -1,4 +1,4 @@
--- `verify_ends`: each way through the code by its law. Assumes nothing.
+-- `verify_ends`: each way through the code by its law.
 use mathlib.Core.Path.{sym, _∙_}
 use borrow.Author.Tests.{not-true, not-false}
 use Rattle.list.specs.Call.{ends-past, ends-fit}

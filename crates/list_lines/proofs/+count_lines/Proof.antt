@@ -1,4 +1,4 @@
--- `count_lines`: each way through the code by its law. Assumes nothing.
+-- `count_lines`: each way through the code by its law.
 use mathlib.Core.List.{List}
 use mathlib.Core.Logic.{_⊎_}
 use mathlib.Core.Path.{_≡_, sym, ap, subst, _∙_}

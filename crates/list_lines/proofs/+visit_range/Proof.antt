@@ -1,4 +1,4 @@
--- `visit_range`: each way through the code by its law. Assumes nothing.
+-- `visit_range`: each way through the code by its law.
 use mathlib.Core.Path.{_≡_, refl, sym, ap, ap₂, _∙_}
 use mathlib.Core.List.{List, [], _∷_}
 use mathlib.Core.Logic.{_⊎_}

@@ -1,4 +1,4 @@
--- `count_pages`: each way through the code by its law. Assumes nothing.
+-- `count_pages`: each way through the code by its law.
 use mathlib.Core.Path.{sym}
 use native.Mathlib.Omega.{arith}
 use borrow.Author.Tests.{lt-ltb}

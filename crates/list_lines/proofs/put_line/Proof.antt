@@ -1,4 +1,4 @@
--- `put_line`: each way through the code by its law. Assumes nothing.
+-- `put_line`: each way through the code by its law.
 use native.Mathlib.Omega.{arith}
 use lib.ListN.{length-set}
 use Rattle.list_lines.specs.Lines.{numbers, put-four}

@@ -1,4 +1,4 @@
--- `is_spanned`: each way through the code by its law. Assumes nothing.
+-- `is_spanned`: each way through the code by its law.
 use native.Mathlib.Omega.{arith}
 use Rattle.laws.specs.Size.{size-high}
 use Rattle.look_up.specs.Call.{span-lower, span-upper}

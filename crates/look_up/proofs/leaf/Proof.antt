@@ -1,4 +1,4 @@
--- `leaf`: each way through the code by its law. Assumes nothing.
+-- `leaf`: each way through the code by its law.
 use Rattle.look_up.proofs.Tags.{both-set}
 use mathlib.Core.Path.{sym, _∙_}
 use Rattle.look_up.specs.Call.{leaf-hole, leaf-block, leaf-page}

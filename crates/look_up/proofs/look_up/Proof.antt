@@ -1,4 +1,4 @@
--- `look_up`: each way through the code by its law. Assumes nothing.
+-- `look_up`: each way through the code by its law.
 use mathlib.Core.Bool.{true}
 use mathlib.Core.Path.{_≡_, sym, _∙_}
 use borrow.Author.Tests.{not-true, not-false}

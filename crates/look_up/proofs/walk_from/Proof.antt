@@ -1,4 +1,4 @@
--- `walk_from`: each way through the code by its law. Assumes nothing.
+-- `walk_from`: each way through the code by its law.
 use Rattle.look_up.proofs.Tags.{is-leaf}
 use Rattle.look_up.specs.Call.{answer}
 use borrow.Author.Needs.{needs}

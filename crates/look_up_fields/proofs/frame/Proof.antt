@@ -1,4 +1,4 @@
--- `frame`: each way through the code by its law. Assumes nothing.
+-- `frame`: each way through the code by its law.
 use mathlib.Core.Path.{ap, ap₂, _∙_}
 use Prim.Native.Nat.{ℕ, _+_, _-_, _%_}
 use native.Mathlib.Omega.{arith}

@@ -1,4 +1,4 @@
--- `plain_flags`: each way through the code by its law. Assumes nothing.
+-- `plain_flags`: each way through the code by its law.
 use mathlib.Core.Path.{ap, _∙_}
 use Prim.Native.Nat.{ℕ, _+_, _*_, _/_, _%_}
 use Rattle.arm.specs.Walk.{flags-is}

@@ -1,4 +1,4 @@
--- `slots_of`: each way through the code by its law. Assumes nothing.
+-- `slots_of`: each way through the code by its law.
 use mathlib.Core.Path.{refl}
 use Rattle.arm.specs.Arm.{bits, lowBit, index}
 use Rattle.arm.specs.Walk.{slotsOf}

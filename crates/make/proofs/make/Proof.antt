@@ -1,4 +1,4 @@
--- `make`: each way through the code by its law. Assumes nothing.
+-- `make`: each way through the code by its law.
 use mathlib.Core.List.{List}
 use mathlib.Core.Path.{sym, ap₂, _∙_}
 use Prim.Native.Nat.{ℕ, _+_}

@@ -1,4 +1,4 @@
--- `map`: each way through the code by its law. Assumes nothing.
+-- `map`: each way through the code by its law.
 use borrow.Author.Needs.{needs}
 use mathlib.Core.Path.{_≡_, refl, sym, ap, subst, _∙_}
 use mathlib.Core.Bool.{true}

@@ -1,4 +1,4 @@
--- `count_leaf`: each way through the code by its law. Assumes nothing.
+-- `count_leaf`: each way through the code by its law.
 use mathlib.Core.Path.{_≡_, ap, ap₂, subst⁻¹, _∙_}
 use Prim.Native.Nat.{_+_, _*_, _-_, _≤_, _^_}
 use native.Mathlib.Omega.{arith}

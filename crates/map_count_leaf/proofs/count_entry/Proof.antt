@@ -1,4 +1,4 @@
--- `count_entry`: each way through the code by its law. Assumes nothing.
+-- `count_entry`: each way through the code by its law.
 use mathlib.Core.Path.{_≡_, sym, ap, subst⁻¹, _∙_}
 use Prim.Native.Nat.{ℕ, _+_, _-_, _^_, _≤_, _<_}
 use native.Mathlib.Omega.{arith}

@@ -1,4 +1,4 @@
--- `count_most`: each way through the code by its law. Assumes nothing.
+-- `count_most`: each way through the code by its law.
 use mathlib.Core.Path.{_≡_}
 use Prim.Native.Nat.{_+_, _-_}
 use native.Mathlib.Omega.{arith}

@@ -1,4 +1,4 @@
--- `entries_met`: each way through the code by its law. Assumes nothing.
+-- `entries_met`: each way through the code by its law.
 use mathlib.Core.Path.{sym}
 use Prim.Native.Nat.{_-_}
 use native.Mathlib.Omega.{arith}

@@ -1,4 +1,4 @@
--- `entry_number`: each way through the code by its law. Assumes nothing.
+-- `entry_number`: each way through the code by its law.
 use mathlib.Core.Path.{sym, ap}
 use Prim.Native.Nat.{ℕ, _/_}
 use Rattle.laws.specs.Size.{sizeAt, size-page, high-level}

@@ -1,4 +1,4 @@
--- `part_of`: each way through the code by its law. Assumes nothing.
+-- `part_of`: each way through the code by its law.
 use mathlib.Core.Path.{_≡_, sym, ap₂, _∙_}
 use Prim.Native.Nat.{ℕ, _+_, _*_, _-_, _^_}
 use native.Mathlib.Omega.{arith}

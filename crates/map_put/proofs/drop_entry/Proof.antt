@@ -1,4 +1,4 @@
--- `drop_entry`: each way through the code by its law. Assumes nothing.
+-- `drop_entry`: each way through the code by its law.
 use mathlib.Core.Logic.{⊎-elim}
 use mathlib.Core.Path.{sym, _∙_}
 use native.Mathlib.Omega.{arith}

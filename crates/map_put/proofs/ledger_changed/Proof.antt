@@ -1,4 +1,4 @@
--- `ledger_changed`: each way through the code by its law. Assumes nothing.
+-- `ledger_changed`: each way through the code by its law.
 use mathlib.Core.Bool.{true≢false}
 use borrow.Author.Needs.{needs}
 use Rattle.map_put.proofs.ledger_changed.Statement.{statement}

@@ -1,4 +1,4 @@
--- `put_entry`: each way through the code by its law. Assumes nothing.
+-- `put_entry`: each way through the code by its law.
 use mathlib.Core.Path.{refl, _∙_}
 use mathlib.Core.Bool.{true≢false}
 use native.Mathlib.Omega.{arith}

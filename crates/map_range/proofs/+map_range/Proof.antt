@@ -1,4 +1,4 @@
--- `map_range`: each way through the code by its law. Assumes nothing.
+-- `map_range`: each way through the code by its law.
 use mathlib.Core.Path.{_≡_, refl, sym, ap, _∙_, subst⁻¹}
 use mathlib.Core.Bool.{false}
 use Prim.Native.Nat.{_+_, _-_, _%_, _^_, _≤_}

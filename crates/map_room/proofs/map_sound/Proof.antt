@@ -1,4 +1,4 @@
--- `map_sound`: each way through the code by its law. Assumes nothing.
+-- `map_sound`: each way through the code by its law.
 use mathlib.Core.Path.{_≡_, _∙_}
 use mathlib.Core.Bool.{true}
 use mathlib.Core.List.{List}

@@ -1,4 +1,4 @@
--- `put_down`: each way through the code by its law. Assumes nothing.
+-- `put_down`: each way through the code by its law.
 use mathlib.Core.Path.{sym, ap, _∙_}
 use mathlib.Core.List.{List}
 use Prim.Native.Nat.{ℕ}

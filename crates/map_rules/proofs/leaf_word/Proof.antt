@@ -1,4 +1,4 @@
--- `leaf_word`: each way through the code by its law. Assumes nothing.
+-- `leaf_word`: each way through the code by its law.
 use native.Mathlib.Omega.{arith}
 use Rattle.map_rules.specs.Fit.{word-fits, leaf-hole, leaf-page, leaf-block}
 use Rattle.map_rules.proofs.leaf_word.Statement.{statement}

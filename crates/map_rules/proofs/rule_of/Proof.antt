@@ -1,4 +1,4 @@
--- `rule_of`: each way through the code by its law. Assumes nothing.
+-- `rule_of`: each way through the code by its law.
 use mathlib.Core.Path.{_≡_, sym, ap, _∙_}
 use Prim.Native.Nat.{_%_, _^_, _<_}
 use native.Mathlib.Omega.{arith}

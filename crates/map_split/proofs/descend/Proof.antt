@@ -1,4 +1,4 @@
--- `descend`: each way through the code by its law. Assumes nothing.
+-- `descend`: each way through the code by its law.
 use Rattle.entry.proofs.Tags.{is-outside}
 use mathlib.Core.Path.{sym, _∙_}
 use native.Mathlib.Omega.{arith}

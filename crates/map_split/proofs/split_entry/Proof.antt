@@ -1,4 +1,4 @@
--- `split_entry`: each way through the code by its law. Assumes nothing.
+-- `split_entry`: each way through the code by its law.
 use mathlib.Core.Path.{_≡_, ap, ap₂, _∙_, subst⁻¹}
 use Prim.Native.Nat.{ℕ, _+_, _*_, _-_, _%_, _^_, _≤_, _<_}
 use native.Mathlib.Omega.{arith}

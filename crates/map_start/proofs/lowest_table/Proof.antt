@@ -1,4 +1,4 @@
--- `lowest_table` goes down while the map does. Assumes nothing.
+-- `lowest_table` goes down while the map does.
 use mathlib.Core.Path.{refl, _∙_}
 use Prim.Native.Nat.{_-_}
 use native.Mathlib.Omega.{arith}

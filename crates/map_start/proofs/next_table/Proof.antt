@@ -1,4 +1,4 @@
--- `next_table` gives a table below only where the map does the same there. Assumes nothing.
+-- `next_table` gives a table below only where the map does the same there.
 use mathlib.Core.Path.{sym, _∙_}
 use native.Mathlib.Omega.{arith}
 use Rattle.entry.specs.Sub.{sub-below}

@@ -1,4 +1,4 @@
--- `has_frames`: each way through the code by its law. Assumes nothing.
+-- `has_frames`: each way through the code by its law.
 use native.Mathlib.Omega.{arith}
 use Rattle.map_verify.specs.Ask.{fit-part, fit-past, fit-rest}
 use Rattle.map_verify.proofs.has_frames.Statement.{statement}

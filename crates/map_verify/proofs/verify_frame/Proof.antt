@@ -1,4 +1,4 @@
--- `verify_frame`: each way through the code by its law. Assumes nothing.
+-- `verify_frame`: each way through the code by its law.
 use mathlib.Core.Path.{sym, _∙_}
 use borrow.Author.Tests.{not-true, not-false}
 use Rattle.map_verify.specs.Ask.{frame-not, frame-may}

@@ -1,4 +1,4 @@
--- `verify_map`: each way through the code by its law. Assumes nothing.
+-- `verify_map`: each way through the code by its law.
 use mathlib.Core.Path.{_≡_, sym, ap, _∙_}
 use Prim.Native.Nat.{ℕ}
 use mathlib.Core.Bool.{true}

@@ -1,4 +1,4 @@
--- `edit_tables`: each way through the code by its law. Assumes nothing.
+-- `edit_tables`: each way through the code by its law.
 use Rattle.pool.specs.Refuse.{maxTables}
 use native.Mathlib.Omega.{arith}
 use Rattle.pool.specs.State.{st}

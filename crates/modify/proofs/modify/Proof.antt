@@ -1,4 +1,4 @@
--- `modify`: each way through the code by its law. Assumes nothing.
+-- `modify`: each way through the code by its law.
 use mathlib.Core.Path.{_≡_, sym, ap, subst⁻¹, _∙_}
 use mathlib.Core.Bool.{true}
 use Prim.Native.Nat.{_-_, _≤_, _^_}

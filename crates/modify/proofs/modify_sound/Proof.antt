@@ -1,4 +1,4 @@
--- `modify_sound`: each way through the code by its law. Assumes nothing.
+-- `modify_sound`: each way through the code by its law.
 use Rattle.pool.specs.Refuse.{maxTables}
 use mathlib.Core.Path.{_≡_, sym, _∙_}
 use mathlib.Core.Bool.{true}

@@ -1,4 +1,4 @@
--- `chunk_edit`: each way through the code by its law. Assumes nothing.
+-- `chunk_edit`: each way through the code by its law.
 use mathlib.Core.Path.{refl}
 use Rattle.modify_entry.proofs.chunk_edit.Statement.{statement}
 use Rattle.modify_entry.proofs.chunk_edit.Tie as tie

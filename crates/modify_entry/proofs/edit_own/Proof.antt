@@ -1,4 +1,4 @@
--- `edit_own`: each way through the code by its law. Assumes nothing.
+-- `edit_own`: each way through the code by its law.
 use mathlib.Core.Path.{_≡_, refl, sym, ap, _∙_}
 use Prim.Native.Nat.{ℕ, _+_, _*_, _-_, _≤_, _<_}
 use native.Mathlib.Omega.{arith}

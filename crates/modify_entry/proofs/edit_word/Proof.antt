@@ -1,4 +1,4 @@
--- `edit_word`: each way through the code by its law. Assumes nothing.
+-- `edit_word`: each way through the code by its law.
 use Rattle.modify_entry.specs.Word.{edit-table, edit-block, edit-page, edit-hole}
 use Rattle.modify_entry.proofs.edit_word.Statement.{statement}
 use Rattle.modify_entry.proofs.edit_word.Tie as tie

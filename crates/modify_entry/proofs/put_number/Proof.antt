@@ -1,4 +1,4 @@
--- `put_number`: each way through the code by its law. Assumes nothing.
+-- `put_number`: each way through the code by its law.
 use native.Mathlib.Omega.{arith}
 use borrow.Author.Tests.{not-true, not-false}
 use Rattle.modify_entry.specs.Own.{number-off, number-full, number-put}

@@ -1,4 +1,4 @@
--- `is_own`: each way through the code by its law. Assumes nothing.
+-- `is_own`: each way through the code by its law.
 use mathlib.Core.Path.{_∙_}
 use Rattle.modify_range.specs.Range.{own-table, own-leaf}
 use Rattle.modify_range.proofs.is_own.Statement.{statement}

@@ -1,4 +1,4 @@
--- `survey_range`: each way through the code by its law. Assumes nothing.
+-- `survey_range`: each way through the code by its law.
 use mathlib.Core.Path.{_≡_, refl, sym, ap, _∙_, subst⁻¹}
 use Prim.Native.Nat.{_+_, _-_, _≤_}
 use native.Mathlib.Omega.{arith}

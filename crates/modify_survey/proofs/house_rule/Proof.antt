@@ -1,4 +1,4 @@
--- `house_rule`: each way through the code by its law. Assumes nothing.
+-- `house_rule`: each way through the code by its law.
 use Rattle.modify_survey.specs.House.{house-is}
 use Rattle.modify_survey.proofs.house_rule.Statement.{statement}
 use Rattle.modify_survey.proofs.house_rule.Tie as tie

@@ -1,4 +1,4 @@
--- `may_change`: each way through the code by its law. Assumes nothing.
+-- `may_change`: each way through the code by its law.
 use mathlib.Core.Path.{_∙_}
 use Rattle.modify_survey.specs.House.{change-is}
 use Rattle.modify_survey.proofs.may_change.Statement.{statement}

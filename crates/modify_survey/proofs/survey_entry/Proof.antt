@@ -1,4 +1,4 @@
--- `survey_entry`: each way through the code by its law. Assumes nothing.
+-- `survey_entry`: each way through the code by its law.
 use mathlib.Core.Path.{sym, _∙_}
 use Rattle.modify_survey.specs.Find.{entry-whole, entry-part}
 use Rattle.modify_survey.proofs.survey_entry.Statement.{statement}

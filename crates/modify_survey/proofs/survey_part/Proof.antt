@@ -1,4 +1,4 @@
--- `survey_part`: each way through the code by its law. Assumes nothing.
+-- `survey_part`: each way through the code by its law.
 use mathlib.Core.Logic.{_⊎_, inl, inr}
 use mathlib.Core.Path.{_≡_, refl, _∙_}
 use native.Mathlib.Omega.{arith}

@@ -1,4 +1,4 @@
--- `survey_whole`: each way through the code by its law. Assumes nothing.
+-- `survey_whole`: each way through the code by its law.
 use mathlib.Core.Path.{sym, _∙_}
 use native.Mathlib.Omega.{arith}
 use Rattle.modify_survey.specs.Find.{whole-same, whole-allowed, whole-breach}

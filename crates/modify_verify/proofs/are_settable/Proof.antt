@@ -1,4 +1,4 @@
--- `are_settable`: each way through the code by its law. Assumes nothing.
+-- `are_settable`: each way through the code by its law.
 use mathlib.Core.Path.{sym, _∙_}
 use borrow.Author.Tests.{not-true, not-false}
 use Rattle.modify_verify.specs.Permit.{set-outside, set-valid, set-apart}

@@ -1,4 +1,4 @@
--- `verify_bits`: each way through the code by its law. Assumes nothing.
+-- `verify_bits`: each way through the code by its law.
 use mathlib.Core.Path.{_≡_, sym, ap, _∙_}
 use mathlib.Core.Bool.{Bool, true, false, cond}
 use Prim.Native.Nat.{ℕ}

@@ -1,4 +1,4 @@
--- `verify_edit`: each way through the code by its law. Assumes nothing.
+-- `verify_edit`: each way through the code by its law.
 use mathlib.Core.Path.{_≡_, sym, _∙_}
 use mathlib.Core.Bool.{true}
 use borrow.Author.Tests.{not-true, not-false}

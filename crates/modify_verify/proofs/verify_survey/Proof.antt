@@ -1,4 +1,4 @@
--- `verify_survey`: each way through the code by its law. Assumes nothing.
+-- `verify_survey`: each way through the code by its law.
 use native.Mathlib.Omega.{arith}
 use borrow.Author.Tests.{not-true, not-false}
 use Rattle.modify_verify.specs.Permit.{survey-full, survey-off, survey-broken, survey-short, survey-accepted}

@@ -1,4 +1,4 @@
--- `flag_set`: each way through the code by its law. Assumes nothing.
+-- `flag_set`: each way through the code by its law.
 use mathlib.Core.Path.{refl}
 use Rattle.entry.specs.Word.{el1Flags}
 use Rattle.pool.specs.Sound.{flagSet}

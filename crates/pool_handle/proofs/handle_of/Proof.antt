@@ -1,4 +1,4 @@
--- `handle_of` makes a handle of three numbers. Assumes nothing.
+-- `handle_of` makes a handle of three numbers.
 use Rattle.pool_handle.proofs.handle_of.Statement.{statement}
 use Rattle.pool_handle.proofs.handle_of.Tie as tie
 use Rattle.pool_handle.proofs.handle_of.Reads as reads

@@ -1,4 +1,4 @@
--- `is_shaped`: each way through the code by its law. Assumes nothing.
+-- `is_shaped`: each way through the code by its law.
 use mathlib.Core.Bool.{false}
 use mathlib.Core.Path.{_≡_, sym}
 use native.Mathlib.Omega.{arith}

@@ -1,4 +1,4 @@
--- `range_of` reads the number of a range. Assumes nothing.
+-- `range_of` reads the number of a range.
 use borrow.Author.Tests.{eq-eqb, ne-eqb}
 use Rattle.pool_handle.specs.Handle.{rangeOf}
 use Rattle.pool_handle.proofs.range_of.Statement.{statement}

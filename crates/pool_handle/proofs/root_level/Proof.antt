@@ -1,4 +1,4 @@
--- `root_level`: the level as given, or that of no root. Assumes nothing.
+-- `root_level`: the level as given, or that of no root.
 use borrow.Author.Tests.{le-leb, lt-leb}
 use Rattle.pool_handle.specs.Handle.{rootLevel}
 use Rattle.pool_handle.proofs.root_level.Statement.{statement}

@@ -1,4 +1,4 @@
--- `count_used`: each way through the code by its law. Assumes nothing.
+-- `count_used`: each way through the code by its law.
 use mathlib.Core.Logic.{⊎-elim}
 use mathlib.Core.Path.{_≡_}
 use Prim.Native.Nat.{_+_, _≤_, _-_}

@@ -1,4 +1,4 @@
--- `lowest_free`: each way through the code by its law. Assumes nothing.
+-- `lowest_free`: each way through the code by its law.
 use mathlib.Core.Logic.{⊎-elim}
 use mathlib.Core.Path.{_≡_, refl, sym, ap, _∙_}
 use Prim.Native.Nat.{_≤_, _-_}

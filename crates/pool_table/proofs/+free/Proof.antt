@@ -1,4 +1,4 @@
--- `free`: each way through the code by its law. Assumes nothing.
+-- `free`: each way through the code by its law.
 use mathlib.Core.Logic.{⊎-elim}
 use Rattle.entry.proofs.Tags.{no-table}
 use mathlib.Core.Path.{_≡_, refl, sym, ap, _∙_, subst⁻¹}

@@ -1,4 +1,4 @@
--- `clear_table`: each way through the code by its law. Assumes nothing.
+-- `clear_table`: each way through the code by its law.
 use mathlib.Core.List.{List}
 use mathlib.Core.Path.{ap, _∙_}
 use Prim.Native.Nat.{ℕ}

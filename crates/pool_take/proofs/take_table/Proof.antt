@@ -1,4 +1,4 @@
--- `take_table`: each way through the code by its law. Assumes nothing.
+-- `take_table`: each way through the code by its law.
 use mathlib.Core.List.{List}
 use mathlib.Core.Path.{_≡_, sym, ap, ap₂, _∙_}
 use Prim.Native.Nat.{ℕ, _+_, _*_, _-_, _^_, _≤_, _<_}

@@ -1,4 +1,4 @@
--- `zero_numbers`: each way through the code by its law. Assumes nothing.
+-- `zero_numbers`: each way through the code by its law.
 use Prim.Native.Nat.{_-_}
 use native.Mathlib.Omega.{arith}
 use lib.ListN.{length}

@@ -1,4 +1,4 @@
--- `ptb_check`: the call told outside. Assumes nothing.
+-- `ptb_check`: the call told outside.
 use Rattle.pool.specs.State.{st}
 use Rattle.ptb_spec.specs.Face.{check-told}
 use Rattle.ptb.proofs.ptb_check.Statement.{statement}

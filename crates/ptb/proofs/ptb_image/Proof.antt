@@ -1,4 +1,4 @@
--- `ptb_image`: the call told outside. Assumes nothing.
+-- `ptb_image`: the call told outside.
 use native.Mathlib.Omega.{arith}
 use Rattle.pool.specs.State.{st}
 use Rattle.ptb_spec.specs.Face.{image-told}

@@ -1,4 +1,4 @@
--- `ptb_look_up`: the call told outside. Assumes nothing.
+-- `ptb_look_up`: the call told outside.
 use Rattle.pool.specs.State.{st}
 use Rattle.ptb_spec.specs.Face.{look-up-told}
 use Rattle.ptb.proofs.ptb_look_up.Statement.{statement}

@@ -1,4 +1,4 @@
--- `ptb_map`: the call told outside. Assumes nothing.
+-- `ptb_map`: the call told outside.
 use native.Mathlib.Omega.{arith}
 use Rattle.pool.specs.State.{st}
 use Rattle.ptb_spec.specs.Face.{map-told}

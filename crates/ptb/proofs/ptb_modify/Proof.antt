@@ -1,4 +1,4 @@
--- `ptb_modify`: the call told outside. Assumes nothing.
+-- `ptb_modify`: the call told outside.
 use Rattle.pool.specs.State.{st}
 use Rattle.ptb_spec.specs.Face.{modify-told}
 use Rattle.ptb.proofs.ptb_modify.Statement.{statement}

@@ -1,4 +1,4 @@
--- `answer_counted` tells a count of tables outside. Assumes nothing.
+-- `answer_counted` tells a count of tables outside.
 use Rattle.ptb_answer.specs.Answer.{toldCounted, accepted}
 use Rattle.ptb_answer.proofs.answer_counted.Statement.{statement}
 use Rattle.ptb_answer.proofs.answer_counted.Tie as tie

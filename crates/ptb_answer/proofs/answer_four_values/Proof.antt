@@ -1,4 +1,4 @@
--- `answer_four_values` stores four values over the whole of `answer`. Assumes nothing.
+-- `answer_four_values` stores four values over the whole of `answer`.
 use native.Mathlib.Omega.{arith}
 use mathlib.Core.Path.{ap}
 use Rattle.ptb_answer.specs.Answer.{slip, accepted, over-four}

@@ -1,4 +1,4 @@
--- `answer_listed` tells a count of lines outside. Assumes nothing.
+-- `answer_listed` tells a count of lines outside.
 use Rattle.ptb_answer.specs.Answer.{toldListed, accepted}
 use Rattle.ptb_answer.proofs.answer_listed.Statement.{statement}
 use Rattle.ptb_answer.proofs.answer_listed.Tie as tie

@@ -1,4 +1,4 @@
--- `answer_looked` tells what a walk answered outside. Assumes nothing.
+-- `answer_looked` tells what a walk answered outside.
 use Rattle.ptb_answer.specs.Answer.{toldLooked}
 use Rattle.ptb_answer.proofs.answer_looked.Statement.{statement}
 use Rattle.ptb_answer.proofs.answer_looked.Tie as tie

@@ -1,4 +1,4 @@
--- `answer_modified` tells the tables in use and, live, a count of numbers outside. Assumes nothing.
+-- `answer_modified` tells the tables in use and, live, a count of numbers outside.
 use Rattle.ptb_answer.specs.Answer.{toldModified, accepted}
 use Rattle.ptb_answer.proofs.answer_modified.Statement.{statement}
 use Rattle.ptb_answer.proofs.answer_modified.Tie as tie

@@ -1,4 +1,4 @@
--- `answer_outcome` tells an outcome outside. Assumes nothing.
+-- `answer_outcome` tells an outcome outside.
 use Rattle.ptb_answer.specs.Answer.{told, accepted, overFront}
 use Rattle.ptb_answer.proofs.answer_outcome.Statement.{statement}
 use Rattle.ptb_answer.proofs.answer_outcome.Tie as tie

@@ -1,4 +1,4 @@
--- `answer_refusal` gives each refusal's number and stores what it carries, arm by arm. Assumes nothing.
+-- `answer_refusal` gives each refusal's number and stores what it carries, arm by arm.
 use Rattle.ptb_answer.specs.Answer.{toldRefusal, overFront}
 use Rattle.ptb_answer.proofs.answer_refusal.Statement.{statement}
 use Rattle.ptb_answer.proofs.answer_refusal.Tie as tie

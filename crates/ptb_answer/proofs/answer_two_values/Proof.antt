@@ -1,4 +1,4 @@
--- `answer_two_values` stores two values over the front of `answer`. Assumes nothing.
+-- `answer_two_values` stores two values over the front of `answer`.
 use native.Mathlib.Omega.{arith}
 use mathlib.Core.Path.{ap}
 use Rattle.ptb_answer.specs.Answer.{slip, over-two}

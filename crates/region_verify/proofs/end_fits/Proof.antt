@@ -1,4 +1,4 @@
--- `end_fits`: each way through the code by its law. Assumes nothing.
+-- `end_fits`: each way through the code by its law.
 use Rattle.region_verify.proofs.end_fits.Statement.{statement}
 use Rattle.region_verify.proofs.end_fits.Tie as tie
 use Rattle.region_verify.proofs.end_fits.Reads as reads

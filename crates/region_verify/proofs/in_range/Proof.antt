@@ -1,4 +1,4 @@
--- `in_range`: each way through the code by its law. Assumes nothing.
+-- `in_range`: each way through the code by its law.
 use native.Mathlib.Omega.{arith}
 use Rattle.laws.specs.Size.{size-high}
 use Rattle.region_verify.specs.Verify.{lower-start, lower-end, lower-in, upper-start, upper-in}

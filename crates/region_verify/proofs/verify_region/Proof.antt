@@ -1,4 +1,4 @@
--- `verify_region`: each way through the code by its law. Assumes nothing.
+-- `verify_region`: each way through the code by its law.
 use mathlib.Core.Path.{_∙_}
 use native.Mathlib.Omega.{arith}
 use Rattle.region_verify.specs.Verify.{verify-backwards, verify-forwards}

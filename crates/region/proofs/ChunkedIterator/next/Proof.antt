@@ -1,4 +1,4 @@
--- `next`: each way through the code by its law. Assumes nothing.
+-- `next`: each way through the code by its law.
 use native.Mathlib.Omega.{arith}
 use Rattle.region.specs.Region.{next-done, next-cut}
 use borrow.Author.Needs.{needs}

@@ -1,4 +1,4 @@
--- `new`: each way through the code by its law. Assumes nothing.
+-- `new`: each way through the code by its law.
 use mathlib.Core.Path.{ap₂}
 use Rattle.region.specs.Region.{region, rounded}
 use borrow.Author.Needs.{needs}

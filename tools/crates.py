@@ -1,10 +1,10 @@
 #!/usr/bin/env python3
 """crates.py: writes crates.txt and docs/crates.svg from the tables of docs/ARCHITECTURE.md.
 
-The table of families gives the floors, the lowest first, and what each family is for. The table under a heading
-`### NAME` gives the crates of that family: crate, what it holds, what to open first, and what it leans on (the
-direct ones only). A crate must name every crate whose types its values reach, so a line of crates.txt names all
-that stands below.
+The table of families gives the floors, the lowest first, and what each family is for. The table under a
+heading `### NAME` gives the crates of that family: crate, what it holds, what to open first, and what it
+leans on (the direct ones only). A crate must name every crate whose types its values reach, so a line of
+crates.txt names all that stands below. Where the tables and the folder crates/ disagree, nothing is written.
 """
 import itertools
 import math
@@ -13,13 +13,15 @@ import re
 import sys
 
 PAGE = 'docs/ARCHITECTURE.md'
+FAMILIES = '| Floor | Family | What it is for |'
+CRATES = '| Crate | Holds | Open first | Leans on |'
 KIT = ['io', 'libc']  # libraries of the toolchain
 
 
 # ---- the tables
 
 def rows_after(text, header):
-    """The rows of the table with this header, each a list of cells."""
+    """The rows of the first table with this header, each a list of cells."""
     lines = text[text.index(header):].split('\n')[2:]
     rows = itertools.takewhile(lambda line: line.startswith('|'), lines)
     return [[cell.strip() for cell in row.strip().strip('|').split('|')] for row in rows]
@@ -33,35 +35,39 @@ class Crate:
 
 class Tables:
     def __init__(self, text):
-        families = rows_after(text, '| Floor | Family | What it is for |')
+        families = rows_after(text, FAMILIES)
         self.floor = {family: floor for floor, family, _ in families}
         self.purpose = {family: purpose for _, family, purpose in families}
         self.rows = []
         for part in re.split(r'^### ', text, flags=re.M)[1:]:
-            if '| Crate | Holds | Open first | Leans on |' in part:
+            if CRATES in part:
                 family = part.split('\n')[0].strip()
-                self.rows += [Crate(family, name, first, leans) for name, _, first, leans in rows_after(part, '| Crate |')]
+                self.rows += [Crate(family, name, first, leans) for name, _, first, leans in rows_after(part, CRATES)]
         self.family = {crate.name: crate.family for crate in self.rows}
 
     def faults(self):
-        """What keeps the tables from being read on."""
+        """Where the tables and the folder disagree."""
         there = {name for name in os.listdir('crates') if os.path.isdir('crates/' + name)}
         listed = [crate.name for crate in self.rows]
         yield from (f'crates/{name} has no row' for name in sorted(there.difference(listed)))
         yield from (f'{name} has a row, and there is no crates/{name}' for name in sorted(set(listed) - there))
-        yield from (f'{name} stands in {listed.count(name)} rows' for name in sorted(set(listed)) if listed.count(name) > 1)
+        yield from (f'{name} stands in {listed.count(name)} rows' for name in sorted(there) if listed.count(name) > 1)
         yield from (f'the family {family} has no table' for family in self.floor if family not in self.family.values())
         for crate in self.rows:
             if crate.family not in self.floor:
                 yield f'{crate.name} stands under {crate.family}, which the table of families does not have'
             if crate.name != crate.family and not crate.name.startswith(crate.family + '_'):
                 yield f'{crate.name} stands under {crate.family}, and is not named after it'
-            yield from (f'{crate.name} leans on {lower}, which is no crate' for lower in crate.leans if lower not in listed + KIT)
-            yield from (f'{crate.name} opens with {file}, and there is no crates/{crate.name}/{file}'
-                        for file in crate.first if not os.path.isfile(f'crates/{crate.name}/{file}'))
+            for lower in crate.leans:
+                if lower not in listed + KIT:
+                    yield f'{crate.name} leans on {lower}, which is no crate'
+            for file in crate.first:
+                if not os.path.isfile(f'crates/{crate.name}/{file}'):
+                    yield f'{crate.name} opens with {file}, and there is no crates/{crate.name}/{file}'
 
     def settle(self):
-        """Finds all that stands below each crate, and an order in which a family's crates follow those that they lean on. Gives what is at fault."""
+        """Finds all that stands below each crate, and an order of the crates: family by family, each after those of
+        its family that it leans on. Gives what is at fault."""
         self.below = {name: set() for name in KIT}
         while len(self.below) < len(self.rows) + len(KIT):
             waiting = [crate for crate in self.rows if crate.name not in self.below]
@@ -84,11 +90,12 @@ class Tables:
 
     def listing(self):
         """crates.txt."""
-        lines = [f'# Written by tools/crates.py from the tables of {PAGE}. A line for each crate: NAME: all that stands below it.']
+        yield f'# Written by tools/crates.py from the tables of {PAGE}. NAME: all that stands below it.'
         for family in self.floor:
-            lines += ['', f'# -- {family}: {self.purpose[family]}']
-            lines += [' '.join([name + ':'] + [lower for lower in self.order + KIT if lower in self.below[name]]) for name in self.members(family)]
-        return '\n'.join(lines) + '\n'
+            yield f'\n# -- {family}: {self.purpose[family]}'
+            for name in self.members(family):
+                below = [lower for lower in self.order + KIT if lower in self.below[name]]
+                yield ' '.join([name + ':'] + below)
 
 
 # ---- the drawing: families as boxes on floors
@@ -97,8 +104,10 @@ SMALL, LARGE = 10, 13    # sizes of type
 LETTER = 0.602 * SMALL   # the width of a letter of the small type
 LINE = 13                # from line to line of a box
 LABEL = 84               # the place of the floors' names
-ASIDE, DOWN = 28, 34     # from box to box, from row to row
+ASIDE, DOWN = 28, 42     # from box to box, from row to row
 EDGE = 12                # from a floor's frame to its boxes
+HEAD = 8                 # the length of an arrow's head
+INK, LIGHT = '#444444', '#555555'
 TINTS = ['#f3f3f3', '#e9f1fa', '#eaf5ea', '#fcf1df', '#f2ebf8', '#fbebeb']
 
 
@@ -117,7 +126,7 @@ class Box:
 
 
 class Arrow:
-    """Down from a family through rows to another, or to a floor's frame; `back` points up."""
+    """Down from a family, past rows, to another or to a floor's frame. One that leans back points up."""
 
     def __init__(self, path, floor=None, back=False):
         self.path, self.floor, self.back = path, floor, back
@@ -137,13 +146,17 @@ class Drawing:
         self.place_down()
 
     def lean(self):
-        """What each family leans on. Where two lean on each other, the one whose bare crate stands lower leans back: that is kept apart, with its crates."""
+        """What each family leans on. Where two lean on each other, the one whose bare crate stands lower leans back:
+        that is kept apart, with the crates that do."""
         t = self.tables
-        under = {name: {t.family[lower] for lower in t.below[name].difference(KIT)} - {t.family[name]} for name in t.order}
+        under = {name: {t.family[lower] for lower in t.below[name].difference(KIT)} for name in t.order}
         whole = {family: set().union(*(under[name] for name in t.members(family))) for family in t.floor}
-        self.back = {(a, b): [name for name in t.members(a) if b in under[name]] for a in whole for b in whole[a] if a in whole[b] and a in t.below.get(b, ())}
+        self.back = {(lower, upper): [name for name in t.members(lower) if upper in under[name]]
+                     for lower in whole for upper in whole
+                     if upper in whole[lower] and lower in whole[upper] and lower in t.below.get(upper, ())}
         apart = set().union(*self.back.values())
-        self.leans = {family: set().union(*(under[name] for name in t.members(family) if name not in apart)) for family in t.floor}
+        self.leans = {family: set().union(*(under[name] for name in t.members(family) if name not in apart)) - {family}
+                      for family in t.floor}
 
     def on(self, floor):
         return [family for family in self.tables.floor if self.tables.floor[family] == floor]
@@ -157,10 +170,11 @@ class Drawing:
                 levels.append([family for family in here if not self.leans[family].intersection(here)])
                 here = [family for family in here if family not in levels[-1]]
             for level in reversed(levels):
-                self.rows_of[floor].append(len(self.rows))
                 for name in level:
+                    title = name if name in self.tables.family else name + '_*'
                     parts = [crate for crate in self.tables.members(name) if crate != name]
-                    self.boxes[name] = Box(len(self.rows), name, name if name in self.tables.family else name + '_*', parts)
+                    self.boxes[name] = Box(len(self.rows), name, title, parts)
+                self.rows_of[floor].append(len(self.rows))
                 self.rows.append([self.boxes[name] for name in level])
 
     def path(self, box, end):
@@ -171,25 +185,27 @@ class Drawing:
         return [box] + places
 
     def draw_arrows(self):
-        """An arrow to each family that one leans on, but for those that follow from others; one arrow to a floor in the place of many."""
+        """An arrow to each family that one leans on, but for those that follow from others. In the place of more than
+        two to a floor, if the family leans on all that stands there, one to the floor's frame."""
         self.arrows = []
         for name, leans in self.leans.items():
-            box, direct = self.boxes[name], {lower for lower in leans if not any(lower in self.leans[other] for other in leans)}
+            box = self.boxes[name]
+            direct = [lower for lower in self.leans if lower in leans and not any(lower in self.leans[other] for other in leans)]
             for floor in self.floors:
-                if len(direct.intersection(self.on(floor))) > 2 and leans.issuperset(self.on(floor)):
-                    direct.difference_update(self.on(floor))
+                there = set(self.on(floor))
+                if len(there.intersection(direct)) > 2 and leans >= there:
+                    direct = [lower for lower in direct if lower not in there]
                     self.arrows.append(Arrow(self.path(box, self.rows_of[floor][0]), floor=floor))
-            for lower in (self.boxes[lower] for lower in self.leans if lower in direct):
-                self.arrows.append(Arrow(self.path(box, lower.row) + [lower]))
+            for lower in direct:
+                self.arrows.append(Arrow(self.path(box, self.boxes[lower].row) + [self.boxes[lower]]))
         for lower, upper in self.back:
-            box = self.boxes[lower]
-            self.arrows.append(Arrow(self.path(self.boxes[upper], box.row) + [box], back=True))
+            self.arrows.append(Arrow(self.path(self.boxes[upper], self.boxes[lower].row) + [self.boxes[lower]], back=True))
 
     def steps(self):
         return [step for arrow in self.arrows for step in zip(arrow.path, arrow.path[1:])]
 
     def arrange(self):
-        """The order in each row that lets the fewest arrows cross: row after row, from each of some first orders."""
+        """The order in each row that lets the fewest arrows cross: row after row, from some first orders."""
         steps = self.steps()
 
         def crossings(*rows):
@@ -205,7 +221,8 @@ class Drawing:
         for turned in itertools.islice(itertools.product((1, -1), repeat=len(first)), 64):
             self.rows = [row[::turn] for row, turn in zip(first, turned)]
             for number in [*range(len(first)), *reversed(range(len(first)))]:
-                self.rows[number] = list(min(itertools.permutations(self.rows[number]), key=lambda row: with_row(number, row)))
+                orders = itertools.permutations(self.rows[number])
+                self.rows[number] = list(min(orders, key=lambda row: with_row(number, row)))
             found.append((crossings(), self.rows))
             if found[-1][0] == 0:
                 break
@@ -223,7 +240,7 @@ class Drawing:
             self.spread(row, [0] * len(row))
         for turn in range(80):
             for row in self.rows if turn % 2 else reversed(self.rows):
-                self.spread(row, [sum(other.x for other in near[box]) / len(near[box]) if near[box] else box.x for box in row])
+                self.spread(row, [sum(other.x for other in near[box] or [box]) / len(near[box] or [box]) for box in row])
         left = min(box.x - box.width / 2 for box in near)
         for box in near:
             box.x = round(box.x - left) + LABEL + EDGE
@@ -243,19 +260,18 @@ class Drawing:
             box.x = place + offset
 
     def place_down(self):
-        self.frames, y = {}, 8
+        self.frames, self.bands, y = {}, {}, 8
         for floor in reversed(self.floors):
-            self.frames[floor] = [y, 0]
+            self.frames[floor] = [y]
             y += EDGE
             for number in self.rows_of[floor]:
-                row = self.rows[number]
-                height = max(box.height for box in row)
-                for box in row:
-                    box.height = box.height or height
+                height = max(box.height for box in self.rows[number])
+                self.bands[number] = (y - HEAD, y + height + HEAD)
+                for box in self.rows[number]:
                     box.y = y + (height - box.height) // 2
                 y += height + DOWN
             y += EDGE - DOWN
-            self.frames[floor][1] = y
+            self.frames[floor].append(y)
             y += 18
         self.height = y
 
@@ -265,36 +281,40 @@ class Drawing:
         """Where an arrow meets a box: those of one side stand in the order of where they go."""
         if not box.name:
             return box.x
-        step = {each: each.path[1 if side is box.out else -2].x if len(each.path) > 1 else box.x for each in side}
-        order = sorted(side, key=lambda each: step[each])
+        goes = {each: each.path[1 if side is box.out else -2].x if len(each.path) > 1 else box.x for each in side}
+        order = sorted(side, key=goes.get)
         apart = min(22, (box.width - 20) / max(1, len(order) - 1))
         return round(box.x + (order.index(arrow) - (len(order) - 1) / 2) * apart)
 
     def arrow_lines(self, arrow):
-        points = [(self.end_at(arrow.path[0], arrow, arrow.path[0].out), arrow.path[0].y + arrow.path[0].height)]
-        for box in arrow.path[1:-1] if not arrow.floor else arrow.path[1:]:
-            points += [(box.x, box.y), (box.x, box.y + box.height)]
-        if arrow.floor:
-            points.append((points[-1][0], self.frames[arrow.floor][0]))
-        else:
-            points.append((self.end_at(arrow.path[-1], arrow, arrow.path[-1].into), arrow.path[-1].y))
+        """Straight beside the boxes of a row, bent between the rows."""
+        first, last = arrow.path[0], arrow.path[-1]
+        x = self.end_at(first, arrow, first.out)
+        points = [(x, first.y + first.height), (x, self.bands[first.row][1])]
+        for box in arrow.path[1:]:
+            x = self.end_at(box, arrow, box.into)
+            points += [(x, self.bands[box.row][0]), (x, self.bands[box.row][1])]
+        points[-1] = (x, self.frames[arrow.floor][0] if arrow.floor else last.y)
         tip, turn = (points[0], 1) if arrow.back else (points[-1], -1)
-        points[0 if arrow.back else -1] = (tip[0], tip[1] + 7 * turn)
+        points[0 if arrow.back else -1] = (tip[0], tip[1] + HEAD * turn)
         line = f'M{points[0][0]} {points[0][1]}'
         for (a, b), (c, d) in zip(points, points[1:]):
             line += f'V{d}' if a == c else f'C{a} {(b + d) / 2:g} {c} {(b + d) / 2:g} {c} {d}'
         dashed = ' stroke-dasharray="4 3"' if arrow.back else ''
-        yield f'<path d="{line}" fill="none" stroke="#555555"{dashed}/>'
-        yield f'<path d="M{tip[0]} {tip[1]}l-4 {8 * turn}h8z" fill="#555555"/>'
+        yield f'<path d="{line}" fill="none" stroke="{LIGHT}"{dashed}/>'
+        yield f'<path d="M{tip[0]} {tip[1]}l-4 {HEAD * turn}h8z" fill="{LIGHT}"/>'
 
     def box_lines(self, box):
         left = box.x - box.width // 2
-        yield f'<rect x="{left}" y="{box.y}" width="{box.width}" height="{box.height}" rx="4" fill="#ffffff" stroke="#444444"/>'
-        yield f'<text x="{box.x}" y="{box.y + 17}" text-anchor="middle" font-size="{LARGE}" font-weight="bold">{box.title}</text>'
+        yield (f'<rect x="{left}" y="{box.y}" width="{box.width}" height="{box.height}" rx="4" '
+               f'fill="#ffffff" stroke="{INK}"/>')
+        yield (f'<text x="{box.x}" y="{box.y + 17}" text-anchor="middle" font-size="{LARGE}" '
+               f'font-weight="bold">{box.title}</text>')
         at = left + 12
         for column in box.columns:
             for line, name in enumerate(column):
-                yield f'<text x="{at:g}" y="{box.y + 34 + LINE * line}" font-family="monospace" font-size="{SMALL}">{name}</text>'
+                y = box.y + 34 + LINE * line
+                yield f'<text x="{at}" y="{y}" font-family="monospace" font-size="{SMALL}">{name}</text>'
             at += round(max(map(len, column)) * LETTER + 12)
 
     def notes(self):
@@ -306,20 +326,22 @@ class Drawing:
             yield f'Dashed: of the family {lower} only {" and ".join(crates)} leans on {upper}.'
 
     def lines(self):
+        """docs/crates.svg."""
         notes = list(self.notes())
         width, height = self.width, self.height + 16 * len(notes)
-        yield f'<svg xmlns="http://www.w3.org/2000/svg" viewBox="0 0 {width} {height}" width="{width}" height="{height}" font-family="sans-serif" font-size="12">'
+        yield (f'<svg xmlns="http://www.w3.org/2000/svg" viewBox="0 0 {width} {height}" width="{width}" '
+               f'height="{height}" font-family="sans-serif" font-size="12">')
         yield f'<rect width="{width}" height="{height}" fill="#ffffff"/>'
         for floor, tint in zip(self.floors, itertools.cycle(TINTS)):
             top, bottom = self.frames[floor]
             yield f'<rect x="8" y="{top}" width="{width - 16}" height="{bottom - top}" rx="6" fill="{tint}"/>'
-            yield f'<text x="20" y="{(top + bottom) // 2 + 4}" fill="#444444" font-size="{LARGE}">{floor}</text>'
+            yield f'<text x="20" y="{(top + bottom) // 2 + 4}" fill="{INK}" font-size="{LARGE}">{floor}</text>'
         for arrow in self.arrows:
             yield from self.arrow_lines(arrow)
         for box in self.boxes.values():
             yield from self.box_lines(box)
         for number, note in enumerate(notes):
-            yield f'<text x="12" y="{self.height + 8 + 16 * number}" fill="#444444" font-size="11">{note}</text>'
+            yield f'<text x="12" y="{self.height + 8 + 16 * number}" fill="{INK}" font-size="11">{note}</text>'
         yield '</svg>'
 
 
@@ -329,8 +351,9 @@ def main():
     faults = list(tables.faults()) or tables.settle()
     if faults:
         sys.exit('\n'.join(f'{PAGE}: {fault}' for fault in faults))
-    open('crates.txt', 'w').write(tables.listing())
-    open('docs/crates.svg', 'w').write('\n'.join(Drawing(tables).lines()) + '\n')
+    drawing = Drawing(tables)
+    for file, lines in ('crates.txt', tables.listing()), ('docs/crates.svg', drawing.lines()):
+        open(file, 'w').write('\n'.join(lines) + '\n')
 
 
 main()

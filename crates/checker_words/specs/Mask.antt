@@ -104,7 +104,7 @@ module _ (set w : ℕ) (plain : PlainSet set) (word : w < 2 ^ 64) where
       let top = shr-mod {n = bitAnd w set} 63 1 (omega arith) in
       sym (and-assoc w set (2 ^ 64 - 2)) ∙ and-high (bitAnd w set) 63 1 ∙ (omega arith)
 
-  -- .. the levels below it allow addresses from the size on ..
+  -- levels 1 and 2 allow addresses from their entry's size on
   and-sizes : (level : ℕ) → bitAnd w (set + (2 ^ 48 - sizeAt level)) ≡ bitAnd (plainFlags w) set + down (addressOf w) (sizeAt level)
   unfolding addressOf
   and-sizes level =
@@ -112,7 +112,7 @@ module _ (set w : ℕ) (plain : PlainSet set) (word : w < 2 ^ 64) where
       and-add w set (2 ^ 48 - sizeAt level) (mask-sizes set level ∙ (omega arith))
       ∙ ap₂ (λ (x y : ℕ). x + y) flags-in-set (mask-sizes w level)
 
-  -- .. and level 3 every address, and bit 1
+  -- level 3 allows every address, and bit 1
   and-allowed-3 : bitAnd w (allowedAt set 3) ≡ bitAnd (plainFlags w) set + addressOf w + w / 2 % 2 * 2
   unfolding allowedAt addressOf sizeAt down
   and-allowed-3 =

@@ -73,7 +73,7 @@ fn count_at(level: usize, map: Map) -> u64
     1
 }
 
-// .. of this level and of those below.
+// The entries of this level and of those below that are split in a region that begins with one, where rule 2 fits nothing.
 pub fn count_rest(level: usize, map: Map) -> u64
     requires { ⌜ map .region .end .0 - map .region .start .0 ≤ 2 ^ 48 ⌝ }
     ensures { λ r. ⌜ r ≡ rests (3 - level) map ⌝ }

@@ -44,7 +44,8 @@ unfoldable pub restAt : ℕ → Map → ℕ
 restAt level m =
     cond (m .blocks && eqb (firstFrame m % sizeAt level) 0) (lastPart level (startOf m) (endOf m)) (met level (startOf m) (endOf m))
 
--- .. of all levels from the one with `depth` levels below on
+-- the entries that are split, where rule 2 fits nothing, in a region that begins with one: of the level with `depth` levels below
+-- its tables, and of all lower ones
 unfoldable pub rests : ℕ → Map → ℕ
 rests zero m = 0
 rests (suc depth) m = restAt (3 - suc depth) m + rests depth m

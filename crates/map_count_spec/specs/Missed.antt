@@ -69,7 +69,7 @@ pub record Blocks (level : ℕ) (m : Map) : Type 0 where
   pub frame : firstFrame m % sizeAt level ≡ 0
   pub ends : endOf m % sizeAt level ≡ 0
 
--- .. and what bars it
+-- what bars a block
 abbrev pub Barred : ℕ → Map → Type 0
 Barred level m = (m .blocks ≡ false) ⊎ ((firstFrame m % sizeAt level ≡ 0 → ⊥) ⊎ (endOf m % sizeAt level ≡ 0 → ⊥))
 

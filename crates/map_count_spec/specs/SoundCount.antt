@@ -113,7 +113,7 @@ module _ (h : Handle) (s : St) (shape : Shaped h s) (sound : T (soundb h s)) whe
             parent = eqb→eq (parentOf z) k (and-l p d (and-r n (p && d) t₁));
           })
 
-  -- .. and that table is in use, one level down
+  -- a table that a link names is in use, one level down
   named-used : (k level j : ℕ) → UsedAt s k level → j < tables s → Named k j → T (tableb h s j) → UsedAt s j (level + 1)
   unfolding tableb rootNumber hangsb
   named-used k level zero u l n t =

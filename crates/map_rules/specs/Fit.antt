@@ -28,7 +28,7 @@ pub word-fits : (frame f : ℕ) → frame % 4096 ≡ 0 → frame < 2 ^ 48 → Pl
 unfolding flagsOf
 word-fits frame f p h q = omega (arith, q .wide, q .bits, q .clear)
 
--- and so do the words of a split, in steps that stay below 2^48
+-- the words of a split fit 64 bits too, in steps that stay below 2^48
 pub steps-fit : (frame f step : ℕ) → frame % 4096 ≡ 0 → frame + 512 * step ≤ 2 ^ 48 → 4096 ≤ step → Plain f
     → frame + f + 2 + 511 * step < 2 ^ 64
 unfolding flagsOf

@@ -9,15 +9,15 @@ use lib.Seq.{drop-cons}
 use Rattle.pool.specs.declared.Found.{Found}
 use Rattle.pool.specs.declared.Found.the-variants.{At, Nothing}
 
--- 0 is free, the root holds 4 + level ..
+-- a ledger number: 0 is free, the root holds 4 + level
 unfoldable pub rootNumber : ℕ → ℕ
 rootNumber level = 4 + level
 
--- .. any other table 4 + level + 8·(512·p + i + 1), where slot i of table p refers to it
+-- a ledger number: a table that is not the root holds 4 + level + 8·(512·p + i + 1), where slot i of table p refers to it
 unfoldable pub numberOf : ℕ → ℕ → ℕ → ℕ
 numberOf p level i = 4 + level + 8 * (512 * p + i + 1)
 
--- and read back: the level, the table and the slot that the number names
+-- a ledger number read back: the level, the table and the slot that the number names
 abbrev pub levelOf : ℕ → ℕ
 levelOf x = x % 4
 

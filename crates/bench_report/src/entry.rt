@@ -222,7 +222,11 @@ pub fn say_looked(answer: &[u64; ANSWER_VALUES]) {
   accepted, at level $: page, frame #, flags
   accepted, at level $: table, frame #, flags
 ";
-    say_form(forms, answer[ANSWER_KIND], &[answer[ANSWER_LEVEL], answer[ANSWER_FRAME], 0, 0]);
+    say_form(
+        forms,
+        answer[ANSWER_KIND],
+        &[answer[ANSWER_LEVEL], answer[ANSWER_FRAME], 0, 0],
+    );
     say_flags(answer[ANSWER_FLAGS]);
     say(b"\n");
 }

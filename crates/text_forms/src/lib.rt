@@ -48,11 +48,13 @@ pub fn say_hex(value: u64, width: usize) {
 
 // A value, as its mark says.
 fn say_value(mark: u8, value: u64) {
-    if mark == b'$' {
-        io::print_decimal(STDOUT_FILENO, value);
-        return;
+    match mark {
+        b'$' => {
+            io::print_decimal(STDOUT_FILENO, value);
+        }
+        b'#' => say_hex(value, NO_PADDING),
+        _ => say_hex(value, ADDRESS_WIDTH),
     }
-    say_hex(value, if mark == b'#' { NO_PADDING } else { ADDRESS_WIDTH });
 }
 
 // A byte of a form, or for a mark the next value. Which value is next after it.

@@ -32,7 +32,13 @@ fn takes(usage: &[u8], command: u64, count: usize) -> bool {
 }
 
 // A command with its values.
-fn valued(text: &[u8], name: Word, end: usize, usage: &[u8], values: &mut [u64; MOST_VALUES]) -> Ask {
+fn valued(
+    text: &[u8],
+    name: Word,
+    end: usize,
+    usage: &[u8],
+    values: &mut [u64; MOST_VALUES],
+) -> Ask {
     let command = place_of(text, name, usage);
     if command == NOWHERE {
         return Ask {

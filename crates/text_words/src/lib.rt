@@ -200,7 +200,10 @@ fn append_decimal(value: u64, digit: u64) -> Number {
 // A number with one more digit, or an underscore.
 fn append(value: u64, byte: u8, hex: bool) -> Number {
     if byte == b'_' {
-        return Number { why: why::UNDERSTOOD, value };
+        return Number {
+            why: why::UNDERSTOOD,
+            value,
+        };
     }
     let digit = digit_of(byte);
     if hex {
@@ -211,7 +214,10 @@ fn append(value: u64, byte: u8, hex: bool) -> Number {
 
 // The number that some digits say.
 fn digits(text: &[u8], start: usize, end: usize, hex: bool) -> Number {
-    let mut number = Number { why: why::UNDERSTOOD, value: 0 };
+    let mut number = Number {
+        why: why::UNDERSTOOD,
+        value: 0,
+    };
     let mut place = start;
     while place < end {
         number = append(number.value, byte_at(text, place), hex);

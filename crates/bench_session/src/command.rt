@@ -11,11 +11,11 @@ use bench_view::MOST_TABLES;
 use text_access::face::ACCEPTED;
 use text_words::MOST_VALUES;
 
-// In place of a number of tables: there is no pool.
-pub const NO_POOL: u64 = 10;
-
 // In place of a number of tables: make asks for more than there is room for.
 pub const TOO_MANY: u64 = 9;
+
+// In place of a number of tables: there is no pool.
+pub const NO_POOL: u64 = 10;
 
 // The commands that are no calls: words, ledger and put; any other is enter.
 pub fn by_hand(command: u64, count: usize, words: &mut [u64], ledger: &mut [u32], args: Args) {

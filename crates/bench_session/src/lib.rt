@@ -8,8 +8,6 @@ mod expected;
 mod say;
 mod state;
 
-pub use command::NO_POOL;
-pub use command::TOO_MANY;
 pub use command::after;
 pub use command::args_of;
 pub use command::by_hand;

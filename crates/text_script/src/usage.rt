@@ -19,16 +19,19 @@ pub struct Ask {
     pub count: usize,
 }
 
-// Whether a command takes so many values.
-fn takes(usage: &[u8], command: u64, count: usize) -> bool {
+// Whether a command takes so many values: UNDERSTOOD or WRONG_COUNT.
+fn takes(usage: &[u8], command: u64, count: usize) -> u64 {
     if MOST_VALUES < count {
-        return false;
+        return why::WRONG_COUNT;
     }
     let line = line_of(usage, command);
     if count + 1 < count_words(usage, line, b'[') {
-        return false;
+        return why::WRONG_COUNT;
     }
-    count < count_words(usage, line, b'#')
+    if count_words(usage, line, b'#') <= count {
+        return why::WRONG_COUNT;
+    }
+    why::UNDERSTOOD
 }
 
 // A command with its values.
@@ -59,16 +62,8 @@ fn valued(
             count,
         };
     }
-    if takes(usage, command, count) {
-        return Ask {
-            why: why::UNDERSTOOD,
-            word: name,
-            command,
-            count,
-        };
-    }
     Ask {
-        why: why::WRONG_COUNT,
+        why: takes(usage, command, count),
         word: name,
         command,
         count,

@@ -17,7 +17,7 @@ pub const MOST_VALUES: usize = 6;
 pub const NOWHERE: u64 = 64;
 
 // The base of a decimal number.
-const DECIMAL: u64 = 10;
+pub const DECIMAL: u64 = 10;
 
 // The base of a hexadecimal number.
 pub const HEXADECIMAL: u64 = 16;

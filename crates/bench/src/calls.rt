@@ -30,7 +30,7 @@ const PAGE_NUMBER_COUNT: usize = 1;
 // Where the answer of list has the count of its lines.
 const LINE_COUNT: usize = 0;
 
-// `make TABLES BASE LEVEL RANGE`, on as many tables.
+// `make TABLES BASE LEVEL RANGE`: a pool of as many tables.
 fn make(words: &mut [u64], ledger: &mut [u32], handle: Handle) -> Answer {
     let mut answer = [0u64; ANSWER_VALUES];
     let refusal = ptb::ptb_make(
@@ -45,7 +45,7 @@ fn make(words: &mut [u64], ledger: &mut [u32], handle: Handle) -> Answer {
     answered(refusal, &answer)
 }
 
-// `check`
+// `check`: whether the pool is sound.
 fn check(words: &[u64], ledger: &[u32], handle: Handle) -> Answer {
     let mut answer = [0u64; ANSWER_VALUES];
     let refusal = ptb::ptb_check(
@@ -80,7 +80,7 @@ fn map(words: &mut [u64], ledger: &mut [u32], handle: Handle, args: Args) -> Ans
     answered(refusal, &answer)
 }
 
-// `compact`
+// `compact`: the tables that hold nothing are freed.
 fn compact(words: &mut [u64], ledger: &mut [u32], handle: Handle) -> Answer {
     let mut answer = [0u64; ANSWER_VALUES];
     let refusal = ptb::ptb_compact(
@@ -121,7 +121,7 @@ fn modify(words: &mut [u64], ledger: &mut [u32], handle: Handle, args: Args, liv
     answered(refusal, &answer)
 }
 
-// `look ADDRESS`
+// `look ADDRESS`: the entry at which a walk ends.
 fn look(words: &[u64], ledger: &[u32], handle: Handle, address: u64) -> Answer {
     let mut answer = [0u64; ANSWER_VALUES];
     let refusal = ptb::ptb_look_up(
@@ -141,7 +141,7 @@ fn look(words: &[u64], ledger: &[u32], handle: Handle, address: u64) -> Answer {
     answered(refusal, &answer)
 }
 
-// `list START END`
+// `list START END`: the entries of a region.
 fn list(words: &[u64], ledger: &[u32], handle: Handle, args: Args) -> Answer {
     let mut answer = [0u64; ANSWER_VALUES];
     let mut lines = [0u64; LIST_NUMBERS];
@@ -163,7 +163,7 @@ fn list(words: &[u64], ledger: &[u32], handle: Handle, args: Args) -> Answer {
     answered(refusal, &answer)
 }
 
-// `image TABLE`
+// `image TABLE`: a table as the bytes of a page.
 fn image(words: &[u64], ledger: &[u32], handle: Handle, table: u64) -> Answer {
     let mut answer = [0u64; ANSWER_VALUES];
     let mut page = [0u8; PAGE_BYTES];

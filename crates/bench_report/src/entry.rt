@@ -39,10 +39,10 @@ const LOW_TABLE_OR_PAGE: u64 = 3;
 // The two low bits of a block.
 const LOW_BLOCK: u64 = 1;
 
-// The highest level that has blocks.
+// The first level that has blocks.
 const FIRST_BLOCK_LEVEL: u64 = 1;
 
-// The lowest level that has blocks.
+// The last level that has blocks.
 const LAST_BLOCK_LEVEL: u64 = 2;
 
 // The level at which every entry is a page or a hole.
@@ -81,7 +81,7 @@ const SHAREABILITIES: u64 = 4;
 // The first name of the shareability, after those of the bits and of the attribute index.
 const SHAREABILITY_NAMES: u64 = NAMED_BITS + ATTRIBUTE_INDEXES;
 
-// A name that is empty: that of a bit that is not set.
+// The number of a name that is empty, for a bit that is not set.
 const NO_NAME: u64 = 2;
 
 // Which name stands for a bit, where `rest` is the flags from that bit on: its own, or that of the field that begins there.
@@ -93,7 +93,7 @@ fn name_of(bit: u64, rest: u64) -> u64 {
     }
 }
 
-// The name of a bit, a line for each; those of a field have an empty line.
+// The name of a bit: a line for each, empty for the bits of a field.
 fn say_bit(line: u64) {
     let names = b" VALID
  TABLE_OR_PAGE

@@ -1,7 +1,7 @@
 // The commands: each has the number of its row in the usage table (`main` of bench), counted from 0. Those below CHECK are no
 // calls, those from CHECK on only read the pool, those from MAKE on write it.
 
-// What the call before must have answered.
+// Compares what the last call answered with what the line says.
 pub const EXPECT: u64 = 0;
 
 // Shows words of a table, or how many of the pool are not zero.

@@ -5,6 +5,7 @@ use text_script::LINE_BYTES;
 use text_words::DECIMAL;
 use text_words::HEXADECIMAL;
 use text_words::HEXADECIMAL_FULL;
+use text_words::NO_DIGIT;
 
 // What stands in an answer and in a list before a call.
 pub const UNWRITTEN: u64 = 0x5555_5555_5555_5555;
@@ -29,9 +30,6 @@ pub const PLACES: usize = 13;
 
 // In place of the place that a line reaches: it is no line of the list.
 const NO_LINE: usize = 14;
-
-// The value of a byte that is no digit: no digit has it.
-const NO_DIGIT: u64 = 16;
 
 // The value of a digit; NO_DIGIT for any other byte.
 fn digit_of(byte: u8) -> u64 {
@@ -84,7 +82,7 @@ fn step(numbers: &mut [u64; PLACES], count: usize, asked: usize, byte: u8) -> us
     }
 }
 
-// The place that a line reaches: PLACES, or it is no line of the list. Its numbers go over zeroes.
+// The place that a line reaches after its letter: PLACES, or it is no line of the list. Its numbers go over zeroes.
 pub fn numbers_of(
     text: &[u8; LINE_BYTES],
     length: usize,

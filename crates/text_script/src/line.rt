@@ -4,6 +4,9 @@ use libc::STDIN_FILENO;
 // The bytes of a line that are kept.
 pub const LINE_BYTES: usize = 256;
 
+// The bytes after which a line is taken as ended, whatever follows.
+const LONGEST: usize = 0x1_0000_0000;
+
 // The lines after which a program takes its input as ended, whatever follows.
 pub const MOST_LINES: u64 = 0xFFFF_FFFF;
 
@@ -12,9 +15,6 @@ pub enum Line {
     Length(usize),
     End,
 }
-
-// The bytes after which a line is taken as ended, whatever follows.
-const LONGEST: usize = 0x1_0000_0000;
 
 // The next line, without its end; a carriage return is passed over.
 pub fn read_line(text: &mut [u8; LINE_BYTES]) -> Line {

@@ -29,12 +29,12 @@ pub const HEXADECIMAL_FULL: u64 = 0x1000_0000_0000_0000;
 const LARGEST: u64 = 0xFFFF_FFFF_FFFF_FFFF;
 
 // The value of a byte that is no digit: no digit of any base has it.
-const NO_DIGIT: u64 = 16;
+pub const NO_DIGIT: u64 = HEXADECIMAL;
 
 // The bytes of 0x, with which a hexadecimal number begins.
 const PREFIX: usize = 2;
 
-// Whether a byte ends a run of blanks, or a word: a blank does, or the # of a comment.
+// Whether a byte ends what is passed over: blanks, which any byte but a blank ends, or a word, which a blank or a # ends.
 fn ends(byte: u8, blanks: bool) -> bool {
     if byte <= b' ' {
         return !blanks;
@@ -45,7 +45,7 @@ fn ends(byte: u8, blanks: bool) -> bool {
     blanks
 }
 
-// The first place from `at` on, below `end`, where blanks end, or a word does.
+// The first place from `at` on, below `end`, where blanks end, or a word does; `end` if there is none.
 fn skip(text: &[u8], at: usize, end: usize, blanks: bool) -> usize {
     let mut place = at;
     while place < end {
@@ -108,7 +108,7 @@ pub fn line_of(text: &[u8], number: u64) -> Word {
     Word { start, end: start }
 }
 
-// Which line of the names begins with a word, counted from 0.
+// Which line of the names begins with a word, counted from 0; NOWHERE if none does.
 pub fn place_of(text: &[u8], word: Word, names: &[u8]) -> u64 {
     let mut place = 0;
     while place < NOWHERE {

@@ -17,7 +17,7 @@ use Rattle.region.specs.Chunks.{met, chunksIn, chunks}
 use Rattle.pool.specs.Number.{rootNumber, numberOf, firstFrom, lowestFree, used, free}
 use Rattle.pool.specs.State.{St, st}
 use Rattle.pool_table.specs.Table.{putTable, zeros, clear, rising, takeAt, takeFound, takeTable, freeSub, freeSlot, freeTree}
-use Rattle.pool.specs.Refuse.{maxTables, shaped, out}
+use Rattle.pool.specs.Refuse.{maxTables, shaped, out, firstRefused}
 use Rattle.make.specs.Call.{makeCall, fresh as freshly}
 use Rattle.pool.specs.Sound.{flagSet, fits, leafb, namesb, hangsb, tableb, linkb, refersb, slotb, soundb}
 use Rattle.pool.specs.declared.Handle.{Handle}
@@ -31,8 +31,8 @@ use Rattle.map_rules.specs.Rules.{tableWord, rule2, blockable, rule3, rule4, ru
 use Rattle.map_split.specs.Split.{splitEntry, belowOf, below, inFound, into}
 use Rattle.map_put.specs.Put.{dropEntry, byRule, mapChunk, eachOf, eachChunk, mapRange}
 use Rattle.map_count_spec.specs.Needed.{ifDown, sumOf, sumChunks, childWord, neededLeaf, needBelow, needChunk, needTable, needed}
-use Rattle.map_verify.specs.Ask.{askedMap, frameAsked, first, verifyMap}
-use Rattle.map_spec.specs.Call.{putDown, mapSound, orElse, mapCall}
+use Rattle.map_verify.specs.Ask.{askedMap, frameAsked, verifyMap}
+use Rattle.map_spec.specs.Call.{putDown, mapSound, mapCall}
 
 unfoldable pub handle : ℕ → Handle
 handle level = record { base = record { 0 = 0x8000_0000 }; level = level; range = Lower }
@@ -199,6 +199,6 @@ unfolding sizeAt down up iter putPart allBelow allFrom alignUp addressOf flagsOf
     blockable rule3 rule4 ruleOf fillOf
     splitEntry belowOf below inFound into dropEntry byRule mapChunk eachOf eachChunk mapRange ifDown sumOf sumChunks childWord neededLeaf
     needBelow needChunk needTable needed
-    askedMap frameAsked first verifyMap putDown mapSound orElse mapCall handle freshRow word table RowHolds poolA poolAA poolB poolD poolG A
+    askedMap frameAsked firstRefused verifyMap putDown mapSound mapCall handle freshRow word table RowHolds poolA poolAA poolB poolD poolG A
     AA B CD G
 quick = (refl, refl, refl, refl, refl, refl, refl, refl, refl)

@@ -15,7 +15,7 @@ use Rattle.region.specs.Chunks.{met, chunksIn, chunks}
 use Rattle.pool.specs.Number.{rootNumber, numberOf, firstFrom, lowestFree, used, free}
 use Rattle.pool.specs.State.{St}
 use Rattle.pool_table.specs.Table.{putTable, zeros, rising, takeAt, takeFound, takeTable}
-use Rattle.pool.specs.Refuse.{maxTables, shaped}
+use Rattle.pool.specs.Refuse.{maxTables, shaped, firstRefused}
 use Rattle.pool.specs.Sound.{flagSet, fits, leafb, namesb, hangsb, tableb, linkb, refersb, slotb, soundb}
 use Rattle.pool.specs.declared.Refusal.the-variants.{HouseRule}
 use Rattle.region_verify.specs.Verify.{endFits, span, inRange, verify}
@@ -28,8 +28,8 @@ use Rattle.modify_range.specs.Range.{own, onward, downChunk, ownWork, modifyRan
 use Rattle.modify_survey.specs.House.{houseRule, mayChange}
 use Rattle.modify_survey.specs.Find.{adding, splitsIn, breach, ifBlock, surveyPart, surveyWhole, surveyEntry, surveySub, surveyChunk}
 use Rattle.modify_survey.specs.Find.{surveyRange}
-use Rattle.modify_verify.specs.Permit.{askedEdit, settable, verifyBits, thenRegion, verifyEdit, verifySurvey}
-use Rattle.modify.specs.Call.{modifying, answerOf, editTables, orElse, modifySound, modifyCall}
+use Rattle.modify_verify.specs.Permit.{askedEdit, settable, verifyBits, verifyEdit, verifySurvey}
+use Rattle.modify.specs.Call.{modifying, answerOf, editTables, modifySound, modifyCall}
 use Rattle.modify.specs.declared.Modified.{Modified}
 use Rattle.modify.specs.declared.Modified.the-variants.{Tables, Live, Refused}
 use Rattle.theory_case_rows.specs.Bench.{handle, freshRow, word, table, poolA, poolF}
@@ -59,6 +59,6 @@ unfolding sizeAt down up putPart allBelow allFrom alignUp addressOf flagsOf kind
     ofKind editWord eachOf eachChunk
     putNumber ownChunk ownRange own onward downChunk ownWork modifyRange houseRule mayChange adding splitsIn breach ifBlock surveyPart
     surveyWhole surveyEntry surveySub
-    surveyChunk surveyRange askedEdit settable verifyBits thenRegion verifyEdit verifySurvey answerOf editTables orElse modifySound
+    surveyChunk surveyRange askedEdit settable verifyBits firstRefused verifyEdit verifySurvey answerOf editTables modifySound
     modifyCall handle freshRow word table poolA poolF Sets
 case-I = (refl, refl, refl)

@@ -13,12 +13,12 @@ use Rattle.region.specs.Region.{rounded}
 use Rattle.region.specs.Chunks.{met, chunksIn, chunks}
 use Rattle.pool.specs.Number.{rootNumber}
 use Rattle.pool_table.specs.Table.{putTable, zeros}
-use Rattle.pool.specs.Refuse.{maxTables, shaped}
+use Rattle.pool.specs.Refuse.{maxTables, shaped, firstRefused}
 use Rattle.pool.specs.Sound.{flagSet, fits, leafb, namesb, hangsb, tableb, linkb, refersb, slotb, soundb}
 use Rattle.region_verify.specs.Verify.{endFits, span, inRange, verify}
 use Rattle.arm.specs.Arm.{bits, lowBit, index, fetch}
 use Rattle.list_lines.specs.Lines.{numbers, each, subLines, chunkLines, linesAt, linesFrom, linesOf}
-use Rattle.list.specs.Call.{verifyEnds, listing, put, listLines, listSound, listVerified, listCall}
+use Rattle.list.specs.Call.{verifyEnds, listing, put, listLines, listSound, listCall}
 use Rattle.list.specs.declared.Listed.the-variants.{Lines}
 use Rattle.theory_case_rows.specs.Bench.{handle, freshRow, word, table, poolB}
 
@@ -33,6 +33,6 @@ unfolding sizeAt down up putPart allBelow allFrom alignUp addressOf kindOf linkO
     chunkEnd met chunksIn chunks rootNumber
     putTable zeros maxTables shaped flagSet plainFlags fits leafb namesb hangsb tableb linkb refersb slotb soundb endFits span inRange
     verify bits lowBit index fetch numbers
-    each subLines chunkLines linesAt linesFrom verifyEnds put listLines linesOf listSound listVerified listCall handle freshRow word table
+    each subLines chunkLines linesAt linesFrom verifyEnds put listLines linesOf listSound firstRefused listCall handle freshRow word table
     poolB
 case-J = refl

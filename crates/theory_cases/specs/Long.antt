@@ -12,15 +12,15 @@ use Rattle.region.specs.Region.{rounded, whole}
 use Rattle.region.specs.Chunks.{met, chunksIn, chunks}
 use Rattle.pool.specs.Number.{rootNumber, numberOf, firstFrom, lowestFree, used, free}
 use Rattle.pool_table.specs.Table.{putTable, zeros, clear, rising, takeAt, takeFound, takeTable, freeSub, freeSlot, freeTree}
-use Rattle.pool.specs.Refuse.{maxTables, shaped}
+use Rattle.pool.specs.Refuse.{maxTables, shaped, firstRefused}
 use Rattle.pool.specs.Sound.{flagSet, fits, leafb, namesb, hangsb, tableb, linkb, refersb, slotb, soundb}
 use Rattle.region_verify.specs.Verify.{endFits, span, inRange, verify}
 use Rattle.map_rules.specs.Rules.{tableWord, rule2, blockable, rule3, rule4, ruleOf, fillOf}
 use Rattle.map_split.specs.Split.{splitEntry, belowOf, below, inFound, into}
 use Rattle.map_put.specs.Put.{dropEntry, byRule, mapChunk, eachOf, eachChunk, mapRange}
 use Rattle.map_count_spec.specs.Needed.{ifDown, sumOf, sumChunks, childWord, neededLeaf, needBelow, needChunk, needTable, needed}
-use Rattle.map_verify.specs.Ask.{askedMap, frameAsked, first, verifyMap}
-use Rattle.map_spec.specs.Call.{putDown, mapSound, orElse, mapCall}
+use Rattle.map_verify.specs.Ask.{askedMap, frameAsked, verifyMap}
+use Rattle.map_spec.specs.Call.{putDown, mapSound, mapCall}
 use Rattle.theory_case_rows.specs.Bench.{handle, freshRow, word, table, RowHolds, poolB, poolF, poolH, EF, H}
 
 -- E, F: the whole GiB after B, without VALID and with A's map; H
@@ -36,5 +36,5 @@ unfolding sizeAt down up iter putPart allBelow allFrom alignUp addressOf flagsOf
     blockable rule3 rule4 ruleOf fillOf
     splitEntry belowOf below inFound into dropEntry byRule mapChunk eachOf eachChunk mapRange ifDown sumOf sumChunks childWord neededLeaf
     needBelow needChunk needTable needed
-    askedMap frameAsked first verifyMap putDown mapSound orElse mapCall handle freshRow word table RowHolds poolB poolF poolH EF H
+    askedMap frameAsked firstRefused verifyMap putDown mapSound mapCall handle freshRow word table RowHolds poolB poolF poolH EF H
 long = (refl, refl, refl)

@@ -18,7 +18,7 @@ use Rattle.pool.specs.Sound.{flagSet}
 use Rattle.pool.specs.declared.Handle.{Handle}
 use Rattle.pool.specs.declared.VaRange.{VaRange}
 use Rattle.pool.specs.declared.VaRange.the-variants.{Lower, Upper}
-use Rattle.pool.specs.Refuse.{number}
+use Rattle.pool.specs.Refuse.{number, firstRefused}
 use Rattle.pool.specs.declared.Refusal.{Refusal}
 use Rattle.pool.specs.declared.Refusal.the-variants.{End, InvalidFlags, FlagSet, RegionBackwards, AddressRange, Frame}
 use Rattle.pool.specs.declared.Outcome.{Outcome}
@@ -27,7 +27,7 @@ use Rattle.region_verify.specs.Verify.{endFits, span as wide, inRange, verify, 
 use Rattle.region_verify.specs.Verify.{verified-forwards}
 use Rattle.map_rules.specs.declared.Map.{Map}
 use Rattle.map_rules.specs.Fit.{Fit}
-use Rattle.map_verify.specs.Ask.{askedMap, frameAsked, first as firstOf, verifyMap, passes, only-plain, asked-fit, up-pages}
+use Rattle.map_verify.specs.Ask.{askedMap, frameAsked, verifyMap, passes, only-plain, asked-fit, up-pages}
 use Rattle.theory_tree.specs.Page.{pagesIn, span-size, span-suc, first, in-from}
 use Rattle.theory_tree.specs.Root.{upperRoot, upper-span}
 use Rattle.theory_tree.specs.Chunks.{Inside}
@@ -134,8 +134,8 @@ pub cond-early : (b : Bool) (x y : Outcome) → Early x → Early y → Early (c
 cond-early true x y a e = a
 cond-early false x y a e = e
 
-first-early : (x y : Outcome) → Early x → Early y → Early (firstOf x y)
-unfolding firstOf
+pub first-early : (x y : Outcome) → Early x → Early y → Early (firstRefused Refused x y)
+unfolding firstRefused
 first-early Accepted y a e = e
 first-early (Refused r) y a e = a
 
@@ -164,7 +164,7 @@ frame-early frame length =
 pub asked-early : (h : Handle) (end : ℕ) (m : Map) → Early (verifyMap h end m)
 unfolding verifyMap
 asked-early h end m =
-    let last : Outcome = firstOf (verify h (m .region)) (frameAsked (m .frame .0) (m .region .end .0 - m .region .start .0)) in
+    let last : Outcome = firstRefused Refused (verify h (m .region)) (frameAsked (m .frame .0) (m .region .end .0 - m .region .start .0)) in
     let flags : Outcome = cond (only (flagSet h) (m .flags)) last (Refused (FlagSet (m .flags))) in
     cond-early (endFits end) (cond (eqb (m .flags / 2 % 2) 1) (Refused (InvalidFlags (m .flags))) flags) (Refused (End end))
     (cond-early (eqb (m .flags / 2 % 2) 1) (Refused (InvalidFlags (m .flags))) flags (lit< tt)

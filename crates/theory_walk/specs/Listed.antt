@@ -13,7 +13,7 @@ use Rattle.laws.specs.Test.{byBool}
 use Rattle.region.specs.Region.{rounded}
 use Rattle.region.specs.declared.MemoryRegion.{MemoryRegion}
 use Rattle.pool.specs.State.{St, tables}
-use Rattle.pool.specs.Refuse.{shaped, Shaped, shaped-says}
+use Rattle.pool.specs.Refuse.{shaped, Shaped, shaped-says, firstRefused}
 use Rattle.pool.specs.Sound.{soundb}
 use Rattle.pool.specs.declared.Handle.{Handle}
 use Rattle.pool.specs.declared.VaRange.{VaRange}
@@ -28,7 +28,7 @@ use Rattle.arm.specs.Walk.{size-is}
 use Rattle.look_up.specs.Call.{answer, spanned, lookUpCall}
 use Rattle.list_lines.specs.Lines.{Line, linesOf}
 use Rattle.list_lines.specs.Cover.{Covers, covers-map, Meets, list-covers, nthLine, inside, ascending, holds, InLine, covered}
-use Rattle.list.specs.Call.{verifyEnds, listing, put, listLines, listSound, listVerified, listCall, ends-verified}
+use Rattle.list.specs.Call.{verifyEnds, listing, put, listLines, listSound, listCall, ends-verified}
 use Rattle.list.specs.declared.Listed.{Listed}
 use Rattle.list.specs.declared.Listed.the-variants.{Lines, Refused as refused}
 use Rattle.theory_walk.specs.Walked.{never-away}
@@ -49,7 +49,7 @@ never {r} {count = count} e =
 
 module _ {h : Handle} {s : St} {start end : ℕ} {list : List ℕ} {count : ℕ} {after : List ℕ} where
   pub list-accepted : listCall h s start end list ≡ listing (Lines count) after → Accepts h s start end list count after
-  unfolding listCall listVerified listSound listLines
+  unfolding listCall firstRefused listSound listLines
   list-accepted e =
       byBool (shaped h s) (λ shape. verified shape (verifyEnds h start end) refl (rw shape at e)) (λ shape. absurd (never (rw shape at e)))
     where
@@ -66,7 +66,8 @@ module _ {h : Handle} {s : St} {start end : ℕ} {list : List ℕ} {count : ℕ}
           (λ room. absurd (never (rw room at q)))
 
       verified : shaped h s ≡ true → (x : Outcome) → verifyEnds h start end ≡ x
-          → listVerified h s (rounded start end) list x ≡ listing (Lines count) after → Accepts h s start end list count after
+          → firstRefused (λ r. listing (refused r) list) x (listSound h s (rounded start end) list) ≡ listing (Lines count) after
+          → Accepts h s start end list count after
       verified shape (Refused r) region q = absurd (never q)
       verified shape Accepted region q =
           byBool (soundb h s) (λ sound. written shape region sound (rw sound at q)) (λ sound. absurd (never (rw sound at q)))

@@ -11,6 +11,7 @@ use Rattle.address_slot.specs.Slot.{entryIndex, chunkEnd}
 use Rattle.region.specs.Region.{region}
 use Rattle.region.specs.Chunks.{chunks-step, chunks-none}
 use Rattle.pool.specs.State.{St, wordAt, storeAt}
+use Rattle.pool.specs.Number.{inFound}
 use Rattle.pool_table.specs.Table.{Taken, taken}
 use Rattle.pool.specs.declared.Handle.{Handle}
 use Rattle.pool.specs.declared.Found.{Found}
@@ -19,7 +20,7 @@ use Rattle.map_rules.specs.declared.Map.{Map}
 use Rattle.map_rules.specs.declared.Rule.{Rule}
 use Rattle.map_rules.specs.declared.Rule.the-variants.{Write, Keep, Drop, Down}
 use Rattle.map_rules.specs.Rules.{ruleOf, chunkMap}
-use Rattle.map_split.specs.Split.{below, inFound, into}
+use Rattle.map_split.specs.Split.{below, into}
 use Rattle.map_put.specs.Put.{dropEntry, byRule, mapChunk, eachOf, eachChunk, mapRange}
 use Rattle.map_put.specs.Laws.{put-here}
 

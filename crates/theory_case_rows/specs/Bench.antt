@@ -14,7 +14,7 @@ use Rattle.entry.specs.Sub.{inPool, leads, subOf}
 use Rattle.address_slot.specs.Slot.{entryLast, entryIndex, chunkEnd}
 use Rattle.region.specs.Region.{rounded, whole}
 use Rattle.region.specs.Chunks.{met, chunksIn, chunks}
-use Rattle.pool.specs.Number.{rootNumber, numberOf, firstFrom, lowestFree, used, free}
+use Rattle.pool.specs.Number.{rootNumber, numberOf, firstFrom, lowestFree, inFound, used, free}
 use Rattle.pool.specs.State.{St, st}
 use Rattle.pool_table.specs.Table.{putTable, zeros, clear, rising, takeAt, takeFound, takeTable, freeSub, freeSlot, freeTree}
 use Rattle.pool.specs.Refuse.{maxTables, shaped, out, firstRefused}
@@ -28,7 +28,7 @@ use Rattle.pool.specs.declared.Outcome.the-variants.{Accepted}
 use Rattle.pool.specs.declared.VaRange.the-variants.{Lower}
 use Rattle.region_verify.specs.Verify.{endFits, span, inRange, verify}
 use Rattle.map_rules.specs.Rules.{tableWord, rule2, blockable, rule3, rule4, ruleOf, fillOf}
-use Rattle.map_split.specs.Split.{splitEntry, belowOf, below, inFound, into}
+use Rattle.map_split.specs.Split.{splitEntry, belowOf, below, into}
 use Rattle.map_put.specs.Put.{dropEntry, byRule, mapChunk, eachOf, eachChunk, mapRange}
 use Rattle.map_count_spec.specs.Needed.{ifDown, sumOf, sumChunks, childWord, neededLeaf, needBelow, needChunk, needTable, needed}
 use Rattle.map_verify.specs.Ask.{askedMap, frameAsked, verifyMap}

@@ -12,7 +12,7 @@ use Rattle.entry.specs.Sub.{inPool, leads, subOf}
 use Rattle.address_slot.specs.Slot.{entryLast, entryIndex, chunkEnd}
 use Rattle.region.specs.Region.{rounded, whole}
 use Rattle.region.specs.Chunks.{met, chunksIn, chunks}
-use Rattle.pool.specs.Number.{rootNumber, numberOf, firstFrom, lowestFree, used, free}
+use Rattle.pool.specs.Number.{rootNumber, numberOf, firstFrom, lowestFree, inFound, used, free}
 use Rattle.pool.specs.State.{St}
 use Rattle.pool_table.specs.Table.{putTable, zeros, rising, takeAt, takeFound, takeTable}
 use Rattle.pool.specs.Refuse.{maxTables, shaped, firstRefused}
@@ -24,7 +24,7 @@ use Rattle.map_split.specs.Split.{splitEntry, belowOf, below}
 use Rattle.modify_entry.specs.Word.{ofKind, editWord}
 use Rattle.modify_entry.specs.Each.{eachOf, eachChunk}
 use Rattle.modify_entry.specs.Own.{putNumber, ownChunk, ownRange}
-use Rattle.modify_range.specs.Range.{own, onward, downChunk, ownWork, modifyRange}
+use Rattle.modify_range.specs.Range.{own, downChunk, ownWork, modifyRange}
 use Rattle.modify_survey.specs.House.{houseRule, mayChange}
 use Rattle.modify_survey.specs.Find.{adding, splitsIn, breach, ifBlock, surveyPart, surveyWhole, surveyEntry, surveySub, surveyChunk}
 use Rattle.modify_survey.specs.Find.{surveyRange}
@@ -57,7 +57,7 @@ unfolding sizeAt down up putPart allBelow allFrom alignUp addressOf flagsOf kind
     plainFlags fits leafb namesb hangsb
     tableb linkb refersb slotb soundb endFits span inRange verify valid tableWord leafWord whole fillOf splitEntry belowOf below edited
     ofKind editWord eachOf eachChunk
-    putNumber ownChunk ownRange own onward downChunk ownWork modifyRange houseRule mayChange adding splitsIn breach ifBlock surveyPart
+    putNumber ownChunk ownRange own inFound downChunk ownWork modifyRange houseRule mayChange adding splitsIn breach ifBlock surveyPart
     surveyWhole surveyEntry surveySub
     surveyChunk surveyRange askedEdit settable verifyBits firstRefused verifyEdit verifySurvey answerOf editTables modifySound
     modifyCall handle freshRow word table poolA poolF Sets

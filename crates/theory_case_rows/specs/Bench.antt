@@ -4,7 +4,7 @@ use mathlib.Core.List.{List}
 use mathlib.Core.Path.{_≡_, refl}
 use Prim.Native.Nat.{ℕ, _+_, _*_}
 use lib.ListN.{set, replicate}
-use Rattle.laws.specs.Size.{sizeAt, down, up}
+use Rattle.laws.specs.Size.{sizeAt, span, down, up}
 use Rattle.laws.specs.Slot.{iter}
 use Rattle.laws.specs.Part.{putPart}
 use Rattle.laws.specs.Test.{allBelow, allFrom}
@@ -26,7 +26,7 @@ use Rattle.pool.specs.declared.Counted.{Counted}
 use Rattle.pool.specs.declared.Counted.the-variants.{Tables, Refused}
 use Rattle.pool.specs.declared.Outcome.the-variants.{Accepted}
 use Rattle.pool.specs.declared.VaRange.the-variants.{Lower}
-use Rattle.region_verify.specs.Verify.{endFits, span, inRange, verify}
+use Rattle.region_verify.specs.Verify.{endFits, inRange, verify}
 use Rattle.map_rules.specs.Rules.{tableWord, rule2, blockable, rule3, rule4, ruleOf, fillOf}
 use Rattle.map_split.specs.Split.{splitEntry, belowOf, below, into}
 use Rattle.map_put.specs.Put.{dropEntry, byRule, mapChunk, eachOf, eachChunk, mapRange}

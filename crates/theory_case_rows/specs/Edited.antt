@@ -3,7 +3,7 @@ use mathlib.Core.List.{List, [], _∷_}
 use mathlib.Core.Bool.{Bool, true, false}
 use mathlib.Core.Path.{_≡_, refl}
 use Prim.Native.Nat.{ℕ}
-use Rattle.laws.specs.Size.{sizeAt, down, up}
+use Rattle.laws.specs.Size.{sizeAt, span, down, up}
 use Rattle.laws.specs.Part.{putPart}
 use Rattle.laws.specs.Test.{allBelow, allFrom}
 use Rattle.address.specs.Address.{alignUp}
@@ -18,7 +18,7 @@ use Rattle.pool_table.specs.Table.{putTable, zeros, rising, takeAt, takeFound, 
 use Rattle.pool.specs.Refuse.{maxTables, shaped, firstRefused}
 use Rattle.pool.specs.Sound.{flagSet, fits, leafb, namesb, hangsb, tableb, linkb, refersb, slotb, soundb}
 use Rattle.pool.specs.declared.Refusal.the-variants.{HouseRule}
-use Rattle.region_verify.specs.Verify.{endFits, span, inRange, verify}
+use Rattle.region_verify.specs.Verify.{endFits, inRange, verify}
 use Rattle.map_rules.specs.Rules.{tableWord, fillOf}
 use Rattle.map_split.specs.Split.{splitEntry, belowOf, below}
 use Rattle.modify_entry.specs.Word.{ofKind, editWord}

@@ -2,7 +2,7 @@
 use mathlib.Core.List.{[], _∷_}
 use mathlib.Core.Path.{_≡_, refl}
 use lib.ListN.{replicate}
-use Rattle.laws.specs.Size.{sizeAt, down, up}
+use Rattle.laws.specs.Size.{sizeAt, span, down, up}
 use Rattle.laws.specs.Part.{putPart}
 use Rattle.laws.specs.Test.{allBelow, allFrom}
 use Rattle.address.specs.Address.{alignUp}
@@ -15,7 +15,7 @@ use Rattle.pool.specs.Number.{rootNumber}
 use Rattle.pool_table.specs.Table.{putTable, zeros}
 use Rattle.pool.specs.Refuse.{maxTables, shaped, firstRefused}
 use Rattle.pool.specs.Sound.{flagSet, fits, leafb, namesb, hangsb, tableb, linkb, refersb, slotb, soundb}
-use Rattle.region_verify.specs.Verify.{endFits, span, inRange, verify}
+use Rattle.region_verify.specs.Verify.{endFits, inRange, verify}
 use Rattle.arm.specs.Arm.{bits, lowBit, index, fetch}
 use Rattle.list_lines.specs.Lines.{numbers, each, subLines, chunkLines, linesAt, linesFrom, linesOf}
 use Rattle.list.specs.Call.{verifyEnds, listing, put, listLines, listSound, listCall}

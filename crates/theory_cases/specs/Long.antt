@@ -1,6 +1,6 @@
 -- Document 01, "Bench cases": the starred cases of map that go over whole tables, by computing the definitions.
 use mathlib.Core.Path.{refl}
-use Rattle.laws.specs.Size.{sizeAt, down, up}
+use Rattle.laws.specs.Size.{sizeAt, span, down, up}
 use Rattle.laws.specs.Slot.{iter}
 use Rattle.laws.specs.Part.{putPart}
 use Rattle.laws.specs.Test.{allBelow, allFrom}
@@ -14,7 +14,7 @@ use Rattle.pool.specs.Number.{rootNumber, numberOf, firstFrom, lowestFree, inFo
 use Rattle.pool_table.specs.Table.{putTable, zeros, clear, rising, takeAt, takeFound, takeTable, freeSub, freeSlot, freeTree}
 use Rattle.pool.specs.Refuse.{maxTables, shaped, firstRefused}
 use Rattle.pool.specs.Sound.{flagSet, fits, leafb, namesb, hangsb, tableb, linkb, refersb, slotb, soundb}
-use Rattle.region_verify.specs.Verify.{endFits, span, inRange, verify}
+use Rattle.region_verify.specs.Verify.{endFits, inRange, verify}
 use Rattle.map_rules.specs.Rules.{tableWord, rule2, blockable, rule3, rule4, ruleOf, fillOf}
 use Rattle.map_split.specs.Split.{splitEntry, belowOf, below, into}
 use Rattle.map_put.specs.Put.{dropEntry, byRule, mapChunk, eachOf, eachChunk, mapRange}

@@ -1,10 +1,10 @@
 -- Addresses of the call's region and of the root's span, in pages of the root's tree.
-use mathlib.Core.Path.{_≡_, refl, ap, _∙_}
+use mathlib.Core.Path.{_≡_, ap, _∙_}
 use mathlib.Core.Bool.{true}
 use Prim.Native.Nat.{ℕ, suc, _+_, _*_, _-_, _/_, _^_, _≤_, _<_}
 use native.Mathlib.Omega.{arith}
-use borrow.Author.Tests.{ltb-true}
-use Rattle.laws.specs.Size.{sizeAt, size-high, down}
+use borrow.Author.Tests.{leb-true, ltb-true}
+use Rattle.laws.specs.Size.{span, down}
 use Rattle.region.specs.Region.{rounded}
 use Rattle.region.specs.Chunks.{Holds}
 use Rattle.region.specs.declared.MemoryRegion.{MemoryRegion}
@@ -13,7 +13,7 @@ use Rattle.pool.specs.declared.Handle.{Handle}
 use Rattle.pool.specs.declared.VaRange.{VaRange}
 use Rattle.pool.specs.declared.VaRange.the-variants.{Lower, Upper}
 use Rattle.map_verify.specs.Ask.{askedMap}
-use Rattle.look_up.specs.Call.{spanned, span-lower, span-upper}
+use Rattle.look_up.specs.Call.{spanned}
 use Rattle.theory_tree.specs.Page.{pagesIn, first, In, in-of}
 use Rattle.theory_tree.specs.Chunks.{Inside}
 use Rattle.theory_tree.specs.Root.{lower-span, upper-span}
@@ -61,14 +61,9 @@ module _ {h : Handle} {c : MapArguments} {s : St} (passed : MapPassed h c s) (va
 
 root-spans : (range : VaRange) (depth va : ℕ) → depth ≤ 3 → spanned range (3 - depth) va ≡ true → va < 2 ^ 64
     → In (suc depth) (rootOf range depth) (va / 4096)
-unfolding rootOf
-root-spans Lower depth va low e word =
-    lower-span depth va low (ltb-true va (512 * sizeAt (3 - depth)) (span-lower Lower (3 - depth) va (sizeAt (3 - depth)) refl refl ∙ e))
-root-spans Upper depth va low e word =
-    let h = size-high (3 - depth) in
-    let l = ltb-true (18446744073709551615 - 512 * sizeAt (3 - depth)) va
-    (span-upper Upper (3 - depth) va (sizeAt (3 - depth)) refl refl ∙ e) in
-    upper-span depth va low (omega arith) word
+unfolding rootOf spanned
+root-spans Lower depth va low e word = lower-span depth va low (ltb-true va (span (3 - depth)) e)
+root-spans Upper depth va low e word = upper-span depth va low (leb-true (2 ^ 64 - span (3 - depth)) va e) word
 
 pub span-spans : (h : Handle) (va : ℕ) → h .level ≤ 3 → InSpan h va → In (suc (depthOf h)) (rootIn h) (va / 4096)
 span-spans h va low at =

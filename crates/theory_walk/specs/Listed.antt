@@ -9,6 +9,7 @@ use native.Mathlib.Omega.{arith}
 use lib.Dec.{leb}
 use lib.ListN.{length}
 use borrow.Author.Tests.{le-leb, lt-ltb}
+use Rattle.laws.specs.Size.{span}
 use Rattle.laws.specs.Test.{byBool}
 use Rattle.region.specs.Region.{rounded}
 use Rattle.region.specs.declared.MemoryRegion.{MemoryRegion}
@@ -21,10 +22,9 @@ use Rattle.pool.specs.declared.VaRange.the-variants.{Lower, Upper}
 use Rattle.pool.specs.declared.Refusal.{Refusal}
 use Rattle.pool.specs.declared.Outcome.{Outcome}
 use Rattle.pool.specs.declared.Outcome.the-variants.{Accepted, Refused}
-use Rattle.region_verify.specs.Verify.{span, verify, RegionInSpan, verified-forwards, verified-span}
+use Rattle.region_verify.specs.Verify.{verify, RegionInSpan, verified-forwards, verified-span}
 use Rattle.theory_sound.specs.Decide.{decide-sound}
-use Rattle.arm.specs.Arm.{lowBit, at, away, says, reach}
-use Rattle.arm.specs.Walk.{size-is}
+use Rattle.arm.specs.Arm.{at, away, says, reach}
 use Rattle.look_up.specs.Call.{answer, spanned, lookUpCall}
 use Rattle.list_lines.specs.Lines.{Line, linesOf}
 use Rattle.list_lines.specs.Cover.{Covers, covers-map, Meets, list-covers, nthLine, inside, ascending, holds, InLine, covered}
@@ -96,9 +96,9 @@ module _ (h : Handle) (s : St) where
 -- the addresses of a region that was verified lie in the span
 spans : (range : VaRange) (level : ℕ) (r : MemoryRegion) → RegionInSpan range level r → (a : ℕ) → r .start .0 ≤ a → a < r .end .0
     → spanned range level a ≡ true
-unfolding spanned span
-spans Lower level r e a l u = lt-ltb a (512 * 2 ^ lowBit level) (let p = size-is level in omega arith)
-spans Upper level r e a l u = le-leb (2 ^ 64 - 512 * 2 ^ lowBit level) a (let p = size-is level in omega arith)
+unfolding spanned
+spans Lower level r e a l u = lt-ltb a (span level) (omega arith)
+spans Upper level r e a l u = le-leb (2 ^ 64 - span level) a (omega arith)
 
 module _ (h : Handle) (s : St) (start end : ℕ) where
   abbrev r : MemoryRegion

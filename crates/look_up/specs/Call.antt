@@ -10,7 +10,7 @@ use Rattle.address.specs.declared.PhysicalAddress.{PhysicalAddress}
 use Rattle.entry.specs.Word.{kindOf}
 use Rattle.entry.specs.declared.Kind.the-variants.{Block as block′, Hole as hole′}
 use Rattle.pool.specs.State.{St, tables}
-use Rattle.pool.specs.Refuse.{shaped, carried}
+use Rattle.pool.specs.Refuse.{shaped, number, carried}
 use Rattle.pool.specs.declared.Handle.{Handle}
 use Rattle.pool.specs.declared.VaRange.{VaRange}
 use Rattle.pool.specs.declared.VaRange.the-variants.{Lower, Upper}
@@ -19,6 +19,13 @@ use Rattle.arm.specs.Arm.{frameOf, flagsIn, Walked, hole, block, page, outside,
 use Rattle.arm.specs.Walk.{says-hole, says-block, says-page}
 use Rattle.look_up.specs.declared.Looked.{Looked}
 use Rattle.look_up.specs.declared.Looked.the-variants.{Hole, Block, Page, Refused}
+
+-- the number that an answer returns: 0, or the refusal's (document 01, "The refusal slip": No.)
+abbrev pub returned : Looked → ℕ
+returned (Hole level flags) = 0
+returned (Block level flags frame) = 0
+returned (Page level flags frame) = 0
+returned (Refused r) = number r
 
 -- the values of an answer: kind (0 hole, 1 block, 2 page), level, flags, frame (0 for a hole); of a refusal, what it carries
 abbrev pub values : Looked → List ℕ

@@ -7,6 +7,7 @@ use native.Mathlib.Omega.{arith}
 use borrow.Author.Tests.{eq-eqb, ne-eqb}
 use Rattle.address_slot.specs.Slot.{entryIndex}
 use Rattle.region.specs.Region.{whole}
+use Rattle.region.specs.Each.{eachChunk}
 use Rattle.region.specs.declared.MemoryRegion.{MemoryRegion}
 use Rattle.pool.specs.State.{St, st, wordAt}
 use Rattle.pool.specs.Number.{inFound}
@@ -17,7 +18,7 @@ use Rattle.pool_table.specs.Table.{Taken, taken}
 use Rattle.map_rules.specs.Rules.{tableWord}
 use Rattle.map_split.specs.Split.{below}
 use Rattle.modify_entry.specs.declared.Edit.{Edit}
-use Rattle.modify_entry.specs.Each.{eachChunk, chunkEdit}
+use Rattle.modify_entry.specs.Word.{chunkEdit}
 use Rattle.modify_entry.specs.Own.{Noted, noted, ownRange}
 
 -- the lent pool with the lent list

@@ -12,6 +12,7 @@ use Rattle.entry.specs.Sub.{inPool, leads, subOf}
 use Rattle.address_slot.specs.Slot.{entryLast, entryIndex, chunkEnd}
 use Rattle.region.specs.Region.{rounded, whole}
 use Rattle.region.specs.Chunks.{met, chunksIn, chunks}
+use Rattle.region.specs.Each.{eachOf, eachChunk}
 use Rattle.pool.specs.Number.{rootNumber, numberOf, firstFrom, lowestFree, inFound, used, free}
 use Rattle.pool.specs.State.{St}
 use Rattle.pool_table.specs.Table.{putTable, zeros, rising, takeAt, takeFound, takeTable}
@@ -22,7 +23,6 @@ use Rattle.region_verify.specs.Verify.{endFits, inRange, verify}
 use Rattle.map_rules.specs.Rules.{tableWord, fillOf}
 use Rattle.map_split.specs.Split.{splitEntry, belowOf, below}
 use Rattle.modify_entry.specs.Word.{ofKind, editWord}
-use Rattle.modify_entry.specs.Each.{eachOf, eachChunk}
 use Rattle.modify_entry.specs.Own.{putNumber, ownChunk, ownRange}
 use Rattle.modify_range.specs.Range.{own, downChunk, ownWork, modifyRange}
 use Rattle.modify_survey.specs.House.{houseRule, mayChange}

@@ -10,6 +10,7 @@ use Rattle.entry.specs.Sub.{inPool, leads, subOf}
 use Rattle.address_slot.specs.Slot.{entryLast, entryIndex, chunkEnd}
 use Rattle.region.specs.Region.{rounded, whole}
 use Rattle.region.specs.Chunks.{met, chunksIn, chunks}
+use Rattle.region.specs.Each.{eachOf, eachChunk}
 use Rattle.pool.specs.Number.{rootNumber, numberOf, firstFrom, lowestFree, inFound, used, free}
 use Rattle.pool_table.specs.Table.{putTable, zeros, clear, rising, takeAt, takeFound, takeTable, freeSub, freeSlot, freeTree}
 use Rattle.pool.specs.Refuse.{maxTables, shaped, firstRefused}
@@ -17,7 +18,7 @@ use Rattle.pool.specs.Sound.{flagSet, fits, leafb, namesb, hangsb, tableb, link
 use Rattle.region_verify.specs.Verify.{endFits, inRange, verify}
 use Rattle.map_rules.specs.Rules.{tableWord, rule2, blockable, rule3, rule4, ruleOf, fillOf}
 use Rattle.map_split.specs.Split.{splitEntry, belowOf, below, into}
-use Rattle.map_put.specs.Put.{dropEntry, byRule, mapChunk, eachOf, eachChunk, mapRange}
+use Rattle.map_put.specs.Put.{dropEntry, byRule, mapChunk, framedChunk, eachMapChunk, mapRange}
 use Rattle.map_count_spec.specs.Needed.{ifDown, sumOf, sumChunks, childWord, neededLeaf, needBelow, needChunk, needTable, needed}
 use Rattle.map_verify.specs.Ask.{askedMap, frameAsked, verifyMap}
 use Rattle.map_spec.specs.Call.{putDown, mapSound, mapCall}
@@ -34,7 +35,7 @@ unfolding sizeAt down up iter putPart allBelow allFrom alignUp addressOf flagsOf
     freeSlot freeTree maxTables shaped flagSet
     plainFlags fits leafb namesb hangsb tableb linkb refersb slotb soundb endFits span inRange verify valid tableWord leafWord whole rule2
     blockable rule3 rule4 ruleOf fillOf
-    splitEntry belowOf below inFound into dropEntry byRule mapChunk eachOf eachChunk mapRange ifDown sumOf sumChunks childWord neededLeaf
-    needBelow needChunk needTable needed
+    splitEntry belowOf below inFound into dropEntry byRule mapChunk eachOf eachChunk framedChunk eachMapChunk mapRange
+    ifDown sumOf sumChunks childWord neededLeaf needBelow needChunk needTable needed
     askedMap frameAsked firstRefused verifyMap putDown mapSound mapCall handle freshRow word table RowHolds poolB poolF poolH EF H
 long = (refl, refl, refl)

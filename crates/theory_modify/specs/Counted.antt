@@ -17,6 +17,7 @@ use Rattle.entry.specs.declared.Kind.the-variants.{Table as table, Block, Page,
 use Rattle.address_slot.specs.Slot.{entryIndex}
 use Rattle.region.specs.Region.{whole}
 use Rattle.region.specs.Chunks.{chunks}
+use Rattle.region.specs.Each.{eachOf, eachChunk}
 use Rattle.region.specs.declared.MemoryRegion.{MemoryRegion}
 use Rattle.pool.specs.State.{St, tables, wordAt}
 use Rattle.pool.specs.declared.Handle.{Handle}
@@ -24,8 +25,7 @@ use Rattle.map_rules.specs.declared.Map.{Map}
 use Rattle.map_rules.specs.Rules.{chunkMap}
 use Rattle.map_count_spec.specs.Needed.{slot-below}
 use Rattle.modify_entry.specs.declared.Edit.{Edit}
-use Rattle.modify_entry.specs.Word.{editWord}
-use Rattle.modify_entry.specs.Each.{eachOf, eachChunk, chunkEdit}
+use Rattle.modify_entry.specs.Word.{chunkEdit, editWord}
 use Rattle.modify_survey.specs.declared.Survey.{Survey}
 use Rattle.modify_survey.specs.House.{mayChange}
 use Rattle.modify_survey.specs.Find.{splitsIn, breach, ifBlock, surveyPart, surveyWhole, surveyEntry, surveyChunk, surveyRange, entry-whole}

@@ -11,6 +11,7 @@ use Rattle.entry.specs.Word.{valid, edited}
 use Rattle.address_slot.specs.Slot.{entryIndex}
 use Rattle.region.specs.Region.{whole}
 use Rattle.region.specs.Chunks.{chunks}
+use Rattle.region.specs.Each.{eachOf, eachChunk}
 use Rattle.region.specs.declared.MemoryRegion.{MemoryRegion}
 use Rattle.pool.specs.State.{St, st, wordAt}
 use Rattle.pool.specs.Number.{free}
@@ -18,8 +19,7 @@ use Rattle.pool.specs.declared.Handle.{Handle}
 use Rattle.map_rules.specs.declared.Map.{Map}
 use Rattle.map_count_spec.specs.Needed.{slot-below}
 use Rattle.modify_entry.specs.declared.Edit.{Edit}
-use Rattle.modify_entry.specs.Word.{editWord}
-use Rattle.modify_entry.specs.Each.{eachOf, eachChunk, chunkEdit}
+use Rattle.modify_entry.specs.Word.{chunkEdit, editWord}
 use Rattle.modify_entry.specs.Own.{Numbered, putNumber, Noted, noted, ownChunk, ownRange, own-same, own-changed}
 use Rattle.modify_range.specs.Range.{Work, work, own, ownWork, modifyRange, own-table, own-leaf, downStep, modify-pages, modify-open}
 use Rattle.modify_range.specs.Range.{step-own, step-into}

@@ -13,9 +13,9 @@ use Rattle.map_rules.specs.declared.Map.{Map}
 use Rattle.map_rules.specs.Rules.{chunkMap}
 use Rattle.map_rules.specs.Fit.{Fit, chunk-paged, chunk-fit, rest-paged}
 use Rattle.map_rules.specs.Laws.{drop-high, down-high}
-use Rattle.map_put.specs.Put.{eachChunk}
+use Rattle.map_put.specs.Put.{eachMapChunk}
 use Rattle.map_put.specs.Laws.{below-kept, below-nothing}
-use Rattle.map_put.specs.Range.{mapStep, map-open, each-done, each-step, chunk-here, chunk-none, chunk-into}
+use Rattle.map_put.specs.Range.{mapStep, map-open, map-each-done, map-each-step, chunk-here, chunk-none, chunk-into}
 use Rattle.map_split.specs.Split.{below-inside}
 use Rattle.map_range.proofs.Tags.{no-down}
 use Prim.Native.Nat.{ℕ, _<_}
@@ -51,7 +51,7 @@ abbrev map-range-Inv-loop : map-range-lts.InvT-loop
 map-range-Inv-loop words₀ ledger₀ handle k level map end at₀ frame₀ changed₀ words ledger at frame changed =
     (at ≤ map .region .end .0) × (at % 4096 ≡ 0) × (frame % 4096 ≡ 0) × (frame + (map .region .end .0 - at) ≤ 2 ^ 48)
     × (length words ≡ length words₀) × (length ledger ≡ length ledger₀)
-    × (eachChunk level (mapStep handle k level) (chunkMap map (region at (map .region .end .0)) frame) (st words ledger) ≡ eachChunk level (mapStep handle k level) map (st words₀ ledger₀))
+    × (eachMapChunk level (mapStep handle k level) (chunkMap map (region at (map .region .end .0)) frame) (st words ledger) ≡ eachMapChunk level (mapStep handle k level) map (st words₀ ledger₀))
     × (changed ≡ false → ledger ≡ ledger₀)
 
 abbrev map-range-μ-loop : map-range-lts.MeasureT-loop
@@ -82,8 +82,8 @@ record Facts (t : ℕ) (c : Place t) : Type 0 where
   fit : Fit (chunkOf t c)
   some : chunkOf t c .region .start .0 < chunkOf t c .region .end .0
   next : let a = c .before .before .before .before .before .before .before .args in let f = mapStep (a .handle) (a .k) (a .level) in
-      eachChunk (a .level) f (leftOf t c) (f (chunkOf t c) (st (c .before .before .before .before .loop .words) (c .before .before .before .before .loop .ledger)))
-      ≡ eachChunk (a .level) f (a .map) (st (a .words .now) (a .ledger .now))
+      eachMapChunk (a .level) f (leftOf t c) (f (chunkOf t c) (st (c .before .before .before .before .loop .words) (c .before .before .before .before .loop .ledger)))
+      ≡ eachMapChunk (a .level) f (a .map) (st (a .words .now) (a .ledger .now))
 
 facts : (t : ℕ) (c : Place t) → Facts t c
 unfolding entryIndex
@@ -113,10 +113,10 @@ facts t c =
       fit = subst⁻¹ Fit chunk (subst⁻¹ (λ (x : ℕ). Fit (chunkMap (a .map) (region (at .loop .at) x) (at .loop .frame))) stop part);
       some = subst⁻¹ (λ (m : Map). m .region .start .0 < m .region .end .0) chunk above;
       next =
-          ap (λ (m : Map). let f = mapStep (a .handle) (a .k) (a .level) in eachChunk (a .level) f (leftOf t c) (f m s)) chunk
+          ap (λ (m : Map). let f = mapStep (a .handle) (a .k) (a .level) in eachMapChunk (a .level) f (leftOf t c) (f m s)) chunk
           ∙ ap (λ (x : ℕ). let f = mapStep (a .handle) (a .k) (a .level) in
-          eachChunk (a .level) f (chunkMap (a .map) (region x (a .map .region .end .0)) (at .loop .frame + (x - at .loop .at))) (f (chunkMap (a .map) (region (at .loop .at) x) (at .loop .frame)) s)) stop
-          ∙ sym (each-step (a .level) (mapStep (a .handle) (a .k) (a .level)) (a .map) (at .loop .at) (a .map .region .end .0) (at .loop .frame) s low) ∙ inv .6;
+          eachMapChunk (a .level) f (chunkMap (a .map) (region x (a .map .region .end .0)) (at .loop .frame + (x - at .loop .at))) (f (chunkMap (a .map) (region (at .loop .at) x) (at .loop .frame)) s)) stop
+          ∙ sym (map-each-step (a .level) (mapStep (a .handle) (a .k) (a .level)) (a .map) (at .loop .at) (a .map .region .end .0) (at .loop .frame) s low) ∙ inv .6;
     }
 
 map-range-loop-holds : (t : ℕ) → map-range-lts.Need-loop-holds (calls t) (map-range-at t) map-range.Post map-range-Inv-loop map-range-μ-loop
@@ -184,7 +184,7 @@ map-range-loop-again t c =
       f .room,
       put .kept .0 ∙ at .loop .inv .4,
       put .kept .1 .0 ∙ at .loop .inv .5,
-      ap (eachChunk (a .level) (mapStep (a .handle) (a .k) (a .level)) (leftOf t place)) (put .ensures .0 ∙ chunk-here (a .handle) (a .k) (a .level) (chunkOf t place) (st (at .loop .words) (at .loop .ledger)) (f .index) (r .ensures) (no-down (r .result) (c .before .before .before .before .before .before .before .match .keys2))) ∙ f .next,
+      ap (eachMapChunk (a .level) (mapStep (a .handle) (a .k) (a .level)) (leftOf t place)) (put .ensures .0 ∙ chunk-here (a .handle) (a .k) (a .level) (chunkOf t place) (st (at .loop .words) (at .loop .ledger)) (f .index) (r .ensures) (no-down (r .result) (c .before .before .before .before .before .before .before .match .keys2))) ∙ f .next,
       λ e. let q = put .ensures .1 e in q .1 ∙ at .loop .inv .7 (q .0),
     )
 
@@ -216,7 +216,7 @@ map-range-loop-again-2 t c =
       f .room,
       c .before .before .before .before .before .before .descend .kept .0 ∙ at .loop .inv .4,
       c .before .before .before .before .before .before .descend .kept .1 .0 ∙ at .loop .inv .5,
-      ap (eachChunk (a .level) (mapStep (a .handle) (a .k) (a .level)) (leftOf t place)) (chunk-none (a .handle) (a .k) (a .level) (chunkOf t place) s (f .index) (c .before .before .before .before .before .before .before .before .before .before .before .rule-of .ensures) (c .before .before .before .before .before .before .before .before .before .enum-told .given .1) (c .before .before .before .before .before .before .descend .ensures) (c .enum-told2 .given .1)) ∙ f .next,
+      ap (eachMapChunk (a .level) (mapStep (a .handle) (a .k) (a .level)) (leftOf t place)) (chunk-none (a .handle) (a .k) (a .level) (chunkOf t place) s (f .index) (c .before .before .before .before .before .before .before .before .before .before .before .rule-of .ensures) (c .before .before .before .before .before .before .before .before .before .enum-told .given .1) (c .before .before .before .before .before .before .descend .ensures) (c .enum-told2 .given .1)) ∙ f .next,
       λ e. ap (λ (x : St). x .ledger) (below-nothing (a .handle) (a .k) (a .level) (place .before .entry-index .result) s (c .before .before .before .before .before .before .descend .ensures) (c .enum-told2 .given .1)) ∙ at .loop .inv .7 e,
     )
 
@@ -261,7 +261,7 @@ map-range-loop-again-3 t c =
       f .room,
       lower .kept .0 ∙ under .kept .0 ∙ at .loop .inv .4,
       lower .kept .1 .0 ∙ under .kept .1 .0 ∙ at .loop .inv .5,
-      ap (eachChunk (a .level) (mapStep (a .handle) (a .k) (a .level)) (leftOf t place)) (lower .ensures .0 ∙ chunk-into (a .handle) (a .k) (a .level) (chunkOf t place) s (f .index) r down (under .ensures) _ (c .before .before .before .before .before .before .before .before .before .under .given .1) high) ∙ f .next,
+      ap (eachMapChunk (a .level) (mapStep (a .handle) (a .k) (a .level)) (leftOf t place)) (lower .ensures .0 ∙ chunk-into (a .handle) (a .k) (a .level) (chunkOf t place) s (f .index) r down (under .ensures) _ (c .before .before .before .before .before .before .before .before .before .under .given .1) high) ∙ f .next,
       λ e. let q = c .ledger-changed .ensures e in
           lower .ensures .1 (q .2) ∙ ap (λ (x : St). x .ledger) (below-kept (a .handle) (a .k) (a .level) (place .before .entry-index .result) s (under .ensures) high (q .1)) ∙ at .loop .inv .7 (q .0),
     )
@@ -276,7 +276,7 @@ map-range-returns : (t : ℕ) → map-range-lts.Need-returns (calls t) (map-rang
 map-range-returns t c =
     let at = c .before in
     let a = c .before .before .before .before .args in (
-      sym (each-done (a .level) (mapStep (a .handle) (a .k) (a .level)) (a .map) (at .loop .at) (a .map .region .end .0) (at .loop .frame) (st (at .loop .words) (at .loop .ledger)) (omega arith))
+      sym (map-each-done (a .level) (mapStep (a .handle) (a .k) (a .level)) (a .map) (at .loop .at) (a .map .region .end .0) (at .loop .frame) (st (at .loop .words) (at .loop .ledger)) (omega arith))
           ∙ at .loop .inv .6
           ∙ map-open (a .handle) (a .k) (a .level) (a .map) (st (a .words .now) (a .ledger .now)) (c .before .before .before .before .pre .1 .2),
       at .loop .inv .7,

@@ -19,10 +19,10 @@ use Rattle.theory_sound.specs.Codec.{Placed, codecOf, slotWord, view, rootTree}
 use Rattle.theory_sound.specs.Clauses.{InUse, SoundPool}
 use Rattle.theory_sound.specs.Generic.{pool-sound}
 use Rattle.theory_sound.specs.Hanging.{root-left, root-under}
-use Rattle.theory_sound.specs.Step.{used-inside}
+use Rattle.theory_sound.specs.Step.{used-inside, Ready, refers-ready}
 use Rattle.compact_spec.specs.Compact.{allZero, tableWords, releaseEmpty, compactEntry, compactTable, release-kept}
 use Rattle.theory_compact.specs.Empty.{empty-is}
-use Rattle.theory_compact.specs.Run.{Ready, entry-none, entry-some}
+use Rattle.theory_compact.specs.Run.{entry-none, entry-some}
 
 -- ---- what the tree says of the tables under its top
 
@@ -87,8 +87,7 @@ module _ {h : Handle} (placed : Placed h) {s : St} (none : NoneEmpty s) where
           let other : c ≢ 0 =
           λ e. root-not-hung {C = codecOf h placed} {s = view s} {k = c} (e, ap (numberAt s) e ∙ R .pool .root) (r .hung) in
           sym (entry-some rec s depth k i R inside placed c r)
-          ∙ ap (releaseEmpty k i c)
-          (below c (record { shape = R .shape; pool = R .pool; used = r .used; low = omega (arith, R .low, refers-level r) }))
+          ∙ ap (releaseEmpty k i c) (below c (refers-ready placed R r))
           ∙ sym (release-kept k i c s (none c other (r .used)))
       go (inr other) = sym (entry-none rec s depth k i R inside other)
 

@@ -48,6 +48,10 @@ module _ (h : Handle) (s : St) where
 
 -- ---- every used table hangs from the root, by the ledger
 
+pub root-used : {h : Handle} {s : St} → SoundPool h s → InUse s 0
+unfolding rootNumber
+root-used P = omega (arith, P .root)
+
 pub root-left : {h : Handle} {s : St} → Placed h → SoundPool h s → levelAt s 0 + (3 - h .level) ≡ 3
 unfolding rootNumber
 root-left placed P = omega (arith, placed .level, P .root)

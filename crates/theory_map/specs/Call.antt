@@ -9,7 +9,7 @@ use lib.Dec.{lit<}
 use Rattle.laws.specs.Test.{byBool, is-true, le-or}
 use Rattle.pool.specs.State.{St, tables}
 use Rattle.pool.specs.Number.{used, free}
-use Rattle.pool.specs.Refuse.{number, shaped, Shaped, shaped-says, says-shaped, shaped-keep, Out, out}
+use Rattle.pool.specs.Refuse.{number, shaped, Shaped, shaped-says, says-shaped, Out, out}
 use Rattle.pool.specs.Sound.{soundb}
 use Rattle.pool.specs.declared.Handle.{Handle}
 use Rattle.pool.specs.declared.Refusal.{Refusal}
@@ -27,7 +27,7 @@ use Rattle.theory_forest.specs.Tree.{Tree}
 use Rattle.theory_sound.specs.Clauses.{SoundPool}
 use Rattle.theory_sound.specs.Codec.{shaped-placed, rootTree}
 use Rattle.theory_sound.specs.Decide.{decide-sound, sound-decide}
-use Rattle.theory_sound.specs.Generic.{sound-pool}
+use Rattle.theory_sound.specs.Step.{Ready, root-ready, worked-ready}
 use Rattle.theory_tree.specs.Rules.{Given}
 use Rattle.theory_tree.specs.Document.{document-is}
 use Rattle.theory_tree.specs.Needed.{document-needs}
@@ -35,7 +35,7 @@ use Rattle.theory_tree.specs.Root.{mapTree, mapMade}
 use Rattle.theory_map.specs.Terms.{MapArguments, mapAnswer, Maps, mapAsked, MapPassed, depthOf, rootIn, mapPagesOf, treeAfterMap}
 use Rattle.theory_map.specs.Terms.{madeBy}
 use Rattle.theory_map.specs.Stand.{Allowed}
-use Rattle.theory_map.specs.Moves.{Ready, Worked, root-ready, root-node}
+use Rattle.theory_map.specs.Moves.{WorkedWithin, root-node}
 use Rattle.theory_map.specs.Pieces.{doneTable, takesTable, Area}
 use Rattle.theory_map.specs.Range.{range-works}
 use Rattle.theory_map.specs.Need.{needed-is}
@@ -55,7 +55,7 @@ module _ {h : Handle} {c : MapArguments} {s : St} (passed : MapPassed h c s) whe
   pub area : Area (depthOf h) (rootIn h) m
   area = asked-area h (c .start) (c .end) (c .frame) (c .flags) (c .constraints) (passed .asks) (passed .shape .level)
 
-  ready : Ready (shaped-placed (passed .shape)) s (depthOf h) 0
+  ready : Ready h s (depthOf h) 0
   ready = root-ready (passed .shape) (passed .pool)
 
   pub given : Given (mapPagesOf c)
@@ -82,23 +82,23 @@ module _ {h : Handle} {c : MapArguments} {s : St} (passed : MapPassed h c s) whe
   -- ---- with room
 
   module _ (room : madeBy h c s ≤ free (s .ledger)) where
-    worked : Worked (shaped-placed (passed .shape)) s (stateAfter h c s) (depthOf h) 0 (doneTable m (depthOf h) (rootTree h s))
+    worked : WorkedWithin (shaped-placed (passed .shape)) s (stateAfter h c s) (depthOf h) 0 (doneTable m (depthOf h) (rootTree h s))
         (takesTable m (depthOf h) (rootTree h s))
     worked =
         range-works (shaped-placed (passed .shape)) (depthOf h) (omega arith) (rootIn h) 0 m s allowed area ready
         (omega (arith, takes-made))
 
     pub after-shaped : Shaped h (stateAfter h c s)
-    after-shaped = shaped-keep h s (stateAfter h c s) (passed .shape) (worked .same-words) (worked .same-tables)
+    after-shaped = worked-ready ready (worked .worked) .shape
 
     pub after-sound : SoundPool h (stateAfter h c s)
-    after-sound = sound-pool (shaped-placed (passed .shape)) (after-shaped .sized) (worked .work .over .sound)
+    after-sound = worked-ready ready (worked .worked) .pool
 
     pub after-tree : rootTree h (stateAfter h c s) ≡ treeAfterMap h c s
-    after-tree = worked .work .tree ∙ done-tree
+    after-tree = worked .worked .work .tree ∙ done-tree
 
     pub after-tables : tables (stateAfter h c s) ≡ tables s
-    after-tables = worked .same-tables
+    after-tables = worked .worked .size .same-tables
 
 -- ---- what the call answers
 

@@ -25,13 +25,14 @@ use Rattle.theory_forest.specs.Sound.{TableWord, Refers}
 use Rattle.theory_forest.specs.Keep.{slot-leaf}
 use Rattle.theory_sound.specs.Clauses.{levelAt}
 use Rattle.theory_sound.specs.Codec.{Placed, codecOf, view, word-in, treeFrom}
+use Rattle.theory_sound.specs.Step.{Ready}
 use Rattle.theory_tree.specs.Visit.{down as goDown, opened, splits, fillTree}
 use Rattle.theory_tree.specs.Shown.{FineTree}
 use Rattle.theory_map.specs.Leaf.{slot-fine}
 use Rattle.theory_map.specs.Rule.{saysOf, LeafRule, keeps, writes, splits as leaf-splits, TableRule, drops, enters, page-rule}
 use Rattle.theory_map.specs.Rule.{leaf-rule, table-rule}
 use Rattle.theory_map.specs.Stand.{Allowed, Piece, write-stands}
-use Rattle.theory_map.specs.Moves.{slotShows, Ready, Slotted, Worked, kept, stored, dropped}
+use Rattle.theory_map.specs.Moves.{slotShows, StepWithin, WorkedWithin, kept, stored, dropped}
 use Rattle.theory_map.specs.Down.{SlotHolds, holds-table, holds-leaf, holds, opens}
 use Rattle.theory_map.specs.Pieces.{doneTo, takes, doneTable, takesTable, done-keep, done-write, done-down, takes-down, Area}
 use Rattle.theory_map.specs.Pieces.{piece-area}
@@ -52,13 +53,13 @@ module _ {h : Handle} (placed : Placed h) where
   -- a map of a table with `depth` levels below its own does on lists what it does on the table's tree
   abbrev pub Works : ℕ → Type 0
   Works depth =
-      (q k : ℕ) (m : Map) (s : St) → Allowed h (m .flags) → Area depth q m → Ready placed s depth k
+      (q k : ℕ) (m : Map) (s : St) → Allowed h (m .flags) → Area depth q m → Ready h s depth k
       → takesTable m depth (treeFrom h s depth k) ≤ free (s .ledger)
-      → Worked placed s (mapRange depth h k m s) depth k (doneTable m depth (treeFrom h s depth k))
+      → WorkedWithin placed s (mapRange depth h k m s) depth k (doneTable m depth (treeFrom h s depth k))
       (takesTable m depth (treeFrom h s depth k))
 
   module _ (q k : ℕ) (m : Map) (s : St) (depth : ℕ) (allowed : Allowed h (m .flags)) (piece : Piece depth q m)
-      (R : Ready placed s depth k) where
+      (R : Ready h s depth k) where
     abbrev pub level : ℕ
     level = 3 - depth
 
@@ -70,7 +71,7 @@ module _ {h : Handle} (placed : Placed h) where
 
     -- what is to be shown, if the slot shows t
     abbrev pub Done : Tree → Type 0
-    Done t = Slotted placed s (mapStep h k level m s) depth k i (doneTo m depth t) (takes m depth t)
+    Done t = StepWithin placed s (mapStep h k level m s) depth k i (doneTo m depth t) (takes m depth t)
 
     inside : i < 512
     inside = slot-below level (m .region .start .0)
@@ -86,11 +87,11 @@ module _ {h : Handle} (placed : Placed h) where
 
       by-leaf : LeafRule level m depth w → (ruleOf level m w ≡ Down → saysOf m depth (leaf w) ≡ goDown → Done (leaf w)) → Done (leaf w)
       by-leaf (keeps r e) down =
-          subst₂ (λ (s′ : St) (t : Tree). Slotted placed s s′ depth k i t (takes m depth (leaf w)))
+          subst₂ (λ (s′ : St) (t : Tree). StepWithin placed s s′ depth k i t (takes m depth (leaf w)))
           (chunk-keep h k level m s refl refl r) (shows-leaf ∙ sym (done-keep m depth (leaf w) e))
           (kept placed R i (takes m depth (leaf w)))
       by-leaf (writes x r e) down =
-          subst₂ (λ (s′ : St) (t : Tree). Slotted placed s s′ depth k i t (takes m depth (leaf w)))
+          subst₂ (λ (s′ : St) (t : Tree). StepWithin placed s s′ depth k i t (takes m depth (leaf w)))
           (chunk-write h k level m s refl refl x r) (sym (done-write m depth x (leaf w) e))
           (stored placed R i (takes m depth (leaf w)) x inside old
           (write-stands h depth q (levelAt s k) x m (leaf w) allowed piece (R .low) (subst (FineTree depth) shows-leaf fine) e))
@@ -99,7 +100,7 @@ module _ {h : Handle} (placed : Placed h) where
   -- ---- above the lowest level
 
   module _ (q k : ℕ) (m : Map) (s : St) (depth : ℕ) (works : Works depth) (allowed : Allowed h (m .flags)) (piece : Piece (suc depth) q m)
-      (R : Ready placed s (suc depth) k) where
+      (R : Ready h s (suc depth) k) where
     abbrev l : ℕ
     l = 3 - suc depth
 
@@ -110,7 +111,7 @@ module _ {h : Handle} (placed : Placed h) where
     x = wordAt s k j
 
     abbrev Goal : Tree → Type 0
-    Goal t = Slotted placed s (mapStep h k l m s) (suc depth) k j (doneTo m (suc depth) t) (takes m (suc depth) t)
+    Goal t = StepWithin placed s (mapStep h k l m s) (suc depth) k j (doneTo m (suc depth) t) (takes m (suc depth) t)
 
     slot : j < 512
     slot = slot-below l (m .region .start .0)
@@ -137,11 +138,11 @@ module _ {h : Handle} (placed : Placed h) where
         let W = works q (O .table) m (O .state) allowed (piece-area piece) (O .ready)
         (subst (λ (u : Tree). takesTable m depth u ≤ free (O .state .ledger)) (sym (O .shows)) (omega arith)) in
         let W′ = subst
-        (λ (u : Tree). Worked placed (O .state) (mapRange depth h (O .table) m (O .state)) depth (O .table) (doneTable m depth u)
+        (λ (u : Tree). WorkedWithin placed (O .state) (mapRange depth h (O .table) m (O .state)) depth (O .table) (doneTable m depth u)
         (takesTable m depth u))
         (O .shows) W in
-        subst (λ (s′ : St). Slotted placed s s′ (suc depth) k j (doneTo m (suc depth) t) (takes m (suc depth) t)) (goes-in r (O .found))
-        (subst₂ (λ (u : Tree) (c : ℕ). Slotted placed s (mapRange depth h (O .table) m (O .state)) (suc depth) k j u c)
+        subst (λ (s′ : St). StepWithin placed s s′ (suc depth) k j (doneTo m (suc depth) t) (takes m (suc depth) t)) (goes-in r (O .found))
+        (subst₂ (λ (u : Tree) (c : ℕ). StepWithin placed s (mapRange depth h (O .table) m (O .state)) (suc depth) k j u c)
         (sym (done-down m depth t e)) (sym all) (O .back W′))
 
     -- ---- a table
@@ -160,7 +161,7 @@ module _ {h : Handle} (placed : Placed h) where
           ∙ drop-table h l x (storeAt k j (m .flags) s) refl e leads
           ∙ chunk-drop h k l m s refl refl (m .flags) rule in
           subst Goal (sym shows)
-          (subst₂ (λ (s′ : St) (t : Tree). Slotted placed s s′ (suc depth) k j t (takes m (suc depth) (node g))) put
+          (subst₂ (λ (s′ : St) (t : Tree). StepWithin placed s s′ (suc depth) k j t (takes m (suc depth) (node g))) put
           (sym (done-write m (suc depth) (m .flags) (node g) says))
           (dropped placed R j slot (takes m (suc depth) (node g)) (m .flags) r
           (write-stands h (suc depth) q (levelAt s k) (m .flags) m (node g) allowed piece (R .low) fine says)))
@@ -180,10 +181,10 @@ module _ {h : Handle} (placed : Placed h) where
 
   abbrev pub ChunkWorks : ℕ → Type 0
   ChunkWorks depth =
-      (q k : ℕ) (m : Map) (s : St) → Allowed h (m .flags) → Piece depth q m → Ready placed s depth k
+      (q k : ℕ) (m : Map) (s : St) → Allowed h (m .flags) → Piece depth q m → Ready h s depth k
       → let i = entryIndex (3 - depth) (m .region .start .0) in
       takes m depth (slotShows h s depth k i) ≤ free (s .ledger)
-      → Slotted placed s (mapStep h k (3 - depth) m s) depth k i (doneTo m depth (slotShows h s depth k i))
+      → StepWithin placed s (mapStep h k (3 - depth) m s) depth k i (doneTo m depth (slotShows h s depth k i))
       (takes m depth (slotShows h s depth k i))
 
   -- at the lowest level nothing goes down

@@ -23,8 +23,9 @@ use Rattle.theory_sound.specs.Clauses.{levelAt}
 use Rattle.theory_sound.specs.Codec.{Placed, codecOf, childOf, slotWord, view, word-in, treeFrom}
 use Rattle.theory_sound.specs.Generic.{pool-sound}
 use Rattle.theory_sound.specs.Take.{take-is, take-free}
+use Rattle.theory_sound.specs.Step.{Ready, refers-ready}
 use Rattle.theory_tree.specs.Visit.{opened, splits, fillTree}
-use Rattle.theory_map.specs.Moves.{slotShows, Ready, Slotted, Worked, entered, entered-ready, after, taken-ready, taken-shows, split}
+use Rattle.theory_map.specs.Moves.{slotShows, StepWithin, WorkedWithin, entered, after, taken-ready, taken-shows, split}
 
 splits-leaf : (depth w : ℕ) → (splits (leaf w) ≡ 1) × (opened depth (leaf w) ≡ fillTree depth w)
 unfolding splits opened
@@ -48,13 +49,13 @@ module _ {h : Handle} (placed : Placed h) where
     pub table : ℕ
     pub state : St
     pub found : taken (At table) state ≡ below h k (3 - suc depth) i s
-    pub ready : Ready placed state depth table
+    pub ready : Ready h state depth table
     pub shows : treeFrom h state depth table ≡ opened depth (slotShows h s (suc depth) k i)
     pub room : free (s .ledger) ≡ splits (slotShows h s (suc depth) k i) + free (state .ledger)
-    pub back : {s′ : St} {cost : ℕ} {t : Tree} → Worked placed state s′ depth table t cost
-        → Slotted placed s s′ (suc depth) k i t (splits (slotShows h s (suc depth) k i) + cost)
+    pub back : {s′ : St} {cost : ℕ} {t : Tree} → WorkedWithin placed state s′ depth table t cost
+        → StepWithin placed s s′ (suc depth) k i t (splits (slotShows h s (suc depth) k i) + cost)
 
-  module _ {s : St} {depth k : ℕ} (R : Ready placed s (suc depth) k) (i : ℕ) (inside : i < 512) where
+  module _ {s : St} {depth k : ℕ} (R : Ready h s (suc depth) k) (i : ℕ) (inside : i < 512) where
     abbrev level : ℕ
     level = 3 - suc depth
 
@@ -90,12 +91,12 @@ module _ {h : Handle} (placed : Placed h) where
               table = e;
               state = s;
               found = below-table h k level i s refl e leads;
-              ready = entered-ready placed R i inside r;
+              ready = refers-ready placed R r;
               shows = treeAt-node (childOf (h .base .0)) depth (slotWord s) e ∙ sym (ap (opened depth) shows ∙ S .1);
               room = omega arith;
               back = λ {s′} {cost} {t} W.
                   let same : cost ≡ splits (slotShows h s (suc depth) k i) + cost = omega arith in
-                  subst (Slotted placed s s′ (suc depth) k i t) same (entered placed R i inside r W);
+                  subst (StepWithin placed s s′ (suc depth) k i t) same (entered placed R i inside r W);
             }
         go (holds-leaf old other shows) =
             let S = splits-leaf depth w in
@@ -113,6 +114,6 @@ module _ {h : Handle} (placed : Placed h) where
                   shows = taken-shows placed R i inside old f found ∙ sym (ap (opened depth) shows ∙ splits-leaf depth w .1);
                   room = omega (arith, take-free h k (level + 1) i (fillOf level w) s f found);
                   back =
-                      λ {s′} {cost} {t} W. subst (λ (n : ℕ). Slotted placed s s′ (suc depth) k i t (n + cost)) (sym one)
+                      λ {s′} {cost} {t} W. subst (λ (n : ℕ). StepWithin placed s s′ (suc depth) k i t (n + cost)) (sym one)
                       (split placed R i inside old f found W);
                 }

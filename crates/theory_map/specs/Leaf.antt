@@ -8,7 +8,7 @@ use Rattle.laws.specs.Bit.{SubBits}
 use Rattle.laws.specs.Size.{sizeAt}
 use Rattle.entry.specs.Word.{addressOf, el1Flags, plainFlags}
 use Rattle.pool.specs.State.{St, wordAt}
-use Rattle.pool.specs.Number.{levelOf, rootNumber}
+use Rattle.pool.specs.Number.{levelOf}
 use Rattle.pool.specs.Sound.{flagSet, leafb}
 use Rattle.pool.specs.declared.Handle.{Handle}
 use Rattle.theory_forest.specs.Tree.{treeAt-node, entry}
@@ -16,7 +16,7 @@ use Rattle.theory_forest.specs.Sound.{TableWord}
 use Rattle.theory_sound.specs.Clauses.{InUse, levelAt, LeafWord, SoundPool}
 use Rattle.theory_sound.specs.Codec.{Placed, codecOf, childOf, slotWord, treeFrom, rootTree}
 use Rattle.theory_sound.specs.Generic.{leaf-says, pool-sound}
-use Rattle.theory_sound.specs.Hanging.{root-left}
+use Rattle.theory_sound.specs.Hanging.{root-used, root-left}
 use Rattle.theory_sound.specs.Step.{Stands}
 use Rattle.theory_tree.specs.Page.{pagesIn, entry-rest}
 use Rattle.theory_tree.specs.Word.{frameIn, address-frame}
@@ -49,13 +49,8 @@ module _ {h : Handle} (placed : Placed h) {s : St} (P : SoundPool h s) where
   slot-fine depth k i used low inside =
       subst (FineTable depth) (treeAt-node (childOf (h .base .0)) depth (slotWord s) k) (table-fine depth k used low) i inside
 
-  -- the root is in use
-  pub root-used : InUse s 0
-  unfolding rootNumber
-  root-used = omega (arith, P .root)
-
   pub root-fine : FineTable (3 - h .level) (rootTree h s)
-  root-fine = table-fine (3 - h .level) 0 root-used (root-left placed P)
+  root-fine = table-fine (3 - h .level) 0 (root-used P) (root-left placed P)
 
 -- the flags of a leaf are from the set
 pub leaf-from : {h : Handle} {s : St} → SoundPool h s → (k i : ℕ) → i < 512 → InUse s k → ¬ (TableWord (levelAt s k) (wordAt s k i))

@@ -25,6 +25,7 @@ use Rattle.theory_forest.specs.Frame.{slot-refers}
 use Rattle.theory_forest.specs.Keep.{slot-leaf}
 use Rattle.theory_sound.specs.Codec.{Placed, codecOf, childOf, slotWord, view, word-in, treeFrom}
 use Rattle.theory_sound.specs.Generic.{pool-sound}
+use Rattle.theory_sound.specs.Step.{Ready, refers-ready}
 use Rattle.theory_tree.specs.Word.{fillWord}
 use Rattle.theory_tree.specs.Fine.{Fine, fine-fill}
 use Rattle.theory_tree.specs.Visit.{keep, write, counted, fillTree}
@@ -34,7 +35,7 @@ use Rattle.theory_tree.specs.Needed as trees
 use Rattle.theory_tree.specs.Document.{documentRule}
 use Rattle.theory_map.specs.Leaf.{slot-fine}
 use Rattle.theory_map.specs.Rule.{saysOf, LeafRule, keeps, writes, splits, TableRule, drops, enters, leaf-rule, table-rule, fill-at}
-use Rattle.theory_map.specs.Moves.{slotShows, Ready, entered-ready}
+use Rattle.theory_map.specs.Moves.{slotShows}
 use Rattle.theory_map.specs.Pieces.{takes, takesTable}
 use Rattle.theory_map.specs.Chunk.{takes-split, takes-enter}
 use Rattle.theory_map.specs.Loop.{slot-of}
@@ -155,9 +156,9 @@ module _ {h : Handle} (placed : Placed h) where
   -- what is known of the tables one level down
   abbrev Counts : ℕ → Type 0
   Counts depth =
-      (k : ℕ) (m : Map) (s : St) → Ready placed s depth k → needTable neededLeaf depth h s k m ≡ takesTable m depth (treeFrom h s depth k)
+      (k : ℕ) (m : Map) (s : St) → Ready h s depth k → needTable neededLeaf depth h s k m ≡ takesTable m depth (treeFrom h s depth k)
 
-  module _ (depth k : ℕ) (m : Map) (s : St) (R : Ready placed s (suc depth) k) (counts : Counts depth) where
+  module _ (depth k : ℕ) (m : Map) (s : St) (R : Ready h s (suc depth) k) (counts : Counts depth) where
     abbrev level : ℕ
     level = 3 - suc depth
 
@@ -209,7 +210,7 @@ module _ {h : Handle} (placed : Placed h) where
         go (drops rule says) =
             chunk-not _ _ h s k level m (Drop (m .flags)) rule (if-drop (m .flags)) ∙ sym (takes-write m (suc depth) (m .flags) _ says)
         go (enters rule says) =
-            chunk-table _ _ h s k level m e rule leads ∙ counts e m s (entered-ready placed R i inside r) ∙ ap (takesTable m depth) is-node
+            chunk-table _ _ h s k level m e rule leads ∙ counts e m s (refers-ready placed R r) ∙ ap (takesTable m depth) is-node
             ∙ sym (takes-enter m depth (λ j. slotShows h s depth e j) says)
 
     chunk-needs : needs ≡ takes m (suc depth) (slotShows h s (suc depth) k i)
@@ -236,7 +237,7 @@ module _ {h : Handle} (placed : Placed h) where
       ∙ ap (takes (chunkMap m c p) (suc depth)) (sym (slot-of h s (suc depth) k (entryIndex (3 - suc depth) (c .start .0)))))
 
   -- REFUSAL 9'S COUNT
-  pub needed-is : (depth k : ℕ) (m : Map) (s : St) → Ready placed s depth k
+  pub needed-is : (depth k : ℕ) (m : Map) (s : St) → Ready h s depth k
       → needed depth h s k m ≡ takesTable m depth (treeFrom h s depth k)
   unfolding needed
   needed-is depth k m s R = table-needs depth k m s R

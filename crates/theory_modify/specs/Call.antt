@@ -32,12 +32,13 @@ use Rattle.theory_forest.specs.Tree.{Tree}
 use Rattle.theory_sound.specs.Clauses.{SoundPool}
 use Rattle.theory_sound.specs.Codec.{shaped-placed, rootTree}
 use Rattle.theory_sound.specs.Decide.{decide-sound, sound-decide}
+use Rattle.theory_sound.specs.Step.{Ready, root-ready, worked-ready}
 use Rattle.theory_tree.specs.Modify.{GivenModify, modifyTree, modifyMade}
 use Rattle.theory_tree.specs.Walk.{seen}
 use Rattle.theory_tree.specs.DocumentModify.{document-modifies, document-modify-needs}
 use Rattle.theory_map.specs.Terms.{depthOf, rootIn}
 use Rattle.theory_map.specs.Leaf.{slot-fine}
-use Rattle.theory_map.specs.Moves.{slotShows, Ready, Worked, worked-shaped, worked-pool, root-ready, root-node}
+use Rattle.theory_map.specs.Moves.{slotShows, WorkedWithin, root-node}
 use Rattle.theory_map.specs.Pieces.{Area}
 use Rattle.theory_map.specs.Asked.{Early}
 use Rattle.theory_modify.specs.Terms.{ModifyArguments, modifyAnswer, modifyAccepted, Modifies, editAsked, ModifyPassed, surveyed}
@@ -67,7 +68,7 @@ module _ {h : Handle} {c : ModifyArguments} {s : St} (passed : ModifyPassed h c 
   pub area : Area (depthOf h) (rootIn h) (areaOf e 0)
   area = asked-area h (c .start) (c .end) (c .set) (c .clear) (c .live) (passed .asks) (passed .shape .level)
 
-  pub ready : Ready (shaped-placed (passed .shape)) s (depthOf h) 0
+  pub ready : Ready h s (depthOf h) 0
   ready = root-ready (passed .shape) (passed .pool)
 
   pub given : GivenModify (modifyPagesOf c)
@@ -122,17 +123,17 @@ module _ {h : Handle} {c : ModifyArguments} {s : St} (passed : ModifyPassed h c 
   -- ---- with room
 
   module _ (room : madeByModify h c s ≤ free (s .ledger)) (list : List ℕ) where
-    worked : Worked (shaped-placed (passed .shape)) s (workAfter h c s list .state) (depthOf h) 0
+    worked : WorkedWithin (shaped-placed (passed .shape)) s (workAfter h c s list .state) (depthOf h) 0
         (editTable e (depthOf h) 0 (rootTree h s)) (editTakes e (depthOf h) 0 (rootTree h s))
     worked =
         range-edits (shaped-placed (passed .shape)) (depthOf h) (omega arith) (rootIn h) 0 0 e (work s list 0) bits area ready
         (omega (arith, takes-made))
 
     pub after-shaped : Shaped h (workAfter h c s list .state)
-    after-shaped = worked-shaped (shaped-placed (passed .shape)) ready worked
+    after-shaped = worked-ready ready (worked .worked) .shape
 
     pub after-sound : SoundPool h (workAfter h c s list .state)
-    after-sound = worked-pool (shaped-placed (passed .shape)) ready worked
+    after-sound = worked-ready ready (worked .worked) .pool
 
     pub after-list : numbered (workAfter h c s list .count) (workAfter h c s list .list)
         ≡ putAll (c .live) (numbersOf h c s) (numbered 0 list)
@@ -142,7 +143,7 @@ module _ {h : Handle} {c : ModifyArguments} {s : St} (passed : ModifyPassed h c 
         (omega (arith, takes-made))
 
     pub after-tree : rootTree h (workAfter h c s list .state) ≡ treeAfterModify h c s
-    after-tree = worked .work .tree ∙ done-tree
+    after-tree = worked .worked .work .tree ∙ done-tree
 
 -- ---- what the call answers
 

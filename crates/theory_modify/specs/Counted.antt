@@ -33,6 +33,7 @@ use Rattle.modify_survey.specs.Find.{entry-part}
 use Rattle.theory_forest.specs.Tree.{Tree, leaf, treeAt-node}
 use Rattle.theory_forest.specs.Keep.{slot-leaf}
 use Rattle.theory_sound.specs.Codec.{Placed, codecOf, childOf, slotWord, view, word-in, treeFrom}
+use Rattle.theory_sound.specs.Step.{Ready, refers-ready}
 use Rattle.theory_tree.specs.Page.{child}
 use Rattle.theory_tree.specs.Word.{fillWord}
 use Rattle.theory_tree.specs.Visit.{fillTree, opens-leaf, opens-node}
@@ -42,7 +43,7 @@ use Rattle.theory_tree.specs.Split.{fill-address}
 use Rattle.theory_tree.specs.Needed.{slotTree}
 use Rattle.theory_map.specs.Leaf.{slot-fine}
 use Rattle.theory_map.specs.Stand.{Piece}
-use Rattle.theory_map.specs.Moves.{slotShows, Ready, entered-ready}
+use Rattle.theory_map.specs.Moves.{slotShows}
 use Rattle.theory_map.specs.Pieces.{Area, slotAt, Pieces, pieces}
 use Rattle.theory_map.specs.Need.{slot-fill}
 use Rattle.theory_map.specs.Down.{SlotHolds, holds-table, holds-leaf, holds}
@@ -267,11 +268,11 @@ page-whole q m piece =
 module _ {h : Handle} (placed : Placed h) where
   abbrev Counts : ℕ → Type 0
   Counts depth =
-      (q k p : ℕ) (e : Edit) (s : St) (v : Survey) → Area depth q (areaOf e p) → Ready placed s depth k
+      (q k p : ℕ) (e : Edit) (s : St) (v : Survey) → Area depth q (areaOf e p) → Ready h s depth k
       → surveyRange depth h s k e v .broken ≡ false
       → AddsNumbers v (surveyRange depth h s k e v) (length (tableNumbers (e .set) (e .clear) depth (e .region) (treeFrom h s depth k)))
 
-  chunk-adds : (depth q k : ℕ) (e : Edit) (s : St) → Ready placed s (suc depth) k → Counts depth → (c : MemoryRegion) (p : ℕ) (v : Survey)
+  chunk-adds : (depth q k : ℕ) (e : Edit) (s : St) → Ready h s (suc depth) k → Counts depth → (c : MemoryRegion) (p : ℕ) (v : Survey)
       → Piece (suc depth) q (areaOf (chunkEdit e c) p)
       → let i = entryIndex (3 - suc depth) (c .start .0) in
       let x = surveyChunk (λ j n y. surveyRange depth h s j n y) h s k (3 - suc depth) e c v in
@@ -301,7 +302,7 @@ module _ {h : Handle} (placed : Placed h) where
       go (holds-table j r both leads shows) =
           let is = chunk-table (λ a n y. surveyRange depth h s a n y) h s k (3 - suc depth) e c v j leads in
           let adds = counts q j p (chunkEdit e c) s v (record { inside = piece .inside; room = piece .room })
-          (entered-ready placed R i inside r)
+          (refers-ready placed R r)
           (sym (ap (λ (y : Survey). y .broken) is) ∙ ok) in
           let tree = treeAt-node (childOf (h .base .0)) depth (slotWord s) j in
           let same : numbers (slotShows h s (suc depth) k i) ≡ rec c (treeFrom h s depth j) =

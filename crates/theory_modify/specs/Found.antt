@@ -33,6 +33,7 @@ use Rattle.theory_forest.specs.Tree.{Tree, leaf, node, treeAt-node}
 use Rattle.theory_forest.specs.Walk.{Ends, walkTree}
 use Rattle.theory_forest.specs.Keep.{slot-leaf}
 use Rattle.theory_sound.specs.Codec.{Placed, codecOf, childOf, slotWord, view, word-in, treeFrom}
+use Rattle.theory_sound.specs.Step.{Ready, refers-ready}
 use Rattle.theory_tree.specs.Page.{pagesIn, first, child, child-order, slotOfPage, slot-lt, end-rest, multiple-child, in-of, in-rest}
 use Rattle.theory_tree.specs.Page.{entry-rest}
 use Rattle.theory_tree.specs.Fine.{Fine}
@@ -40,7 +41,7 @@ use Rattle.theory_tree.specs.Shown.{FineTree}
 use Rattle.theory_tree.specs.Chunks.{index-slot}
 use Rattle.theory_map.specs.Leaf.{slot-fine}
 use Rattle.theory_map.specs.Stand.{Piece}
-use Rattle.theory_map.specs.Moves.{slotShows, Ready, entered-ready}
+use Rattle.theory_map.specs.Moves.{slotShows}
 use Rattle.theory_map.specs.Pieces.{Area, slotAt, Pieces, pieces}
 use Rattle.theory_map.specs.Down.{SlotHolds, holds-table, holds-leaf, holds}
 use Rattle.theory_modify.specs.Word.{hole-stays}
@@ -427,7 +428,7 @@ module _ {h : Handle} (placed : Placed h) where
 
   abbrev Scans : ℕ → Type 0
   Scans depth =
-      (q k p : ℕ) (e : Edit) (s : St) (v : Survey) → Area depth q (areaOf e p) → Ready placed s depth k
+      (q k p : ℕ) (e : Edit) (s : St) (v : Survey) → Area depth q (areaOf e p) → Ready h s depth k
       → e .region .start .0 ≤ e .region .end .0
       → Finds (BreaksIn e (suc depth) (treeFrom h s depth k)) (e .region .start .0 / 4096) (e .region .end .0 / 4096) v
       (surveyRange depth h s k e v)
@@ -447,7 +448,7 @@ module _ {h : Handle} (placed : Placed h) where
       (walk-leaf (slotOfPage y) depth w) at)
       (leaf-finds h e c w v depth q p low fine piece)
 
-  chunk-finds : (depth q k : ℕ) (e : Edit) (s : St) → Ready placed s (suc depth) k → Scans depth → (c : MemoryRegion) (p : ℕ) (v : Survey)
+  chunk-finds : (depth q k : ℕ) (e : Edit) (s : St) → Ready h s (suc depth) k → Scans depth → (c : MemoryRegion) (p : ℕ) (v : Survey)
       → Piece (suc depth) q (areaOf (chunkEdit e c) p)
       → ChunkFinds (suc depth) e c (slotShows h s (suc depth) k (entryIndex (3 - suc depth) (c .start .0))) v
       (surveyChunk (λ j n y. surveyRange depth h s j n y) h s k (3 - suc depth) e c v)
@@ -466,7 +467,7 @@ module _ {h : Handle} (placed : Placed h) where
       go (holds-table j r both leads shows) =
           let is = chunk-table (λ a n y. surveyRange depth h s a n y) h s k (3 - suc depth) e c v j leads in
           let found = scans q j p (chunkEdit e c) s v (record { inside = piece .inside; room = piece .room })
-          (entered-ready placed R i inside r) (omega (arith, piece .some)) in
+          (refers-ready placed R r) (omega (arith, piece .some)) in
           let tree : treeFrom h s depth j ≡ slotShows h s (suc depth) k i =
           treeAt-node (childOf (h .base .0)) depth (slotWord s) j ∙ sym shows in
           subst (λ (u : Tree). ChunkFinds (suc depth) e c u v x) tree

@@ -28,6 +28,7 @@ use Rattle.theory_forest.specs.Sound.{TableWord}
 use Rattle.theory_forest.specs.Keep.{slot-leaf}
 use Rattle.theory_sound.specs.Clauses.{levelAt}
 use Rattle.theory_sound.specs.Codec.{Placed, codecOf, childOf, slotWord, view, word-in, treeFrom}
+use Rattle.theory_sound.specs.Step.{Ready, worked-ready}
 use Rattle.theory_tree.specs.Page.{child}
 use Rattle.theory_tree.specs.Visit.{opened, splits}
 use Rattle.theory_tree.specs.Fine.{Fine}
@@ -37,7 +38,7 @@ use Rattle.theory_tree.specs.Needed.{slotTree, tallied, needed, neededTable}
 use Rattle.theory_tree.specs.DocumentModify.{documentModify}
 use Rattle.theory_map.specs.Leaf.{slot-fine}
 use Rattle.theory_map.specs.Stand.{Piece}
-use Rattle.theory_map.specs.Moves.{slotShows, Ready, worked-ready}
+use Rattle.theory_map.specs.Moves.{slotShows}
 use Rattle.theory_map.specs.Pieces.{Area, slotAt, Pieces, pieces}
 use Rattle.theory_map.specs.Down.{SlotHolds, holds-table, holds-leaf, holds, opens}
 use Rattle.theory_map.specs.Loop.{slot-of, through, EachWorks, stepped}
@@ -60,7 +61,7 @@ module _ {h : Handle} (placed : Placed h) where
     -- each chunk puts the numbers of its slot
     abbrev EachPuts : Type 0
     EachPuts =
-        (c : MemoryRegion) (p : ℕ) (x : S) → Piece depth (child q (slotAt depth c)) (chunkMap m c p) → Ready placed (stateOf x) depth k
+        (c : MemoryRegion) (p : ℕ) (x : S) → Piece depth (child q (slotAt depth c)) (chunkMap m c p) → Ready h (stateOf x) depth k
         → let t = slotShows h (stateOf x) depth k (entryIndex (3 - depth) (c .start .0)) in
         count c p t ≤ free (stateOf x .ledger) → notesOf (each c p x) ≡ putAll live (numbers c t) (notesOf x)
 
@@ -74,7 +75,7 @@ module _ {h : Handle} (placed : Placed h) where
 
     loop-puts : depth ≤ 3 → EachWorks placed stateOf each eachTree count depth q k m → EachPuts → (cs : List MemoryRegion) (a p : ℕ) (x : S)
         → Pieces depth q m a p cs
-        → Ready placed (stateOf x) depth k → let t = treeFrom h (stateOf x) depth k in
+        → Ready h (stateOf x) depth k → let t = treeFrom h (stateOf x) depth k in
         tallied depth count cs p t ≤ free (stateOf x .ledger)
         → notesOf (through each cs p x) ≡ putAll live (gathered depth numbers cs t) (notesOf x)
     unfolding through gathered
@@ -97,7 +98,7 @@ module _ {h : Handle} (placed : Placed h) where
   abbrev ofNoted : Noted → Numbered
   ofNoted n = numbered (n .count) (n .list)
 
-  module _ (depth k : ℕ) (e : Edit) (ledger : List ℕ) (c : MemoryRegion) (n : Noted) (R : Ready placed (st (n .words) ledger) depth k) where
+  module _ (depth k : ℕ) (e : Edit) (ledger : List ℕ) (c : MemoryRegion) (n : Noted) (R : Ready h (st (n .words) ledger) depth k) where
     abbrev s : St
     s = st (n .words) ledger
 
@@ -145,7 +146,7 @@ module _ {h : Handle} (placed : Placed h) where
               (numbers-are ∙ number-changed (e .set) (e .clear) c w v (λ q. other (is ∙ q)))
               ∙ put-one (e .live) _ (ofNoted n))
 
-  own-puts : (depth k : ℕ) (e : Edit) (ledger : List ℕ) (c : MemoryRegion) (n : Noted) (R : Ready placed (st (n .words) ledger) depth k)
+  own-puts : (depth k : ℕ) (e : Edit) (ledger : List ℕ) (c : MemoryRegion) (n : Noted) (R : Ready h (st (n .words) ledger) depth k)
       → Puts depth k e ledger c n R
   own-puts zero k e ledger c n R =
       let old : ¬ (TableWord (levelAt (st (n .words) ledger) k) (w 0 k e ledger c n R)) = λ table. omega (arith, R .low, table .0) in
@@ -164,7 +165,7 @@ module _ {h : Handle} (placed : Placed h) where
   ofWork w = numbered (w .count) (w .list)
 
   own-pass-puts : (depth q k p : ℕ) (e : Edit) (w : Work) → depth ≤ 3 → Bits h e → Area depth q (areaOf e p)
-      → Ready placed (w .state) depth k
+      → Ready h (w .state) depth k
       → ofWork (ownWork k (3 - depth) e w)
       ≡ putAll (e .live)
       (gathered depth (leafNumbers (e .set) (e .clear)) (chunks (3 - depth) (e .region .start .0) (e .region .end .0))
@@ -187,14 +188,14 @@ module _ {h : Handle} (placed : Placed h) where
 
   abbrev pub Lists : ℕ → Type 0
   Lists depth =
-      (q k p : ℕ) (e : Edit) (w : Work) → Bits h e → Area depth q (areaOf e p) → Ready placed (w .state) depth k
+      (q k p : ℕ) (e : Edit) (w : Work) → Bits h e → Area depth q (areaOf e p) → Ready h (w .state) depth k
       → let t = treeFrom h (w .state) depth k in
       editTakes e depth p t ≤ free (w .state .ledger)
       → ofWork (modifyRange depth h k e w) ≡ putAll (e .live) (tableNumbers (e .set) (e .clear) depth (e .region) t) (ofWork w)
 
   module _ (depth q k : ℕ) (e : Edit) (bits : Bits h e) (edits : Edits placed depth) (lists : Lists depth) (c : MemoryRegion) (p : ℕ)
       (x : Work)
-      (piece : Piece (suc depth) q (areaOf (chunkEdit e c) p)) (R : Ready placed (x .state) (suc depth) k) where
+      (piece : Piece (suc depth) q (areaOf (chunkEdit e c) p)) (R : Ready h (x .state) (suc depth) k) where
     abbrev level : ℕ
     level = 3 - suc depth
 
@@ -262,7 +263,7 @@ module _ {h : Handle} (placed : Placed h) where
 
   down-pass-puts : (depth q k p : ℕ) (e : Edit) (w : Work) → suc depth ≤ 3 → Edits placed depth → Lists depth → Bits h e
       → Area (suc depth) q (areaOf e p)
-      → Ready placed (w .state) (suc depth) k → let t = treeFrom h (w .state) (suc depth) k in
+      → Ready h (w .state) (suc depth) k → let t = treeFrom h (w .state) (suc depth) k in
       let cs = chunks (3 - suc depth) (e .region .start .0) (e .region .end .0) in
       editTakes e (suc depth) p t ≤ free (w .state .ledger)
       → ofWork (eachChunk (3 - suc depth) (downStep h k (3 - suc depth) e) (e .region) w)
@@ -312,13 +313,13 @@ module _ {h : Handle} (placed : Placed h) where
       let after : gathered (suc depth) (leafNumbers (e .set) (e .clear)) cs (treeFrom h (mid .state) (suc depth) k)
       ≡ gathered (suc depth) (ownNumbers (e .set) (e .clear) (suc depth)) cs t =
       ap (gathered (suc depth) (leafNumbers (e .set) (e .clear)) cs)
-      (D .work .tree ∙ ap (sweep (suc depth) (downTo (e .set) (e .clear) depth) cs p) is)
+      (D .worked .work .tree ∙ ap (sweep (suc depth) (downTo (e .set) (e .clear) depth) cs p) is)
       ∙ gathered-after (suc depth) q (areaOf e p) low (downTo (e .set) (e .clear) depth) (leafNumbers (e .set) (e .clear))
       (ownNumbers (e .set) (e .clear) (suc depth))
       (leaf-after (e .set) (e .clear) depth) cs 0 p _ all
       ∙ ap (gathered (suc depth) (ownNumbers (e .set) (e .clear) (suc depth)) cs) (sym is) in
       ap ofWork (sym whole)
-      ∙ own-pass-puts (suc depth) q k p e mid low bits area (worked-ready placed R D)
+      ∙ own-pass-puts (suc depth) q k p e mid low bits area (worked-ready R (D .worked))
       ∙ ap₂ (putAll (e .live)) after (down-pass-puts depth q k p e w low edits lists bits area R room)
       ∙ sym (put-append (e .live) lower (gathered (suc depth) (ownNumbers (e .set) (e .clear) (suc depth)) cs t) (ofWork w))
 

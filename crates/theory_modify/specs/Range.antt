@@ -28,7 +28,7 @@ use Rattle.theory_forest.specs.Sound.{TableWord}
 use Rattle.theory_forest.specs.Keep.{slot-leaf}
 use Rattle.theory_sound.specs.Clauses.{levelAt}
 use Rattle.theory_sound.specs.Codec.{Placed, codecOf, view, word-in, treeFrom}
-use Rattle.theory_sound.specs.Step.{Stands}
+use Rattle.theory_sound.specs.Step.{Stands, Ready, worked-ready}
 use Rattle.theory_tree.specs.Page.{child}
 use Rattle.theory_tree.specs.Visit.{opened, splits}
 use Rattle.theory_tree.specs.Fine.{Fine}
@@ -38,7 +38,7 @@ use Rattle.theory_tree.specs.Needed.{tallied, needed, neededTable}
 use Rattle.theory_tree.specs.DocumentModify.{documentModify}
 use Rattle.theory_map.specs.Leaf.{slot-fine, leaf-from}
 use Rattle.theory_map.specs.Stand.{Piece}
-use Rattle.theory_map.specs.Moves.{slotShows, Ready, Slotted, Worked, kept, stored, worked-ready, worked-twice}
+use Rattle.theory_map.specs.Moves.{slotShows, StepWithin, WorkedWithin, kept, stored, worked-twice}
 use Rattle.theory_map.specs.Pieces.{Area, slotAt, pieces}
 use Rattle.theory_map.specs.Down.{SlotHolds, holds-table, holds-leaf, Opens, holds, opens}
 use Rattle.theory_map.specs.Loop.{through, loop}
@@ -79,7 +79,7 @@ module _ {h : Handle} (placed : Placed h) where
   -- ---- a table's own entries
 
   module _ (depth k : ℕ) (e : Edit) (ledger : List ℕ) (bits : Bits h e) (c : MemoryRegion) (n : Noted)
-      (R : Ready placed (st (n .words) ledger) depth k) where
+      (R : Ready h (st (n .words) ledger) depth k) where
     abbrev s : St
     s = st (n .words) ledger
 
@@ -96,14 +96,14 @@ module _ {h : Handle} (placed : Placed h) where
     t = slotShows h s depth k i
 
     abbrev Goal : Type 0
-    Goal = Slotted placed s (st (ownChunk k (3 - depth) e c n .words) ledger) depth k i (ownTo (e .set) (e .clear) t) 0
+    Goal = StepWithin placed s (st (ownChunk k (3 - depth) e c n .words) ledger) depth k i (ownTo (e .set) (e .clear) t) 0
 
     inside : i < 512
     inside = slot-below (3 - depth) (c .start .0)
 
     stays : new ≡ w → ownTo (e .set) (e .clear) t ≡ t → Goal
     stays same tree =
-        subst₂ (λ (x : Noted) (u : Tree). Slotted placed s (st (x .words) ledger) depth k i u 0)
+        subst₂ (λ (x : Noted) (u : Tree). StepWithin placed s (st (x .words) ledger) depth k i u 0)
         (own-same k (3 - depth) e c n refl refl same) (sym tree) (kept placed R i 0)
 
     -- a leaf
@@ -124,7 +124,7 @@ module _ {h : Handle} (placed : Placed h) where
           go (inl same) = stays same (tree ∙ ap leaf same ∙ sym shows)
           go (inr other) =
               let l : Numbered = putNumber (e .live) _ (n .count) (n .list) in
-              subst₂ (λ (x : Noted) (u : Tree). Slotted placed s (st (x .words) ledger) depth k i u 0)
+              subst₂ (λ (x : Noted) (u : Tree). StepWithin placed s (st (x .words) ledger) depth k i u 0)
               (own-changed k (3 - depth) e c n refl refl other refl {count = l .count} {list = l .list} refl) (sym tree)
               (stored placed R i 0 new inside old
               (subst (Stands h (levelAt s k)) (sym is)
@@ -135,7 +135,7 @@ module _ {h : Handle} (placed : Placed h) where
           (λ v. stays (hole-stays e w (3 - depth) v) (ap (ownTo (e .set) (e .clear)) shows ∙ own-hole (e .set) (e .clear) w v ∙ sym shows))
 
   pub own-works : (depth k : ℕ) (e : Edit) (ledger : List ℕ) (bits : Bits h e) (c : MemoryRegion) (n : Noted)
-      (R : Ready placed (st (n .words) ledger) depth k)
+      (R : Ready h (st (n .words) ledger) depth k)
       → Goal depth k e ledger bits c n R
   own-works zero k e ledger bits c n R =
       let old : ¬ (TableWord (levelAt (st (n .words) ledger) k) (w 0 k e ledger bits c n R)) = λ table. omega (arith, R .low, table .0) in
@@ -151,8 +151,8 @@ module _ {h : Handle} (placed : Placed h) where
           (ap (ownTo (e .set) (e .clear)) shows ∙ own-node (e .set) (e .clear) _ ∙ sym shows)
       go (holds-leaf old other shows) = leaf-works (suc depth) k e ledger bits c n R old shows
 
-  own-pass : (depth q k p : ℕ) (e : Edit) (w : Work) → depth ≤ 3 → Bits h e → Area depth q (areaOf e p) → Ready placed (w .state) depth k
-      → Worked placed (w .state) (ownWork k (3 - depth) e w .state) depth k
+  own-pass : (depth q k p : ℕ) (e : Edit) (w : Work) → depth ≤ 3 → Bits h e → Area depth q (areaOf e p) → Ready h (w .state) depth k
+      → WorkedWithin placed (w .state) (ownWork k (3 - depth) e w .state) depth k
       (sweep depth (λ c x u. ownTo (e .set) (e .clear) u) (chunks (3 - depth) (e .region .start .0) (e .region .end .0)) p
       (treeFrom h (w .state) depth k)) 0
   unfolding ownWork ownRange
@@ -167,7 +167,7 @@ module _ {h : Handle} (placed : Placed h) where
       (pieces depth q (areaOf e p) low p (e .region) area) R
       (omega arith) in
       subst₂
-      (λ (x : Noted) (cost : ℕ). Worked placed (w .state) (st (x .words) (w .state .ledger)) depth k
+      (λ (x : Noted) (cost : ℕ). WorkedWithin placed (w .state) (st (x .words) (w .state .ledger)) depth k
       (sweep depth (λ c y u. ownTo (e .set) (e .clear) u) cs p t) cost)
       (through-chunks (3 - depth) (ownChunk k (3 - depth) e) (e .region) p n) none W
 
@@ -176,14 +176,14 @@ module _ {h : Handle} (placed : Placed h) where
   -- a modify of a table with `depth` levels below its own does on lists what it does on the table's tree
   abbrev pub Edits : ℕ → Type 0
   Edits depth =
-      (q k p : ℕ) (e : Edit) (w : Work) → Bits h e → Area depth q (areaOf e p) → Ready placed (w .state) depth k
+      (q k p : ℕ) (e : Edit) (w : Work) → Bits h e → Area depth q (areaOf e p) → Ready h (w .state) depth k
       → let t = treeFrom h (w .state) depth k in
       editTakes e depth p t ≤ free (w .state .ledger)
-      → Worked placed (w .state) (modifyRange depth h k e w .state) depth k (editTable e depth p t) (editTakes e depth p t)
+      → WorkedWithin placed (w .state) (modifyRange depth h k e w .state) depth k (editTable e depth p t) (editTakes e depth p t)
 
   module _ (depth q k : ℕ) (e : Edit) (bits : Bits h e) (edits : Edits depth) (c : MemoryRegion) (p : ℕ) (x : Work)
       (piece : Piece (suc depth) q (areaOf (chunkEdit e c) p))
-      (R : Ready placed (x .state) (suc depth) k) where
+      (R : Ready h (x .state) (suc depth) k) where
     abbrev level : ℕ
     level = 3 - suc depth
 
@@ -200,7 +200,7 @@ module _ {h : Handle} (placed : Placed h) where
     count v = needed (documentModify (e .set) (e .clear)) (suc depth) c p v
 
     abbrev Down : Type 0
-    Down = Slotted placed (x .state) (downStep h k level e c x .state) (suc depth) k j (downTo (e .set) (e .clear) depth c p u) (count u)
+    Down = StepWithin placed (x .state) (downStep h k level e c x .state) (suc depth) k j (downTo (e .set) (e .clear) depth c p u) (count u)
 
     slot : j < 512
     slot = slot-below level (c .start .0)
@@ -223,12 +223,12 @@ module _ {h : Handle} (placed : Placed h) where
         let W = edits q (O .table) p (chunkEdit e c) w (record { set = bits .set; clear = bits .clear })
         (record { inside = piece .inside; room = piece .room }) (O .ready)
         (subst (λ (v : Tree). editTakes (chunkEdit e c) depth p v ≤ free (O .state .ledger)) (sym (O .shows)) (omega arith)) in
-        let W′ = subst (λ (v : Tree). Worked placed (O .state) (modifyRange depth h (O .table) (chunkEdit e c) w .state) depth (O .table)
+        let W′ = subst (λ (v : Tree). WorkedWithin placed (O .state) (modifyRange depth h (O .table) (chunkEdit e c) w .state) depth (O .table)
         (editTable (chunkEdit e c) depth p v) (editTakes (chunkEdit e c) depth p v)) (O .shows) W in
-        subst (λ (z : Work). Slotted placed (x .state) (z .state) (suc depth) k j (downTo (e .set) (e .clear) depth c p u) (count u))
+        subst (λ (z : Work). StepWithin placed (x .state) (z .state) (suc depth) k j (downTo (e .set) (e .clear) depth c p u) (count u))
         (goes-down O goes)
         (subst₂
-        (λ (v : Tree) (n : ℕ). Slotted placed (x .state) (modifyRange depth h (O .table) (chunkEdit e c) w .state) (suc depth) k j v n)
+        (λ (v : Tree) (n : ℕ). StepWithin placed (x .state) (modifyRange depth h (O .table) (chunkEdit e c) w .state) (suc depth) k j v n)
         (sym tree) (sym all) (O .back W′))
 
     pub down-works : count u ≤ free (x .state .ledger) → Down
@@ -249,7 +249,7 @@ module _ {h : Handle} (placed : Placed h) where
             (ap count shows ∙ takes-into set clear depth c p _
             ∙ sym (ap (λ (v : Tree). splits v + editTakes (chunkEdit e c) depth p (opened depth v)) shows))
         go (holds-leaf old other shows) = byBool (whole level c)
-            (λ all. subst₂ (λ (z : Work) (v : Tree). Slotted placed (x .state) (z .state) (suc depth) k j v (count u))
+            (λ all. subst₂ (λ (z : Work) (v : Tree). StepWithin placed (x .state) (z .state) (suc depth) k j v (count u))
             (step-own h k level e c x refl (sym (own-leaf level c y other) ∙ all))
             (shows ∙ sym (ap (downTo set clear depth c p) shows ∙ down-whole set clear depth c p y all))
             (kept placed R j (count u)))
@@ -262,10 +262,10 @@ module _ {h : Handle} (placed : Placed h) where
   -- ---- a table
 
   pub down-pass : (depth q k p : ℕ) (e : Edit) (w : Work) → suc depth ≤ 3 → Edits depth → Bits h e → Area (suc depth) q (areaOf e p)
-      → Ready placed (w .state) (suc depth) k
+      → Ready h (w .state) (suc depth) k
       → let t = treeFrom h (w .state) (suc depth) k in let cs = chunks (3 - suc depth) (e .region .start .0) (e .region .end .0) in
       editTakes e (suc depth) p t ≤ free (w .state .ledger)
-      → Worked placed (w .state) (eachChunk (3 - suc depth) (downStep h k (3 - suc depth) e) (e .region) w .state) (suc depth) k
+      → WorkedWithin placed (w .state) (eachChunk (3 - suc depth) (downStep h k (3 - suc depth) e) (e .region) w .state) (suc depth) k
       (sweep (suc depth) (downTo (e .set) (e .clear) depth) cs p t) (editTakes e (suc depth) p t)
   unfolding neededTable
   down-pass depth q k p e w low edits bits area R room =
@@ -277,7 +277,7 @@ module _ {h : Handle} (placed : Placed h) where
       (record { inside = piece .inside; some = piece .some; room = piece .room }) ready enough)
       cs 0 p w (pieces (suc depth) q (areaOf e p) low p (e .region) area) R room in
       subst
-      (λ (x : Work). Worked placed (w .state) (x .state) (suc depth) k (sweep (suc depth) (downTo (e .set) (e .clear) depth) cs p t)
+      (λ (x : Work). WorkedWithin placed (w .state) (x .state) (suc depth) k (sweep (suc depth) (downTo (e .set) (e .clear) depth) cs p t)
       (editTakes e (suc depth) p t))
       (through-chunks (3 - suc depth) (downStep h k (3 - suc depth) e) (e .region) p w) W
 
@@ -286,10 +286,10 @@ module _ {h : Handle} (placed : Placed h) where
   edits-pages q k p e w bits area R room =
       let t : Tree = treeFrom h (w .state) 0 k in
       let W = own-pass 0 q k p e w (omega arith) bits area R in
-      let W′ = subst₂ (λ (x : Work) (v : Tree). Worked placed (w .state) (x .state) 0 k v 0)
+      let W′ = subst₂ (λ (x : Work) (v : Tree). WorkedWithin placed (w .state) (x .state) 0 k v 0)
       (modify-pages h k 3 e w (omega arith) (omega arith))
       (pages-pass (e .set) (e .clear) (e .region) p t) W in
-      record { work = W′ .work; same-tables = W′ .same-tables; same-words = W′ .same-words; spare = omega (arith, W′ .spare) }
+      record { worked = W′ .worked; spare = omega (arith, W′ .spare) }
 
   edits-up : (depth : ℕ) → suc depth ≤ 3 → Edits depth → Edits (suc depth)
   edits-up depth low edits q k p e w bits area R room =
@@ -297,18 +297,18 @@ module _ {h : Handle} (placed : Placed h) where
       let t : Tree = treeFrom h (w .state) (suc depth) k in
       let mid : Work = eachChunk level (downStep h k level e) (e .region) w in
       let D = down-pass depth q k p e w low edits bits area R room in
-      let W = own-pass (suc depth) q k p e mid low bits area (worked-ready placed R D) in
+      let W = own-pass (suc depth) q k p e mid low bits area (worked-ready R (D .worked)) in
       let cs : List MemoryRegion = chunks level (e .region .start .0) (e .region .end .0) in
       let all = pieces (suc depth) q (areaOf e p) low p (e .region) area in
-      let tree = ap (sweep (suc depth) (λ c x u. ownTo (e .set) (e .clear) u) cs p) (D .work .tree)
+      let tree = ap (sweep (suc depth) (λ c x u. ownTo (e .set) (e .clear) u) cs p) (D .worked .work .tree)
       ∙ two-passes (e .set) (e .clear) (e .region) p t depth q (areaOf e p) low all in
       let up : 3 - level ≡ suc depth = omega arith in
       let is : ownWork k level e mid ≡ modifyRange (suc depth) h k e w =
       modify-open h k level e w (omega arith) ∙ ap (λ (d : ℕ). modifyRange d h k e w) up in
       let V′ = worked-twice placed R D W in
       let cost : editTakes e (suc depth) p t + 0 ≡ editTakes e (suc depth) p t = omega arith in
-      subst (λ (x : Work). Worked placed (w .state) (x .state) (suc depth) k (editTable e (suc depth) p t) (editTakes e (suc depth) p t)) is
-      (subst₂ (λ (v : Tree) (n : ℕ). Worked placed (w .state) (ownWork k level e mid .state) (suc depth) k v n) tree cost V′)
+      subst (λ (x : Work). WorkedWithin placed (w .state) (x .state) (suc depth) k (editTable e (suc depth) p t) (editTakes e (suc depth) p t)) is
+      (subst₂ (λ (v : Tree) (n : ℕ). WorkedWithin placed (w .state) (ownWork k level e mid .state) (suc depth) k v n) tree cost V′)
 
   -- A MODIFY OF A TABLE
   pub range-edits : (depth : ℕ) → depth ≤ 3 → Edits depth

@@ -27,12 +27,13 @@ use Rattle.modify_survey.specs.Find.{adding, splitsIn, breach, ifBlock, surveyP
 use Rattle.modify_survey.specs.Find.{surveyRange, entry-whole, entry-part}
 use Rattle.theory_forest.specs.Tree.{Tree, leaf, node, treeAt-node}
 use Rattle.theory_sound.specs.Codec.{Placed, childOf, slotWord, treeFrom}
+use Rattle.theory_sound.specs.Step.{Ready, refers-ready}
 use Rattle.theory_tree.specs.Word.{fillWord}
 use Rattle.theory_tree.specs.Visit.{opened, splits, counted, fillTree}
 use Rattle.theory_tree.specs.Needed.{slotTree, tallied, needed, neededTable}
 use Rattle.theory_tree.specs.Modify.{editRule}
 use Rattle.theory_tree.specs.DocumentModify.{documentModify}
-use Rattle.theory_map.specs.Moves.{slotShows, Ready, entered-ready}
+use Rattle.theory_map.specs.Moves.{slotShows}
 use Rattle.theory_map.specs.Need.{slot-fill}
 use Rattle.theory_map.specs.Down.{SlotHolds, holds-table, holds-leaf, holds}
 use Rattle.theory_map.specs.Loop.{slot-of}
@@ -183,10 +184,10 @@ module _ (rec : ℕ → Edit → Survey → Survey) (h : Handle) (s : St) (k lev
 
 module _ {h : Handle} (placed : Placed h) where
   abbrev Counts : ℕ → Type 0
-  Counts depth = (k p : ℕ) (e : Edit) (s : St) (v : Survey) → Ready placed s depth k
+  Counts depth = (k p : ℕ) (e : Edit) (s : St) (v : Survey) → Ready h s depth k
       → surveyRange depth h s k e v .splits ≡ v .splits + editTakes e depth p (treeFrom h s depth k)
 
-  chunk-takes : (depth k : ℕ) (e : Edit) (s : St) → Ready placed s (suc depth) k → Counts depth → (c : MemoryRegion) (p : ℕ) (v : Survey)
+  chunk-takes : (depth k : ℕ) (e : Edit) (s : St) → Ready h s (suc depth) k → Counts depth → (c : MemoryRegion) (p : ℕ) (v : Survey)
       → surveyChunk (λ j n x. surveyRange depth h s j n x) h s k (3 - suc depth) e c v .splits
       ≡ v .splits
       + needed (documentModify (e .set) (e .clear)) (suc depth) c p (slotShows h s (suc depth) k (entryIndex (3 - suc depth) (c .start .0)))
@@ -208,7 +209,7 @@ module _ {h : Handle} (placed : Placed h) where
           → surveyChunk rec h s k (3 - suc depth) e c v .splits ≡ v .splits + count (slotShows h s (suc depth) k i)
       go (holds-table j r both leads shows) =
           ap (λ (x : Survey). x .splits) (chunk-table rec h s k (3 - suc depth) e c v j leads)
-          ∙ counts j p (chunkEdit e c) s v (entered-ready placed R i inside r)
+          ∙ counts j p (chunkEdit e c) s v (refers-ready placed R r)
           ∙ ap (λ (n : ℕ). v .splits + n) (ap (editTakes (chunkEdit e c) depth p) (treeAt-node (childOf (h .base .0)) depth (slotWord s) j)
           ∙ sym (takes-enter (e .set) (e .clear) depth c p _) ∙ ap count (sym shows))
       go (holds-leaf old other shows) =

@@ -1,12 +1,12 @@
 -- Compact of a table of a sound pool does on lists what it does on the table's tree.
 use mathlib.Core.Path.{_≡_, refl, sym, ap, _∙_, subst}
-use mathlib.Core.Logic.{_⊎_, inl, inr, _≢_}
-use Prim.Native.Nat.{ℕ, zero, suc, _-_, _%_, _≤_, _<_}
+use Prim.Native.Nat.{ℕ, zero, suc, _-_, _≤_, _<_}
 use native.Mathlib.Omega.{arith}
 use Rattle.laws.specs.Slot.{iter}
-use Rattle.laws.specs.Test.{byBool, eq-or}
-use Rattle.entry.specs.Sub.{sub-leaf, sub-link}
-use Rattle.pool.specs.State.{St, tables, wordAt, storeAt, used-in}
+use Rattle.laws.specs.Test.{byBool}
+use Rattle.entry.specs.Sub.{subOf}
+use Rattle.entry.specs.declared.Sub.the-variants.{Table}
+use Rattle.pool.specs.State.{St, tables, wordAt, storeAt}
 use Rattle.pool.specs.declared.Handle.{Handle}
 use Rattle.pool_table.specs.Table.{clear}
 use Rattle.theory_forest.specs.Tree.{Tree}
@@ -16,31 +16,16 @@ use Rattle.theory_forest.specs.Frame.{slotTree}
 use Rattle.theory_forest.specs.Place.{below-self, over-refers}
 use Rattle.theory_forest.specs.Move.{Runs, work-skip, runs-zero, runs-suc, runs-work}
 use Rattle.theory_forest.specs.Compact.{squash, compactTree, compact-leaf, compact-keep, compact-drop}
-use Rattle.theory_sound.specs.Codec.{Placed, codecOf, slotWord, view, word-in, treeFrom}
+use Rattle.theory_sound.specs.Codec.{Placed, codecOf, view, treeFrom}
 use Rattle.theory_sound.specs.Clauses.{InUse, SoundPool}
 use Rattle.theory_sound.specs.Generic.{pool-sound}
 use Rattle.theory_sound.specs.Lists.{TableInside, SameSize, size-refl, size-trans, store-size, clear-size}
-use Rattle.theory_sound.specs.Step.{used-inside, Ready, refers-ready, Step, Worked, pool-again, ready-again}
+use Rattle.theory_sound.specs.Step.{not-table, used-inside, Ready, refers-ready, Step, Worked, pool-again, ready-again}
+use Rattle.theory_sound.specs.Slot.{HoldsLeaf, SlotHolds, holds-table, holds-leaf, holds}
 use Rattle.theory_sound.specs.Store.{cleared}
 use Rattle.compact_spec.specs.Compact.{allZero, tableWords, releaseEmpty, compactEntry, compactTable, release-kept, release-freed}
 use Rattle.compact_spec.specs.Compact.{entry-table, entry-leaf}
 use Rattle.theory_compact.specs.Empty.{empty-is}
-
--- what one entry's step comes to, whatever is done one level down
-module _ {h : Handle} (rec : ℕ → St → St) (s : St) (depth k i : ℕ) (R : Ready h s (suc depth) k) (inside : i < 512) where
-  -- the slot refers to no table
-  pub entry-none : slotWord s k i % 4 ≢ 3 → s ≡ compactEntry rec h k (3 - suc depth) i s
-  entry-none other = entry-leaf rec h k (3 - suc depth) i s refl
-      (sym
-      (sub-leaf (h .base .0) (tables s) (3 - suc depth) (wordAt s k i)
-      (λ table. other (ap (λ (w : ℕ). w % 4) (word-in s k i inside) ∙ table .1))))
-
-  -- it refers to table c
-  pub entry-some : (placed : Placed h) (c : ℕ) → Refers (codecOf h placed) (view s) k i c
-      → releaseEmpty k i c (rec c s) ≡ compactEntry rec h k (3 - suc depth) i s
-  entry-some placed c r = entry-table rec h k (3 - suc depth) i s refl c
-      (rw (sym (word-in s k i inside) ∙ r .says)
-      (sub-link (h .base .0) (tables s) c (3 - suc depth) (omega arith) (R .shape .paged) (R .shape .ended) (used-in s c (r .used))))
 
 module _ {h : Handle} (placed : Placed h) where
   abbrev C : Codec
@@ -71,16 +56,16 @@ module _ {h : Handle} (placed : Placed h) where
       S = pool-sound placed (R .pool)
 
       -- the slot refers to no table
-      entry-plain : slotWord s k i % 4 ≢ 3 → Goal (step k i s)
-      entry-plain other =
-          subst Goal (entry-none rec s depth k i R inside other)
+      entry-plain : HoldsLeaf h s (suc depth) k i → Goal (step k i s)
+      entry-plain holds =
+          subst Goal (entry-leaf rec h k (3 - suc depth) i s refl (holds .leads))
           (record {
-            move = compact-leaf S (λ u. compactTree depth u) depth (R .low) (λ table. other (table .1));
+            move = compact-leaf S (λ u. compactTree depth u) depth (R .low) (not-table placed s k i inside (holds .plain));
             size = size-refl;
           })
 
       -- it refers to table c: that is compacted, and freed if that leaves it empty
-      module _ (c : ℕ) (r : Refers C (view s) k i c) where
+      module _ (c : ℕ) (r : Refers C (view s) k i c) (leads : subOf (h .base .0) (tables s) (3 - suc depth) (wordAt s k i) ≡ Table c) where
         abbrev after : St
         after = compactTable depth h c s
 
@@ -88,7 +73,7 @@ module _ {h : Handle} (placed : Placed h) where
         worked = below s c (refers-ready placed R r)
 
         goes : releaseEmpty k i c after ≡ step k i s
-        goes = entry-some rec s depth k i R inside placed c r
+        goes = entry-table rec h k (3 - suc depth) i s refl c leads
 
         pool : SoundPool h after
         pool = pool-again (worked .size) placed (R .pool) (worked .work .over .sound)
@@ -122,11 +107,11 @@ module _ {h : Handle} (placed : Placed h) where
             }))
 
       entry-moves : Goal (step k i s)
-      entry-moves = go (eq-or (slotWord s k i % 4) 3)
+      entry-moves = go (holds placed R i inside)
         where
-          go : (slotWord s k i % 4 ≡ 3) ⊎ (slotWord s k i % 4 ≢ 3) → Goal (step k i s)
-          go (inl both) = let to = S .names k i (R .used) (omega (arith, R .low), both) in entry-refers (to .0) (to .1)
-          go (inr other) = entry-plain other
+          go : SlotHolds placed s depth k i → Goal (step k i s)
+          go (holds-table c r both leads shows) = entry-refers c r leads
+          go (holds-leaf other plain) = entry-plain plain
 
     -- ---- the first n entries
 

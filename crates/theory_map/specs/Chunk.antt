@@ -21,19 +21,19 @@ use Rattle.map_put.specs.Put.{mapRange}
 use Rattle.map_put.specs.Laws.{drop-table}
 use Rattle.map_put.specs.Range.{mapStep, chunk-write, chunk-keep, chunk-drop, chunk-into}
 use Rattle.theory_forest.specs.Tree.{Tree, leaf, node}
-use Rattle.theory_forest.specs.Sound.{TableWord, Refers}
-use Rattle.theory_forest.specs.Keep.{slot-leaf}
+use Rattle.theory_forest.specs.Sound.{Refers}
 use Rattle.theory_sound.specs.Clauses.{levelAt}
-use Rattle.theory_sound.specs.Codec.{Placed, codecOf, view, word-in, treeFrom}
+use Rattle.theory_sound.specs.Codec.{Placed, codecOf, view, treeFrom}
 use Rattle.theory_sound.specs.Step.{Ready}
+use Rattle.theory_sound.specs.Slot.{slotShows, HoldsLeaf, page-holds, SlotHolds, holds-table, holds-leaf, holds}
 use Rattle.theory_tree.specs.Visit.{down as goDown, opened, splits, fillTree}
 use Rattle.theory_tree.specs.Shown.{FineTree}
-use Rattle.theory_map.specs.Leaf.{slot-fine}
+use Rattle.theory_map.specs.Leaf.{slot-fine, holds-fine}
 use Rattle.theory_map.specs.Rule.{saysOf, LeafRule, keeps, writes, splits as leaf-splits, TableRule, drops, enters, page-rule}
 use Rattle.theory_map.specs.Rule.{leaf-rule, table-rule}
 use Rattle.theory_map.specs.Stand.{Allowed, Piece, write-stands}
-use Rattle.theory_map.specs.Moves.{slotShows, StepWithin, WorkedWithin, kept, stored, dropped}
-use Rattle.theory_map.specs.Down.{SlotHolds, holds-table, holds-leaf, holds, opens}
+use Rattle.theory_map.specs.Moves.{StepWithin, WorkedWithin, kept, stored, dropped}
+use Rattle.theory_map.specs.Down.{opens}
 use Rattle.theory_map.specs.Pieces.{doneTo, takes, doneTable, takesTable, done-keep, done-write, done-down, takes-down, Area}
 use Rattle.theory_map.specs.Pieces.{piece-area}
 
@@ -76,25 +76,19 @@ module _ {h : Handle} (placed : Placed h) where
     inside : i < 512
     inside = slot-below level (m .region .start .0)
 
-    fine : FineTree depth (slotShows h s depth k i)
-    fine = slot-fine placed (R .pool) depth k i (R .used) (R .low) inside
-
     -- ---- the slot holds no table
 
-    module _ (old : ¬ (TableWord (levelAt s k) w)) where
-      shows-leaf : slotShows h s depth k i ≡ leaf w
-      shows-leaf = slot-leaf (codecOf h placed) (view s) depth k i (R .low) (word-in s k i inside) old
-
+    module _ (plain : HoldsLeaf h s depth k i) where
       by-leaf : LeafRule level m depth w → (ruleOf level m w ≡ Down → saysOf m depth (leaf w) ≡ goDown → Done (leaf w)) → Done (leaf w)
       by-leaf (keeps r e) down =
           subst₂ (λ (s′ : St) (t : Tree). StepWithin placed s s′ depth k i t (takes m depth (leaf w)))
-          (chunk-keep h k level m s refl refl r) (shows-leaf ∙ sym (done-keep m depth (leaf w) e))
+          (chunk-keep h k level m s refl refl r) (plain .shows ∙ sym (done-keep m depth (leaf w) e))
           (kept placed R i (takes m depth (leaf w)))
       by-leaf (writes x r e) down =
           subst₂ (λ (s′ : St) (t : Tree). StepWithin placed s s′ depth k i t (takes m depth (leaf w)))
           (chunk-write h k level m s refl refl x r) (sym (done-write m depth x (leaf w) e))
-          (stored placed R i (takes m depth (leaf w)) x inside old
-          (write-stands h depth q (levelAt s k) x m (leaf w) allowed piece (R .low) (subst (FineTree depth) shows-leaf fine) e))
+          (stored placed R i (takes m depth (leaf w)) x inside (plain .plain)
+          (write-stands h depth q (levelAt s k) x m (leaf w) allowed piece (R .low) (holds-fine placed R i inside plain) e))
       by-leaf (leaf-splits r e) down = down r e
 
   -- ---- above the lowest level
@@ -155,7 +149,7 @@ module _ {h : Handle} (placed : Placed h) where
           → takes m (suc depth) (slotShows h s (suc depth) k j) ≤ free (s .ledger)
           → Goal (slotShows h s (suc depth) k j)
       by-table shows (drops rule says) room =
-          let fine = subst (FineTree (suc depth)) shows (slot-fine placed (R .pool) (suc depth) k j (R .used) (R .low) slot) in
+          let fine = subst (FineTree (suc depth)) shows (slot-fine placed R j slot) in
           let put : freeTree depth h e (storeAt k j (m .flags) s) ≡ mapStep h k l m s =
           ap (λ (d : ℕ). freeTree d h e (storeAt k j (m .flags) s)) (sym last)
           ∙ drop-table h l x (storeAt k j (m .flags) s) refl e leads
@@ -173,8 +167,9 @@ module _ {h : Handle} (placed : Placed h) where
         go : SlotHolds placed s depth k j → Goal (slotShows h s (suc depth) k j)
         go (holds-table e r both leads shows) =
             by-table e r leads shows (table-rule m depth x (omega (arith, R .low)) (λ i. slotShows h s depth e i) both) room
-        go (holds-leaf old other shows) =
-            subst Goal (sym shows) (by-leaf q k m s (suc depth) allowed piece R old (leaf-rule m depth x (omega (arith, R .low)) other)
+        go (holds-leaf other plain) =
+            let shows = plain .shows in
+            subst Goal (sym shows) (by-leaf q k m s (suc depth) allowed piece R plain (leaf-rule m depth x (omega (arith, R .low)) other)
             (λ r e. subst Goal shows (by-down room r (ap (saysOf m (suc depth)) shows ∙ e))))
 
   -- ---- ONE CHUNK
@@ -191,9 +186,9 @@ module _ {h : Handle} (placed : Placed h) where
   pub page-works : ChunkWorks 0
   page-works q k m s allowed piece R room =
       let x : ℕ = wordAt s k (entryIndex 3 (m .region .start .0)) in
-      let old : ¬ (TableWord (levelAt s k) x) = λ table. omega (arith, R .low, table .0) in
-      subst (Done q k m s 0 allowed piece R) (sym (shows-leaf q k m s 0 allowed piece R old))
-      (by-leaf q k m s 0 allowed piece R old (page-rule m x) (λ r e. absurd (never x r)))
+      let plain = page-holds placed R (i q k m s 0 allowed piece R) (inside q k m s 0 allowed piece R) in
+      subst (Done q k m s 0 allowed piece R) (sym (plain .shows))
+      (by-leaf q k m s 0 allowed piece R plain (page-rule m x) (λ r e. absurd (never x r)))
     where
       never : (x : ℕ) → ruleOf 3 m x ≡ Down → ⊥
       never x r = let z : _≡_ {A = ℕ} 0 1 = cc (rule-page 3 m x (omega arith), r) in omega arith

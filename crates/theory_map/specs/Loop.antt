@@ -23,11 +23,12 @@ use Rattle.theory_sound.specs.Codec.{Placed, childOf, slotWord, view, treeFrom}
 use Rattle.theory_sound.specs.Generic.{pool-sound}
 use Rattle.theory_sound.specs.Lists.{size-refl, size-trans}
 use Rattle.theory_sound.specs.Step.{Ready, step-ready}
+use Rattle.theory_sound.specs.Slot.{slotShows}
 use Rattle.theory_tree.specs.Page.{child}
 use Rattle.theory_tree.specs.Chunks.{atSlot, sweep, index-slot}
 use Rattle.theory_tree.specs.Needed.{slotTree, tallied}
 use Rattle.theory_map.specs.Stand.{Piece}
-use Rattle.theory_map.specs.Moves.{slotShows, StepWithin, WorkedWithin}
+use Rattle.theory_map.specs.Moves.{StepWithin, WorkedWithin}
 use Rattle.theory_map.specs.Pieces.{slotAt, Pieces, tallied-from}
 
 -- a table's slot

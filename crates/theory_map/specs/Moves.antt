@@ -12,7 +12,7 @@ use Rattle.pool.specs.declared.Handle.{Handle}
 use Rattle.pool.specs.declared.Found.the-variants.{At}
 use Rattle.pool_table.specs.Table.{takeAt, freeTree}
 use Rattle.map_rules.specs.Rules.{fillOf}
-use Rattle.theory_forest.specs.Tree.{Tree, leaf, entry, node, treeAt-node}
+use Rattle.theory_forest.specs.Tree.{Tree, leaf, node, treeAt-node}
 use Rattle.theory_forest.specs.Sound.{TableWord, IsTable, Refers}
 use Rattle.theory_forest.specs.Split.{Splits, SplitFits, new-tree}
 use Rattle.theory_forest.specs.Place.{over-trans}
@@ -22,6 +22,7 @@ use Rattle.theory_sound.specs.Codec.{Placed, shaped-placed, codecOf, childOf, s
 use Rattle.theory_sound.specs.Generic.{pool-sound}
 use Rattle.theory_sound.specs.Lists.{SameSize, size-refl, size-trans}
 use Rattle.theory_sound.specs.Step.{Stands, not-table, Ready, Step, Worked, pool-again, shaped-again}
+use Rattle.theory_sound.specs.Slot.{slotShows}
 use Rattle.theory_sound.specs.Store.{store-step}
 use Rattle.theory_sound.specs.Take.{take-free, take-splits, take-fit, take-size}
 use Rattle.theory_sound.specs.Free.{free-step, free-free}
@@ -34,10 +35,6 @@ use Rattle.theory_map.specs.Stand.{fill-stands}
 -- what refusal 1 asks of a handle is one fact
 pub placed-one : {h : Handle} (a b : Placed h) → a ≡ b
 placed-one a b = λ i. record { paged = ℕ-set _ _ (a .paged) (b .paged) i; level = le-prop (a .level) (b .level) i }
-
--- the tree in slot i of table k, which has `depth` levels below its own
-abbrev pub slotShows : Handle → St → ℕ → ℕ → ℕ → Tree
-slotShows h s depth k i = entry (childOf (h .base .0)) depth (slotWord s) (slotWord s k i)
 
 module _ {h : Handle} (placed : Placed h) where
   -- s′ is s after a step at slot i of table k, which now shows t; at most `cost` tables fewer are free

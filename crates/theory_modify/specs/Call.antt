@@ -33,12 +33,13 @@ use Rattle.theory_sound.specs.Clauses.{SoundPool}
 use Rattle.theory_sound.specs.Codec.{shaped-placed, rootTree}
 use Rattle.theory_sound.specs.Decide.{decide-sound, sound-decide}
 use Rattle.theory_sound.specs.Step.{Ready, root-ready, worked-ready}
+use Rattle.theory_sound.specs.Slot.{slotShows}
 use Rattle.theory_tree.specs.Modify.{GivenModify, modifyTree, modifyMade}
 use Rattle.theory_tree.specs.Walk.{seen}
 use Rattle.theory_tree.specs.DocumentModify.{document-modifies, document-modify-needs}
 use Rattle.theory_map.specs.Terms.{depthOf, rootIn}
 use Rattle.theory_map.specs.Leaf.{slot-fine}
-use Rattle.theory_map.specs.Moves.{slotShows, WorkedWithin, root-node}
+use Rattle.theory_map.specs.Moves.{WorkedWithin, root-node}
 use Rattle.theory_map.specs.Pieces.{Area}
 use Rattle.theory_map.specs.Asked.{Early}
 use Rattle.theory_modify.specs.Terms.{ModifyArguments, modifyAnswer, modifyAccepted, Modifies, editAsked, ModifyPassed, surveyed}
@@ -117,7 +118,7 @@ module _ {h : Handle} {c : ModifyArguments} {s : St} (passed : ModifyPassed h c 
       ≡ changes (e .set) (e .clear) (seen (suc (depthOf h)) t y)) (sym (root-node h s))
       (region-tells (e .set) (e .clear) (bits .set .plain) (bits .clear .plain) y (depthOf h) (rootIn h) (areaOf e 0)
       (λ i. slotShows h s (depthOf h) 0 i) (omega arith) area
-      (λ j inside. slot-fine placed (passed .pool) (depthOf h) 0 j (ready .used) (ready .low) inside)
+      (λ j inside. slot-fine placed ready j inside)
       (asked-forwards h (c .start) (c .end) (c .set) (c .clear) (c .live) (passed .asks)) above under)
 
   -- ---- with room

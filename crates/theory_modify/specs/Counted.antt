@@ -34,6 +34,7 @@ use Rattle.theory_forest.specs.Tree.{Tree, leaf, treeAt-node}
 use Rattle.theory_forest.specs.Keep.{slot-leaf}
 use Rattle.theory_sound.specs.Codec.{Placed, codecOf, childOf, slotWord, view, word-in, treeFrom}
 use Rattle.theory_sound.specs.Step.{Ready, refers-ready}
+use Rattle.theory_sound.specs.Slot.{slotShows, SlotHolds, holds-table, holds-leaf, holds}
 use Rattle.theory_tree.specs.Page.{child}
 use Rattle.theory_tree.specs.Word.{fillWord}
 use Rattle.theory_tree.specs.Visit.{fillTree, opens-leaf, opens-node}
@@ -43,10 +44,8 @@ use Rattle.theory_tree.specs.Split.{fill-address}
 use Rattle.theory_tree.specs.Needed.{slotTree}
 use Rattle.theory_map.specs.Leaf.{slot-fine}
 use Rattle.theory_map.specs.Stand.{Piece}
-use Rattle.theory_map.specs.Moves.{slotShows}
 use Rattle.theory_map.specs.Pieces.{Area, slotAt, Pieces, pieces}
 use Rattle.theory_map.specs.Need.{slot-fill}
-use Rattle.theory_map.specs.Down.{SlotHolds, holds-table, holds-leaf, holds}
 use Rattle.theory_map.specs.Loop.{slot-of}
 use Rattle.theory_modify.specs.Word.{hole-stays, valid-edited}
 use Rattle.theory_modify.specs.Range.{areaOf}
@@ -313,7 +312,7 @@ module _ {h : Handle} (placed : Placed h) where
       go (holds-leaf old other shows) =
           let is = chunk-leaf (λ a n y. surveyRange depth h s a n y) h s k (3 - suc depth) e c v
           (sym (sub-leaf (h .base .0) (tables s) (3 - suc depth) _ (λ q. other (q .1)))) in
-          let fine = subst (FineTree (suc depth)) shows (slot-fine placed (R .pool) (suc depth) k i (R .used) (R .low) inside) in
+          let fine = subst (FineTree (suc depth)) shows (slot-fine placed R i inside) in
           subst (λ (u : Tree). AddsNumbers v x (length (numbers u))) (sym shows)
           (subst (λ (y : Survey). AddsNumbers v y (length (numbers (leaf (wordAt s k i))))) (sym is)
           (leaf-adds h e c (wordAt s k i) v depth (omega (arith, R .low)) fine (sym (ap (λ (y : Survey). y .broken) is) ∙ ok)))
@@ -335,7 +334,7 @@ module _ {h : Handle} (placed : Placed h) where
           let is = chunk-leaf (λ j n z. z) h s k 3 e c x (sym (sub-leaf (h .base .0) (tables s) 3 _ (λ q. omega (arith, q .0)))) in
           let shows = slot-leaf (codecOf h placed) (view s) 0 k i (R .low) (word-in s k i inside)
           (λ table. omega (arith, R .low, table .0)) in
-          let fine = subst (FineTree 0) shows (slot-fine placed (R .pool) 0 k i (R .used) (R .low) inside) in
+          let fine = subst (FineTree 0) shows (slot-fine placed R i inside) in
           subst (λ (u : Tree). AddsNumbers x (surveyChunk (λ j n z. z) h s k 3 e c x) (length (ownNumbers (e .set) (e .clear) 0 c u)))
           (sym (slot-of h s 0 k i ∙ shows))
           (subst (λ (z : Survey). AddsNumbers x z (length (ownNumbers (e .set) (e .clear) 0 c (leaf (wordAt s k i))))) (sym is)

@@ -34,6 +34,7 @@ use Rattle.theory_forest.specs.Walk.{Ends, walkTree}
 use Rattle.theory_forest.specs.Keep.{slot-leaf}
 use Rattle.theory_sound.specs.Codec.{Placed, codecOf, childOf, slotWord, view, word-in, treeFrom}
 use Rattle.theory_sound.specs.Step.{Ready, refers-ready}
+use Rattle.theory_sound.specs.Slot.{slotShows, SlotHolds, holds-table, holds-leaf, holds}
 use Rattle.theory_tree.specs.Page.{pagesIn, first, child, child-order, slotOfPage, slot-lt, end-rest, multiple-child, in-of, in-rest}
 use Rattle.theory_tree.specs.Page.{entry-rest}
 use Rattle.theory_tree.specs.Fine.{Fine}
@@ -41,9 +42,7 @@ use Rattle.theory_tree.specs.Shown.{FineTree}
 use Rattle.theory_tree.specs.Chunks.{index-slot}
 use Rattle.theory_map.specs.Leaf.{slot-fine}
 use Rattle.theory_map.specs.Stand.{Piece}
-use Rattle.theory_map.specs.Moves.{slotShows}
 use Rattle.theory_map.specs.Pieces.{Area, slotAt, Pieces, pieces}
-use Rattle.theory_map.specs.Down.{SlotHolds, holds-table, holds-leaf, holds}
 use Rattle.theory_modify.specs.Word.{hole-stays}
 use Rattle.theory_modify.specs.Range.{areaOf}
 use Rattle.theory_modify.specs.Splits.{chunk-leaf, chunk-table}
@@ -475,7 +474,7 @@ module _ {h : Handle} (placed : Placed h) where
       go (holds-leaf old other shows) =
           let is = chunk-leaf (λ a n y. surveyRange depth h s a n y) h s k (3 - suc depth) e c v
           (sym (sub-leaf (h .base .0) (tables s) (3 - suc depth) _ (λ q. other (q .1)))) in
-          let fine = subst (FineTree (suc depth)) shows (slot-fine placed (R .pool) (suc depth) k i (R .used) (R .low) inside) in
+          let fine = subst (FineTree (suc depth)) shows (slot-fine placed R i inside) in
           subst (λ (u : Tree). ChunkFinds (suc depth) e c u v x) (sym shows)
           (subst (ChunkFinds (suc depth) e c (leaf (wordAt s k i)) v) (sym is)
           (leaf-chunk (suc depth) q p e c (wordAt s k i) v (omega (arith, R .low)) fine piece))
@@ -517,7 +516,7 @@ module _ {h : Handle} (placed : Placed h) where
           let is = chunk-leaf (λ j n z. z) h s k 3 e c x (sym (sub-leaf (h .base .0) (tables s) 3 _ (λ q. omega (arith, q .0)))) in
           let shows = slot-leaf (codecOf h placed) (view s) 0 k i (R .low) (word-in s k i inside)
           (λ table. omega (arith, R .low, table .0)) in
-          let fine = subst (FineTree 0) shows (slot-fine placed (R .pool) 0 k i (R .used) (R .low) inside) in
+          let fine = subst (FineTree 0) shows (slot-fine placed R i inside) in
           subst (λ (u : Tree). ChunkFinds 0 e c u x (surveyChunk (λ j n z. z) h s k 3 e c x)) (sym shows)
           (subst (ChunkFinds 0 e c (leaf (wordAt s k i)) x) (sym is)
           (leaf-chunk 0 (child q (slotAt 0 c)) y e c (wordAt s k i) x (omega arith) fine piece))

@@ -29,6 +29,7 @@ use Rattle.theory_forest.specs.Keep.{slot-leaf}
 use Rattle.theory_sound.specs.Clauses.{levelAt}
 use Rattle.theory_sound.specs.Codec.{Placed, codecOf, childOf, slotWord, view, word-in, treeFrom}
 use Rattle.theory_sound.specs.Step.{Ready, worked-ready}
+use Rattle.theory_sound.specs.Slot.{slotShows, SlotHolds, holds-table, holds-leaf, holds}
 use Rattle.theory_tree.specs.Page.{child}
 use Rattle.theory_tree.specs.Visit.{opened, splits}
 use Rattle.theory_tree.specs.Fine.{Fine}
@@ -38,9 +39,8 @@ use Rattle.theory_tree.specs.Needed.{slotTree, tallied, needed, neededTable}
 use Rattle.theory_tree.specs.DocumentModify.{documentModify}
 use Rattle.theory_map.specs.Leaf.{slot-fine}
 use Rattle.theory_map.specs.Stand.{Piece}
-use Rattle.theory_map.specs.Moves.{slotShows}
 use Rattle.theory_map.specs.Pieces.{Area, slotAt, Pieces, pieces}
-use Rattle.theory_map.specs.Down.{SlotHolds, holds-table, holds-leaf, holds, opens}
+use Rattle.theory_map.specs.Down.{opens}
 use Rattle.theory_map.specs.Loop.{slot-of, through, EachWorks, stepped}
 use Rattle.theory_modify.specs.Word.{Bits, table-stays, hole-stays, valid-edited}
 use Rattle.theory_modify.specs.Passes.{ownTo, downTo, takes-part, takes-into}
@@ -127,7 +127,7 @@ module _ {h : Handle} (placed : Placed h) where
 
     module _ (shows : t ≡ leaf w) where
       fine : Fine depth w
-      fine = subst (FineTree depth) shows (slot-fine placed (R .pool) depth k i (R .used) (R .low) inside)
+      fine = subst (FineTree depth) shows (slot-fine placed R i inside)
 
       numbers-are : leafNumbers (e .set) (e .clear) c t ≡ changedNumber (e .set) (e .clear) c w
       numbers-are = ap (leafNumbers (e .set) (e .clear) c) shows ∙ leaf-number (e .set) (e .clear) c w

@@ -29,6 +29,7 @@ use Rattle.theory_forest.specs.Keep.{slot-leaf}
 use Rattle.theory_sound.specs.Clauses.{levelAt}
 use Rattle.theory_sound.specs.Codec.{Placed, codecOf, view, word-in, treeFrom}
 use Rattle.theory_sound.specs.Step.{Stands, Ready, worked-ready}
+use Rattle.theory_sound.specs.Slot.{slotShows, SlotHolds, holds-table, holds-leaf, holds}
 use Rattle.theory_tree.specs.Page.{child}
 use Rattle.theory_tree.specs.Visit.{opened, splits}
 use Rattle.theory_tree.specs.Fine.{Fine}
@@ -38,9 +39,9 @@ use Rattle.theory_tree.specs.Needed.{tallied, needed, neededTable}
 use Rattle.theory_tree.specs.DocumentModify.{documentModify}
 use Rattle.theory_map.specs.Leaf.{slot-fine, leaf-from}
 use Rattle.theory_map.specs.Stand.{Piece}
-use Rattle.theory_map.specs.Moves.{slotShows, StepWithin, WorkedWithin, kept, stored, worked-twice}
+use Rattle.theory_map.specs.Moves.{StepWithin, WorkedWithin, kept, stored, worked-twice}
 use Rattle.theory_map.specs.Pieces.{Area, slotAt, pieces}
-use Rattle.theory_map.specs.Down.{SlotHolds, holds-table, holds-leaf, Opens, holds, opens}
+use Rattle.theory_map.specs.Down.{Opens, opens}
 use Rattle.theory_map.specs.Loop.{through, loop}
 use Rattle.theory_modify.specs.Word.{Bits, table-stays, hole-stays, valid-edited, edited-stands}
 use Rattle.theory_modify.specs.Passes.{ownTo, downTo, own-valid, own-hole, own-node, down-whole, down-part, down-into, takes-part}
@@ -109,7 +110,7 @@ module _ {h : Handle} (placed : Placed h) where
     -- a leaf
     module _ (old : ¬ (TableWord (levelAt s k) w)) (shows : t ≡ leaf w) where
       fine : Fine depth w
-      fine = subst (FineTree depth) shows (slot-fine placed (R .pool) depth k i (R .used) (R .low) inside)
+      fine = subst (FineTree depth) shows (slot-fine placed R i inside)
 
       leaf-edited : valid w ≡ true → Goal
       leaf-edited v = go (eq-or new w)

@@ -28,14 +28,13 @@ use Rattle.modify_survey.specs.Find.{surveyRange, entry-whole, entry-part}
 use Rattle.theory_forest.specs.Tree.{Tree, leaf, node, treeAt-node}
 use Rattle.theory_sound.specs.Codec.{Placed, childOf, slotWord, treeFrom}
 use Rattle.theory_sound.specs.Step.{Ready, refers-ready}
+use Rattle.theory_sound.specs.Slot.{slotShows, SlotHolds, holds-table, holds-leaf, holds}
 use Rattle.theory_tree.specs.Word.{fillWord}
 use Rattle.theory_tree.specs.Visit.{opened, splits, counted, fillTree}
 use Rattle.theory_tree.specs.Needed.{slotTree, tallied, needed, neededTable}
 use Rattle.theory_tree.specs.Modify.{editRule}
 use Rattle.theory_tree.specs.DocumentModify.{documentModify}
-use Rattle.theory_map.specs.Moves.{slotShows}
 use Rattle.theory_map.specs.Need.{slot-fill}
-use Rattle.theory_map.specs.Down.{SlotHolds, holds-table, holds-leaf, holds}
 use Rattle.theory_map.specs.Loop.{slot-of}
 use Rattle.theory_modify.specs.Passes.{takes-part, takes-into}
 use Rattle.theory_modify.specs.Range.{editTakes}

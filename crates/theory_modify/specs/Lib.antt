@@ -2,9 +2,10 @@
 pub mod Numbers
 pub mod Terms
 pub mod House
--- a modify on lists is a modify on trees: one word, the two passes over a table, one table
+-- a modify on lists is a modify on trees: one word, the two passes over a table, one slot, one table
 pub mod Word
 pub mod Passes
+pub mod Entry
 pub mod Range
 pub mod Splits
 -- the list

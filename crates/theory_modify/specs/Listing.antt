@@ -21,34 +21,29 @@ use Rattle.modify_entry.specs.declared.Edit.{Edit}
 use Rattle.modify_entry.specs.Word.{editWord}
 use Rattle.modify_entry.specs.Each.{eachChunk, chunkEdit}
 use Rattle.modify_entry.specs.Own.{Numbered, numbered, putNumber, Noted, noted, ownChunk, ownRange, own-same, own-changed}
-use Rattle.modify_range.specs.Range.{Work, work, own, ownWork, modifyRange, own-table, own-leaf, downStep, modify-pages, modify-open}
+use Rattle.modify_range.specs.Range.{Work, work, own, ownWork, modifyRange, downStep, modify-pages, modify-open}
 use Rattle.modify_range.specs.Range.{step-own}
-use Rattle.theory_forest.specs.Tree.{Tree, leaf, node, treeAt-node}
-use Rattle.theory_forest.specs.Sound.{TableWord}
-use Rattle.theory_forest.specs.Keep.{slot-leaf}
-use Rattle.theory_sound.specs.Clauses.{levelAt}
-use Rattle.theory_sound.specs.Codec.{Placed, codecOf, childOf, slotWord, view, word-in, treeFrom}
+use Rattle.theory_forest.specs.Tree.{Tree, node, treeAt-node}
+use Rattle.theory_sound.specs.Codec.{Placed, childOf, slotWord, treeFrom}
 use Rattle.theory_sound.specs.Step.{Ready, worked-ready}
-use Rattle.theory_sound.specs.Slot.{slotShows, SlotHolds, holds-table, holds-leaf, holds}
+use Rattle.theory_sound.specs.Slot.{slotShows, HoldsLeaf}
 use Rattle.theory_tree.specs.Page.{child}
 use Rattle.theory_tree.specs.Visit.{opened, splits}
-use Rattle.theory_tree.specs.Fine.{Fine}
-use Rattle.theory_tree.specs.Shown.{FineTree}
 use Rattle.theory_tree.specs.Chunks.{sweep}
 use Rattle.theory_tree.specs.Needed.{slotTree, tallied, needed, neededTable}
 use Rattle.theory_tree.specs.DocumentModify.{documentModify}
-use Rattle.theory_map.specs.Leaf.{slot-fine}
 use Rattle.theory_map.specs.Stand.{Piece}
 use Rattle.theory_map.specs.Pieces.{Area, slotAt, Pieces, pieces}
 use Rattle.theory_map.specs.Down.{opens}
 use Rattle.theory_map.specs.Loop.{slot-of, through, EachWorks, stepped}
-use Rattle.theory_modify.specs.Word.{Bits, table-stays, hole-stays, valid-edited}
-use Rattle.theory_modify.specs.Passes.{ownTo, downTo, takes-part, takes-into}
+use Rattle.theory_modify.specs.Word.{Bits}
+use Rattle.theory_modify.specs.Passes.{ownEntry, ownTo, downTo, takes-on}
+use Rattle.theory_modify.specs.Entry.{Meets, meets-table, meets-hole, meets-entry, meets, own-is}
 use Rattle.theory_modify.specs.Range.{editTakes, areaOf, through-chunks, none-taken, own-works, Edits, goes-down, down-works}
 use Rattle.theory_modify.specs.Range.{down-pass, range-edits}
 use Rattle.theory_modify.specs.Numbers.{gathered, changedNumber, ownNumbers, lowerNumbers, tableNumbers}
-use Rattle.theory_modify.specs.Gathered.{number-changed, number-same, number-hole, lower-whole, lower-part, lower-into, leafNumbers}
-use Rattle.theory_modify.specs.Gathered.{leaf-number, leaf-none, leaf-page, leaf-after}
+use Rattle.theory_modify.specs.Gathered.{number-changed, number-same, number-hole, lower-own, lower-on, leafNumbers}
+use Rattle.theory_modify.specs.Gathered.{leaf-page, leaf-after}
 use Rattle.theory_modify.specs.Gathered.{gathered-from, gathered-after}
 use Rattle.theory_modify.specs.Notes.{putAll, put-none, put-one, put-append}
 
@@ -125,41 +120,26 @@ module _ {h : Handle} (placed : Placed h) where
         ap ofNoted (sym (own-same k (3 - depth) e c n refl refl same))
         ∙ sym (ap (λ (xs : List ℕ). putAll (e .live) xs (ofNoted n)) none ∙ put-none (e .live) (ofNoted n))
 
-    module _ (shows : t ≡ leaf w) where
-      fine : Fine depth w
-      fine = subst (FineTree depth) shows (slot-fine placed R i inside)
+    own-puts : Puts
+    own-puts = go (meets placed depth e R i inside)
+      where
+        leaf-is : HoldsLeaf h s depth k i → leafNumbers (e .set) (e .clear) c t ≡ changedNumber (e .set) (e .clear) c w
+        leaf-is plain = ap (leafNumbers (e .set) (e .clear) c) (plain .shows)
 
-      numbers-are : leafNumbers (e .set) (e .clear) c t ≡ changedNumber (e .set) (e .clear) c w
-      numbers-are = ap (leafNumbers (e .set) (e .clear) c) shows ∙ leaf-number (e .set) (e .clear) c w
+        changed : HoldsLeaf h s depth k i → valid w ≡ true → new ≡ edited (e .set) (e .clear) w → (new ≡ w) ⊎ (new ≢ w) → Puts
+        changed plain v is (inl same) = puts-none same (leaf-is plain ∙ number-same (e .set) (e .clear) c w v (sym is ∙ same))
+        changed plain v is (inr other) =
+            let l : Numbered = putNumber (e .live) _ (n .count) (n .list) in
+            ap ofNoted (sym (own-changed k (3 - depth) e c n refl refl other refl {count = l .count} {list = l .list} refl))
+            ∙ sym
+            (ap (λ (xs : List ℕ). putAll (e .live) xs (ofNoted n))
+            (leaf-is plain ∙ number-changed (e .set) (e .clear) c w v (λ q. other (is ∙ q)))
+            ∙ put-one (e .live) _ (ofNoted n))
 
-      leaf-puts : Puts
-      leaf-puts = byBool (valid w) (λ v. go v (valid-edited e w depth (omega (arith, R .low)) fine v) (eq-or new w))
-          (λ v. puts-none (hole-stays e w (3 - depth) v) (numbers-are ∙ number-hole (e .set) (e .clear) c w v))
-        where
-          go : valid w ≡ true → new ≡ edited (e .set) (e .clear) w → (new ≡ w) ⊎ (new ≢ w) → Puts
-          go v is (inl same) = puts-none same (numbers-are ∙ number-same (e .set) (e .clear) c w v (sym is ∙ same))
-          go v is (inr other) =
-              let l : Numbered = putNumber (e .live) _ (n .count) (n .list) in
-              ap ofNoted (sym (own-changed k (3 - depth) e c n refl refl other refl {count = l .count} {list = l .list} refl))
-              ∙ sym
-              (ap (λ (xs : List ℕ). putAll (e .live) xs (ofNoted n))
-              (numbers-are ∙ number-changed (e .set) (e .clear) c w v (λ q. other (is ∙ q)))
-              ∙ put-one (e .live) _ (ofNoted n))
-
-  own-puts : (depth k : ℕ) (e : Edit) (ledger : List ℕ) (c : MemoryRegion) (n : Noted) (R : Ready h (st (n .words) ledger) depth k)
-      → Puts depth k e ledger c n R
-  own-puts zero k e ledger c n R =
-      let old : ¬ (TableWord (levelAt (st (n .words) ledger) k) (w 0 k e ledger c n R)) = λ table. omega (arith, R .low, table .0) in
-      leaf-puts 0 k e ledger c n R
-      (slot-leaf (codecOf h placed) (view (st (n .words) ledger)) 0 k (i 0 k e ledger c n R) (R .low)
-      (word-in (st (n .words) ledger) k (i 0 k e ledger c n R) (inside 0 k e ledger c n R)) old)
-  own-puts (suc depth) k e ledger c n R = go (holds placed R (i (suc depth) k e ledger c n R) (inside (suc depth) k e ledger c n R))
-    where
-      go : SlotHolds placed (st (n .words) ledger) depth k (i (suc depth) k e ledger c n R) → Puts (suc depth) k e ledger c n R
-      go (holds-table j r both leads shows) =
-          puts-none (suc depth) k e ledger c n R (table-stays (3 - suc depth) e _ (omega (arith, R .low)) both)
-          (ap (leafNumbers (e .set) (e .clear) c) shows ∙ leaf-none (e .set) (e .clear) c _)
-      go (holds-leaf old other shows) = leaf-puts (suc depth) k e ledger c n R shows
+        go : Meets h e s depth k i → Puts
+        go (meets-table f shows same) = puts-none same (ap (leafNumbers (e .set) (e .clear) c) shows)
+        go (meets-hole plain v same) = puts-none same (leaf-is plain ∙ number-hole (e .set) (e .clear) c w v)
+        go (meets-entry plain v fine is) = changed plain v is (eq-or new w)
 
   abbrev pub ofWork : Work → Numbered
   ofWork w = numbered (w .count) (w .list)
@@ -236,30 +216,13 @@ module _ {h : Handle} (placed : Placed h) where
         ∙ ap (λ (xs : List ℕ). putAll (e .live) xs (ofWork x)) (ap (table c) (O .shows) ∙ sym numbers)
 
     down-puts : count u ≤ free (x .state .ledger) → Downs
-    unfolding whole
-    down-puts room = go (holds placed R j slot)
-      where
-        set : ℕ
-        set = e .set
-
-        clear : ℕ
-        clear = e .clear
-
-        go : SlotHolds placed (x .state) depth k j → Downs
-        go (holds-table a r both leads shows) =
-            puts-down room (sym (own-table level c y both))
-            (ap lower shows ∙ lower-into set clear table depth c _ ∙ sym (ap (λ (v : Tree). table c (opened depth v)) shows))
-            (ap count shows ∙ takes-into set clear depth c p _
-            ∙ sym (ap (λ (v : Tree). splits v + editTakes (chunkEdit e c) depth p (opened depth v)) shows))
-        go (holds-leaf old other shows) = byBool (whole level c)
-            (λ all. ap ofWork (sym (step-own h k level e c x refl (sym (own-leaf level c y other) ∙ all)))
-            ∙ sym
-            (ap (λ (xs : List ℕ). putAll (e .live) xs (ofWork x)) (ap lower shows ∙ lower-whole set clear table depth c y all)
-            ∙ put-none (e .live) (ofWork x)))
-            (λ part. puts-down room (sym (own-leaf level c y other) ∙ part)
-            (ap lower shows ∙ lower-part set clear table depth c y part ∙ sym (ap (λ (v : Tree). table c (opened depth v)) shows))
-            (ap count shows ∙ takes-part set clear depth c p y part
-            ∙ sym (ap (λ (v : Tree). splits v + editTakes (chunkEdit e c) depth p (opened depth v)) shows)))
+    down-puts room = byBool (ownEntry depth c u)
+        (λ here. ap ofWork (sym (step-own h k level e c x refl (own-is placed R c ∙ here)))
+        ∙ sym
+        (ap (λ (xs : List ℕ). putAll (e .live) xs (ofWork x)) (lower-own (e .set) (e .clear) table depth c u here)
+        ∙ put-none (e .live) (ofWork x)))
+        (λ on. puts-down room (own-is placed R c ∙ on) (lower-on (e .set) (e .clear) table depth c u on)
+        (takes-on (e .set) (e .clear) depth c p u on))
 
   down-pass-puts : (depth q k p : ℕ) (e : Edit) (w : Work) → suc depth ≤ 3 → Edits placed depth → Lists depth → Bits h e
       → Area (suc depth) q (areaOf e p)

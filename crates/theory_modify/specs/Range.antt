@@ -9,7 +9,6 @@ use native.Mathlib.Omega.{arith}
 use Rattle.laws.specs.Test.{byBool, eq-or}
 use Rattle.entry.specs.Word.{valid, edited}
 use Rattle.address_slot.specs.Slot.{entryIndex}
-use Rattle.region.specs.Region.{whole}
 use Rattle.region.specs.Chunks.{chunks}
 use Rattle.region.specs.declared.MemoryRegion.{MemoryRegion}
 use Rattle.pool.specs.State.{St, st, wordAt}
@@ -21,31 +20,29 @@ use Rattle.modify_entry.specs.declared.Edit.{Edit}
 use Rattle.modify_entry.specs.Word.{editWord}
 use Rattle.modify_entry.specs.Each.{eachOf, eachChunk, chunkEdit}
 use Rattle.modify_entry.specs.Own.{Numbered, putNumber, Noted, noted, ownChunk, ownRange, own-same, own-changed}
-use Rattle.modify_range.specs.Range.{Work, work, own, ownWork, modifyRange, own-table, own-leaf, downStep, modify-pages, modify-open}
+use Rattle.modify_range.specs.Range.{Work, work, own, ownWork, modifyRange, downStep, modify-pages, modify-open}
 use Rattle.modify_range.specs.Range.{step-own, step-into}
 use Rattle.theory_forest.specs.Tree.{Tree, leaf}
-use Rattle.theory_forest.specs.Sound.{TableWord}
-use Rattle.theory_forest.specs.Keep.{slot-leaf}
 use Rattle.theory_sound.specs.Clauses.{levelAt}
-use Rattle.theory_sound.specs.Codec.{Placed, codecOf, view, word-in, treeFrom}
+use Rattle.theory_sound.specs.Codec.{Placed, treeFrom}
 use Rattle.theory_sound.specs.Step.{Stands, Ready, worked-ready}
-use Rattle.theory_sound.specs.Slot.{slotShows, SlotHolds, holds-table, holds-leaf, holds}
+use Rattle.theory_sound.specs.Slot.{slotShows, HoldsLeaf}
 use Rattle.theory_tree.specs.Page.{child}
 use Rattle.theory_tree.specs.Visit.{opened, splits}
 use Rattle.theory_tree.specs.Fine.{Fine}
-use Rattle.theory_tree.specs.Shown.{FineTree}
 use Rattle.theory_tree.specs.Chunks.{sweep, chunkedTable}
 use Rattle.theory_tree.specs.Needed.{tallied, needed, neededTable}
 use Rattle.theory_tree.specs.DocumentModify.{documentModify}
-use Rattle.theory_map.specs.Leaf.{slot-fine, leaf-from}
+use Rattle.theory_map.specs.Leaf.{leaf-from}
 use Rattle.theory_map.specs.Stand.{Piece}
 use Rattle.theory_map.specs.Moves.{StepWithin, WorkedWithin, kept, stored, worked-twice}
 use Rattle.theory_map.specs.Pieces.{Area, slotAt, pieces}
 use Rattle.theory_map.specs.Down.{Opens, opens}
 use Rattle.theory_map.specs.Loop.{through, loop}
-use Rattle.theory_modify.specs.Word.{Bits, table-stays, hole-stays, valid-edited, edited-stands}
-use Rattle.theory_modify.specs.Passes.{ownTo, downTo, own-valid, own-hole, own-node, down-whole, down-part, down-into, takes-part}
-use Rattle.theory_modify.specs.Passes.{takes-into, pages-pass, two-passes}
+use Rattle.theory_modify.specs.Word.{Bits, edited-stands}
+use Rattle.theory_modify.specs.Passes.{ownEntry, ownTo, downTo, own-valid, own-hole, own-node, down-own, down-on, takes-on}
+use Rattle.theory_modify.specs.Passes.{pages-pass, two-passes}
+use Rattle.theory_modify.specs.Entry.{Meets, meets-table, meets-hole, meets-entry, meets, own-is}
 
 -- ---- the document's loop on trees, for an edit of a table's region; p is a frame, which is not read
 
@@ -107,50 +104,28 @@ module _ {h : Handle} (placed : Placed h) where
         subst₂ (λ (x : Noted) (u : Tree). StepWithin placed s (st (x .words) ledger) depth k i u 0)
         (own-same k (3 - depth) e c n refl refl same) (sym tree) (kept placed R i 0)
 
-    -- a leaf
-    module _ (old : ¬ (TableWord (levelAt s k) w)) (shows : t ≡ leaf w) where
-      fine : Fine depth w
-      fine = subst (FineTree depth) shows (slot-fine placed R i inside)
+    pub own-works : Goal
+    own-works = go (meets placed depth e R i inside)
+      where
+        changed : HoldsLeaf h s depth k i → valid w ≡ true → Fine depth w → new ≡ edited (e .set) (e .clear) w
+            → ownTo (e .set) (e .clear) t ≡ leaf new
+            → (new ≡ w) ⊎ (new ≢ w) → Goal
+        changed plain v fine is tree (inl same) = stays same (tree ∙ ap leaf same ∙ sym (plain .shows))
+        changed plain v fine is tree (inr other) =
+            let l : Numbered = putNumber (e .live) _ (n .count) (n .list) in
+            subst₂ (λ (x : Noted) (u : Tree). StepWithin placed s (st (x .words) ledger) depth k i u 0)
+            (own-changed k (3 - depth) e c n refl refl other refl {count = l .count} {list = l .list} refl) (sym tree)
+            (stored placed R i 0 new inside (plain .plain)
+            (subst (Stands h (levelAt s k)) (sym is)
+            (edited-stands e w h depth (levelAt s k) bits (R .low) fine (leaf-from (R .pool) k i inside (R .used) (plain .plain)) v)))
 
-      leaf-edited : valid w ≡ true → Goal
-      leaf-edited v = go (eq-or new w)
-        where
-          is : new ≡ edited (e .set) (e .clear) w
-          is = valid-edited e w depth (omega (arith, R .low)) fine v
-
-          tree : ownTo (e .set) (e .clear) t ≡ leaf new
-          tree = ap (ownTo (e .set) (e .clear)) shows ∙ own-valid (e .set) (e .clear) w v ∙ ap leaf (sym is)
-
-          go : (new ≡ w) ⊎ (new ≢ w) → Goal
-          go (inl same) = stays same (tree ∙ ap leaf same ∙ sym shows)
-          go (inr other) =
-              let l : Numbered = putNumber (e .live) _ (n .count) (n .list) in
-              subst₂ (λ (x : Noted) (u : Tree). StepWithin placed s (st (x .words) ledger) depth k i u 0)
-              (own-changed k (3 - depth) e c n refl refl other refl {count = l .count} {list = l .list} refl) (sym tree)
-              (stored placed R i 0 new inside old
-              (subst (Stands h (levelAt s k)) (sym is)
-              (edited-stands e w h depth (levelAt s k) bits (R .low) fine (leaf-from (R .pool) k i inside (R .used) old) v)))
-
-      leaf-works : Goal
-      leaf-works = byBool (valid w) leaf-edited
-          (λ v. stays (hole-stays e w (3 - depth) v) (ap (ownTo (e .set) (e .clear)) shows ∙ own-hole (e .set) (e .clear) w v ∙ sym shows))
-
-  pub own-works : (depth k : ℕ) (e : Edit) (ledger : List ℕ) (bits : Bits h e) (c : MemoryRegion) (n : Noted)
-      (R : Ready h (st (n .words) ledger) depth k)
-      → Goal depth k e ledger bits c n R
-  own-works zero k e ledger bits c n R =
-      let old : ¬ (TableWord (levelAt (st (n .words) ledger) k) (w 0 k e ledger bits c n R)) = λ table. omega (arith, R .low, table .0) in
-      leaf-works 0 k e ledger bits c n R old
-      (slot-leaf (codecOf h placed) (view (st (n .words) ledger)) 0 k (i 0 k e ledger bits c n R) (R .low)
-      (word-in (st (n .words) ledger) k (i 0 k e ledger bits c n R) (inside 0 k e ledger bits c n R)) old)
-  own-works (suc depth) k e ledger bits c n R =
-      go (holds placed R (i (suc depth) k e ledger bits c n R) (inside (suc depth) k e ledger bits c n R))
-    where
-      go : SlotHolds placed (st (n .words) ledger) depth k (i (suc depth) k e ledger bits c n R) → Goal (suc depth) k e ledger bits c n R
-      go (holds-table j r both leads shows) =
-          stays (suc depth) k e ledger bits c n R (table-stays (3 - suc depth) e _ (omega (arith, R .low)) both)
-          (ap (ownTo (e .set) (e .clear)) shows ∙ own-node (e .set) (e .clear) _ ∙ sym shows)
-      go (holds-leaf old other shows) = leaf-works (suc depth) k e ledger bits c n R old shows
+        go : Meets h e s depth k i → Goal
+        go (meets-table f shows same) = stays same (ap (ownTo (e .set) (e .clear)) shows ∙ own-node (e .set) (e .clear) f ∙ sym shows)
+        go (meets-hole plain v same) =
+            stays same (ap (ownTo (e .set) (e .clear)) (plain .shows) ∙ own-hole (e .set) (e .clear) w v ∙ sym (plain .shows))
+        go (meets-entry plain v fine is) =
+            changed plain v fine is (ap (ownTo (e .set) (e .clear)) (plain .shows) ∙ own-valid (e .set) (e .clear) w v ∙ ap leaf (sym is))
+            (eq-or new w)
 
   own-pass : (depth q k p : ℕ) (e : Edit) (w : Work) → depth ≤ 3 → Bits h e → Area depth q (areaOf e p) → Ready h (w .state) depth k
       → WorkedWithin placed (w .state) (ownWork k (3 - depth) e w .state) depth k
@@ -233,32 +208,12 @@ module _ {h : Handle} (placed : Placed h) where
         (sym tree) (sym all) (O .back W′))
 
     pub down-works : count u ≤ free (x .state .ledger) → Down
-    unfolding whole
-    down-works room = go (holds placed R j slot)
-      where
-        set : ℕ
-        set = e .set
-
-        clear : ℕ
-        clear = e .clear
-
-        go : SlotHolds placed (x .state) depth k j → Down
-        go (holds-table a r both leads shows) =
-            by-down room (sym (own-table level c y both))
-            (ap (downTo set clear depth c p) shows ∙ down-into set clear depth c p _
-            ∙ sym (ap (λ (v : Tree). editTable (chunkEdit e c) depth p (opened depth v)) shows))
-            (ap count shows ∙ takes-into set clear depth c p _
-            ∙ sym (ap (λ (v : Tree). splits v + editTakes (chunkEdit e c) depth p (opened depth v)) shows))
-        go (holds-leaf old other shows) = byBool (whole level c)
-            (λ all. subst₂ (λ (z : Work) (v : Tree). StepWithin placed (x .state) (z .state) (suc depth) k j v (count u))
-            (step-own h k level e c x refl (sym (own-leaf level c y other) ∙ all))
-            (shows ∙ sym (ap (downTo set clear depth c p) shows ∙ down-whole set clear depth c p y all))
-            (kept placed R j (count u)))
-            (λ part. by-down room (sym (own-leaf level c y other) ∙ part)
-            (ap (downTo set clear depth c p) shows ∙ down-part set clear depth c p y part
-            ∙ sym (ap (λ (v : Tree). editTable (chunkEdit e c) depth p (opened depth v)) shows))
-            (ap count shows ∙ takes-part set clear depth c p y part
-            ∙ sym (ap (λ (v : Tree). splits v + editTakes (chunkEdit e c) depth p (opened depth v)) shows)))
+    down-works room = byBool (ownEntry depth c u)
+        (λ here. subst₂ (λ (z : Work) (v : Tree). StepWithin placed (x .state) (z .state) (suc depth) k j v (count u))
+        (step-own h k level e c x refl (own-is placed R c ∙ here)) (sym (down-own (e .set) (e .clear) depth c p u here))
+        (kept placed R j (count u)))
+        (λ on. by-down room (own-is placed R c ∙ on) (down-on (e .set) (e .clear) depth c p u on)
+        (takes-on (e .set) (e .clear) depth c p u on))
 
   -- ---- a table
 

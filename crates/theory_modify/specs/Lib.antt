@@ -6,6 +6,7 @@ pub mod House
 pub mod Word
 pub mod Passes
 pub mod Entry
+pub mod Own
 pub mod Range
 pub mod Splits
 -- the list

@@ -1,12 +1,10 @@
 -- A modify of a table of a sound pool puts into the list the numbers of the table's tree, in the document's order.
 use mathlib.Core.Path.{_≡_, refl, sym, ap, ap₂, subst, _∙_}
-use mathlib.Core.Bool.{Bool, true, false}
+use mathlib.Core.Bool.{Bool, false}
 use mathlib.Core.List.{List, [], _∷_}
-use mathlib.Core.Logic.{_⊎_, inl, inr, _≢_}
 use Prim.Native.Nat.{ℕ, zero, suc, _+_, _-_, _≤_, _<_}
 use native.Mathlib.Omega.{arith}
-use Rattle.laws.specs.Test.{byBool, eq-or}
-use Rattle.entry.specs.Word.{valid, edited}
+use Rattle.laws.specs.Test.{byBool}
 use Rattle.address_slot.specs.Slot.{entryIndex}
 use Rattle.region.specs.Region.{whole}
 use Rattle.region.specs.Chunks.{chunks}
@@ -18,15 +16,14 @@ use Rattle.map_rules.specs.declared.Map.{Map}
 use Rattle.map_rules.specs.Rules.{chunkMap}
 use Rattle.map_count_spec.specs.Needed.{slot-below}
 use Rattle.modify_entry.specs.declared.Edit.{Edit}
-use Rattle.modify_entry.specs.Word.{editWord}
 use Rattle.modify_entry.specs.Each.{eachChunk, chunkEdit}
-use Rattle.modify_entry.specs.Own.{Numbered, numbered, putNumber, Noted, noted, ownChunk, ownRange, own-same, own-changed}
+use Rattle.modify_entry.specs.Own.{Numbered, numbered, Noted, noted, ownChunk, ownRange}
 use Rattle.modify_range.specs.Range.{Work, work, own, ownWork, modifyRange, downStep, modify-pages, modify-open}
 use Rattle.modify_range.specs.Range.{step-own}
 use Rattle.theory_forest.specs.Tree.{Tree, node, treeAt-node}
 use Rattle.theory_sound.specs.Codec.{Placed, childOf, slotWord, treeFrom}
 use Rattle.theory_sound.specs.Step.{Ready, worked-ready}
-use Rattle.theory_sound.specs.Slot.{slotShows, HoldsLeaf}
+use Rattle.theory_sound.specs.Slot.{slotShows}
 use Rattle.theory_tree.specs.Page.{child}
 use Rattle.theory_tree.specs.Visit.{opened, splits}
 use Rattle.theory_tree.specs.Chunks.{sweep}
@@ -38,14 +35,15 @@ use Rattle.theory_map.specs.Down.{opens}
 use Rattle.theory_map.specs.Loop.{slot-of, through, EachWorks, stepped}
 use Rattle.theory_modify.specs.Word.{Bits}
 use Rattle.theory_modify.specs.Passes.{ownEntry, ownTo, downTo, takes-on}
-use Rattle.theory_modify.specs.Entry.{Meets, meets-table, meets-hole, meets-entry, meets, own-is}
-use Rattle.theory_modify.specs.Range.{editTakes, areaOf, through-chunks, none-taken, own-works, Edits, goes-down, down-works}
+use Rattle.theory_modify.specs.Entry.{own-is}
+use Rattle.theory_modify.specs.Own.{ofNoted, own-edits}
+use Rattle.theory_modify.specs.Range.{editTakes, areaOf, through-chunks, none-taken, Edits, goes-down, down-works}
 use Rattle.theory_modify.specs.Range.{down-pass, range-edits}
-use Rattle.theory_modify.specs.Numbers.{gathered, changedNumber, ownNumbers, lowerNumbers, tableNumbers}
-use Rattle.theory_modify.specs.Gathered.{number-changed, number-same, number-hole, lower-own, lower-on, leafNumbers}
+use Rattle.theory_modify.specs.Numbers.{gathered, ownNumbers, lowerNumbers, tableNumbers}
+use Rattle.theory_modify.specs.Gathered.{lower-own, lower-on, leafNumbers}
 use Rattle.theory_modify.specs.Gathered.{leaf-page, leaf-after}
 use Rattle.theory_modify.specs.Gathered.{gathered-from, gathered-after}
-use Rattle.theory_modify.specs.Notes.{putAll, put-none, put-one, put-append}
+use Rattle.theory_modify.specs.Notes.{putAll, put-none, put-append}
 
 -- ---- a loop over the chunks of a table
 
@@ -90,57 +88,6 @@ module _ {h : Handle} (placed : Placed h) where
 
   -- ---- a table's own entries
 
-  abbrev ofNoted : Noted → Numbered
-  ofNoted n = numbered (n .count) (n .list)
-
-  module _ (depth k : ℕ) (e : Edit) (ledger : List ℕ) (c : MemoryRegion) (n : Noted) (R : Ready h (st (n .words) ledger) depth k) where
-    abbrev s : St
-    s = st (n .words) ledger
-
-    abbrev i : ℕ
-    i = entryIndex (3 - depth) (c .start .0)
-
-    abbrev w : ℕ
-    w = wordAt s k i
-
-    abbrev new : ℕ
-    new = editWord (3 - depth) e w
-
-    abbrev t : Tree
-    t = slotShows h s depth k i
-
-    abbrev Puts : Type 0
-    Puts = ofNoted (ownChunk k (3 - depth) e c n) ≡ putAll (e .live) (leafNumbers (e .set) (e .clear) c t) (ofNoted n)
-
-    inside : i < 512
-    inside = slot-below (3 - depth) (c .start .0)
-
-    puts-none : new ≡ w → leafNumbers (e .set) (e .clear) c t ≡ [] → Puts
-    puts-none same none =
-        ap ofNoted (sym (own-same k (3 - depth) e c n refl refl same))
-        ∙ sym (ap (λ (xs : List ℕ). putAll (e .live) xs (ofNoted n)) none ∙ put-none (e .live) (ofNoted n))
-
-    own-puts : Puts
-    own-puts = go (meets placed depth e R i inside)
-      where
-        leaf-is : HoldsLeaf h s depth k i → leafNumbers (e .set) (e .clear) c t ≡ changedNumber (e .set) (e .clear) c w
-        leaf-is plain = ap (leafNumbers (e .set) (e .clear) c) (plain .shows)
-
-        changed : HoldsLeaf h s depth k i → valid w ≡ true → new ≡ edited (e .set) (e .clear) w → (new ≡ w) ⊎ (new ≢ w) → Puts
-        changed plain v is (inl same) = puts-none same (leaf-is plain ∙ number-same (e .set) (e .clear) c w v (sym is ∙ same))
-        changed plain v is (inr other) =
-            let l : Numbered = putNumber (e .live) _ (n .count) (n .list) in
-            ap ofNoted (sym (own-changed k (3 - depth) e c n refl refl other refl {count = l .count} {list = l .list} refl))
-            ∙ sym
-            (ap (λ (xs : List ℕ). putAll (e .live) xs (ofNoted n))
-            (leaf-is plain ∙ number-changed (e .set) (e .clear) c w v (λ q. other (is ∙ q)))
-            ∙ put-one (e .live) _ (ofNoted n))
-
-        go : Meets h e s depth k i → Puts
-        go (meets-table f shows same) = puts-none same (ap (leafNumbers (e .set) (e .clear) c) shows)
-        go (meets-hole plain v same) = puts-none same (leaf-is plain ∙ number-hole (e .set) (e .clear) c w v)
-        go (meets-entry plain v fine is) = changed plain v is (eq-or new w)
-
   abbrev pub ofWork : Work → Numbered
   ofWork w = numbered (w .count) (w .list)
 
@@ -160,8 +107,8 @@ module _ {h : Handle} (placed : Placed h) where
       ∙ loop-puts (λ (x : Noted). st (x .words) (w .state .ledger)) (λ c x y. ownChunk k (3 - depth) e c y)
       (λ c x u. ownTo (e .set) (e .clear) u) (λ c x u. 0)
       depth q k (areaOf e p) ofNoted (e .live) (leafNumbers (e .set) (e .clear)) low
-      (λ c x y piece ready enough. own-works placed depth k e (w .state .ledger) bits c y ready)
-      (λ c x y piece ready enough. own-puts depth k e (w .state .ledger) c y ready)
+      (λ c x y piece ready enough. own-edits placed depth k e (w .state .ledger) c y ready bits .works)
+      (λ c x y piece ready enough. own-edits placed depth k e (w .state .ledger) c y ready bits .puts)
       cs 0 p n (pieces depth q (areaOf e p) low p (e .region) area) R (omega arith)
 
   -- ---- the chunks that go down

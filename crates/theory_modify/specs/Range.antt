@@ -1,48 +1,43 @@
 -- A modify of a table of a sound pool does on lists what the document's loop does on the table's tree, with no more tables than that needs:
 -- no split meets a full pool.
 use mathlib.Core.Path.{_≡_, refl, sym, ap, subst, subst₂, _∙_}
-use mathlib.Core.Bool.{true, false}
+use mathlib.Core.Bool.{false}
 use mathlib.Core.List.{List, [], _∷_}
-use mathlib.Core.Logic.{_⊎_, inl, inr, _≢_}
 use Prim.Native.Nat.{ℕ, zero, suc, _+_, _-_, _≤_, _<_}
 use native.Mathlib.Omega.{arith}
-use Rattle.laws.specs.Test.{byBool, eq-or}
-use Rattle.entry.specs.Word.{valid, edited}
+use Rattle.laws.specs.Test.{byBool}
 use Rattle.address_slot.specs.Slot.{entryIndex}
 use Rattle.region.specs.Chunks.{chunks}
 use Rattle.region.specs.declared.MemoryRegion.{MemoryRegion}
-use Rattle.pool.specs.State.{St, st, wordAt}
+use Rattle.pool.specs.State.{st, wordAt}
 use Rattle.pool.specs.Number.{free}
 use Rattle.pool.specs.declared.Handle.{Handle}
 use Rattle.map_rules.specs.declared.Map.{Map}
 use Rattle.map_count_spec.specs.Needed.{slot-below}
 use Rattle.modify_entry.specs.declared.Edit.{Edit}
-use Rattle.modify_entry.specs.Word.{editWord}
 use Rattle.modify_entry.specs.Each.{eachOf, eachChunk, chunkEdit}
-use Rattle.modify_entry.specs.Own.{Numbered, putNumber, Noted, noted, ownChunk, ownRange, own-same, own-changed}
+use Rattle.modify_entry.specs.Own.{Noted, noted, ownChunk, ownRange}
 use Rattle.modify_range.specs.Range.{Work, work, own, ownWork, modifyRange, downStep, modify-pages, modify-open}
 use Rattle.modify_range.specs.Range.{step-own, step-into}
-use Rattle.theory_forest.specs.Tree.{Tree, leaf}
-use Rattle.theory_sound.specs.Clauses.{levelAt}
+use Rattle.theory_forest.specs.Tree.{Tree}
 use Rattle.theory_sound.specs.Codec.{Placed, treeFrom}
-use Rattle.theory_sound.specs.Step.{Stands, Ready, worked-ready}
-use Rattle.theory_sound.specs.Slot.{slotShows, HoldsLeaf}
+use Rattle.theory_sound.specs.Step.{Ready, worked-ready}
+use Rattle.theory_sound.specs.Slot.{slotShows}
 use Rattle.theory_tree.specs.Page.{child}
 use Rattle.theory_tree.specs.Visit.{opened, splits}
-use Rattle.theory_tree.specs.Fine.{Fine}
 use Rattle.theory_tree.specs.Chunks.{sweep, chunkedTable}
 use Rattle.theory_tree.specs.Needed.{tallied, needed, neededTable}
 use Rattle.theory_tree.specs.DocumentModify.{documentModify}
-use Rattle.theory_map.specs.Leaf.{leaf-from}
 use Rattle.theory_map.specs.Stand.{Piece}
-use Rattle.theory_map.specs.Moves.{StepWithin, WorkedWithin, kept, stored, worked-twice}
+use Rattle.theory_map.specs.Moves.{StepWithin, WorkedWithin, kept, worked-twice}
 use Rattle.theory_map.specs.Pieces.{Area, slotAt, pieces}
 use Rattle.theory_map.specs.Down.{Opens, opens}
 use Rattle.theory_map.specs.Loop.{through, loop}
-use Rattle.theory_modify.specs.Word.{Bits, edited-stands}
-use Rattle.theory_modify.specs.Passes.{ownEntry, ownTo, downTo, own-valid, own-hole, own-node, down-own, down-on, takes-on}
+use Rattle.theory_modify.specs.Word.{Bits}
+use Rattle.theory_modify.specs.Passes.{ownEntry, ownTo, downTo, down-own, down-on, takes-on}
 use Rattle.theory_modify.specs.Passes.{pages-pass, two-passes}
-use Rattle.theory_modify.specs.Entry.{Meets, meets-table, meets-hole, meets-entry, meets, own-is}
+use Rattle.theory_modify.specs.Entry.{own-is}
+use Rattle.theory_modify.specs.Own.{own-edits}
 
 -- ---- the document's loop on trees, for an edit of a table's region; p is a frame, which is not read
 
@@ -76,57 +71,6 @@ none-taken depth (c ∷ cs) p t = let z = none-taken depth cs (p + (c .end .0 - 
 module _ {h : Handle} (placed : Placed h) where
   -- ---- a table's own entries
 
-  module _ (depth k : ℕ) (e : Edit) (ledger : List ℕ) (bits : Bits h e) (c : MemoryRegion) (n : Noted)
-      (R : Ready h (st (n .words) ledger) depth k) where
-    abbrev s : St
-    s = st (n .words) ledger
-
-    abbrev i : ℕ
-    i = entryIndex (3 - depth) (c .start .0)
-
-    abbrev w : ℕ
-    w = wordAt s k i
-
-    abbrev new : ℕ
-    new = editWord (3 - depth) e w
-
-    abbrev t : Tree
-    t = slotShows h s depth k i
-
-    abbrev Goal : Type 0
-    Goal = StepWithin placed s (st (ownChunk k (3 - depth) e c n .words) ledger) depth k i (ownTo (e .set) (e .clear) t) 0
-
-    inside : i < 512
-    inside = slot-below (3 - depth) (c .start .0)
-
-    stays : new ≡ w → ownTo (e .set) (e .clear) t ≡ t → Goal
-    stays same tree =
-        subst₂ (λ (x : Noted) (u : Tree). StepWithin placed s (st (x .words) ledger) depth k i u 0)
-        (own-same k (3 - depth) e c n refl refl same) (sym tree) (kept placed R i 0)
-
-    pub own-works : Goal
-    own-works = go (meets placed depth e R i inside)
-      where
-        changed : HoldsLeaf h s depth k i → valid w ≡ true → Fine depth w → new ≡ edited (e .set) (e .clear) w
-            → ownTo (e .set) (e .clear) t ≡ leaf new
-            → (new ≡ w) ⊎ (new ≢ w) → Goal
-        changed plain v fine is tree (inl same) = stays same (tree ∙ ap leaf same ∙ sym (plain .shows))
-        changed plain v fine is tree (inr other) =
-            let l : Numbered = putNumber (e .live) _ (n .count) (n .list) in
-            subst₂ (λ (x : Noted) (u : Tree). StepWithin placed s (st (x .words) ledger) depth k i u 0)
-            (own-changed k (3 - depth) e c n refl refl other refl {count = l .count} {list = l .list} refl) (sym tree)
-            (stored placed R i 0 new inside (plain .plain)
-            (subst (Stands h (levelAt s k)) (sym is)
-            (edited-stands e w h depth (levelAt s k) bits (R .low) fine (leaf-from (R .pool) k i inside (R .used) (plain .plain)) v)))
-
-        go : Meets h e s depth k i → Goal
-        go (meets-table f shows same) = stays same (ap (ownTo (e .set) (e .clear)) shows ∙ own-node (e .set) (e .clear) f ∙ sym shows)
-        go (meets-hole plain v same) =
-            stays same (ap (ownTo (e .set) (e .clear)) (plain .shows) ∙ own-hole (e .set) (e .clear) w v ∙ sym (plain .shows))
-        go (meets-entry plain v fine is) =
-            changed plain v fine is (ap (ownTo (e .set) (e .clear)) (plain .shows) ∙ own-valid (e .set) (e .clear) w v ∙ ap leaf (sym is))
-            (eq-or new w)
-
   own-pass : (depth q k p : ℕ) (e : Edit) (w : Work) → depth ≤ 3 → Bits h e → Area depth q (areaOf e p) → Ready h (w .state) depth k
       → WorkedWithin placed (w .state) (ownWork k (3 - depth) e w .state) depth k
       (sweep depth (λ c x u. ownTo (e .set) (e .clear) u) (chunks (3 - depth) (e .region .start .0) (e .region .end .0)) p
@@ -139,7 +83,7 @@ module _ {h : Handle} (placed : Placed h) where
       let n : Noted = noted (w .state .words) (w .list) (w .count) in
       let W = loop placed (λ (x : Noted). st (x .words) (w .state .ledger)) (λ c x y. ownChunk k (3 - depth) e c y)
       (λ c x u. ownTo (e .set) (e .clear) u) (λ c x u. 0)
-      depth q k (areaOf e p) low (λ c x y piece ready enough. own-works depth k e (w .state .ledger) bits c y ready) cs 0 p n
+      depth q k (areaOf e p) low (λ c x y piece ready enough. own-edits placed depth k e (w .state .ledger) c y ready bits .works) cs 0 p n
       (pieces depth q (areaOf e p) low p (e .region) area) R
       (omega arith) in
       subst₂

@@ -39,17 +39,17 @@ use Rattle.theory_tree.specs.Walk.{seen}
 use Rattle.theory_tree.specs.DocumentModify.{document-modifies, document-modify-needs}
 use Rattle.theory_map.specs.Terms.{depthOf, rootIn}
 use Rattle.theory_map.specs.Leaf.{slot-fine}
-use Rattle.theory_map.specs.Moves.{WorkedWithin, root-node}
+use Rattle.theory_map.specs.Moves.{root-node}
 use Rattle.theory_map.specs.Pieces.{Area}
 use Rattle.theory_map.specs.Asked.{Early}
 use Rattle.theory_modify.specs.Terms.{ModifyArguments, modifyAnswer, modifyAccepted, Modifies, editAsked, ModifyPassed, surveyed}
 use Rattle.theory_modify.specs.Terms.{modifyPagesOf, treeAfterModify, madeByModify, numbersOf}
 use Rattle.theory_modify.specs.Numbers.{tableNumbers, occurs, firstPage}
 use Rattle.theory_modify.specs.Word.{Bits}
-use Rattle.theory_modify.specs.Range.{editTable, editTakes, areaOf, range-edits}
+use Rattle.theory_modify.specs.Pass.{areaOf, TableEdited}
+use Rattle.theory_modify.specs.Range.{editTable, editTakes, range-edits}
 use Rattle.theory_modify.specs.Splits.{survey-splits}
 use Rattle.theory_modify.specs.Notes.{putAll, put-off, put-live}
-use Rattle.theory_modify.specs.Listing.{range-lists}
 use Rattle.theory_modify.specs.Counted.{survey-numbers}
 use Rattle.theory_modify.specs.Once.{numbers-once}
 use Rattle.theory_modify.specs.Listed.{changes, region-tells}
@@ -124,27 +124,25 @@ module _ {h : Handle} {c : ModifyArguments} {s : St} (passed : ModifyPassed h c 
   -- ---- with room
 
   module _ (room : madeByModify h c s ≤ free (s .ledger)) (list : List ℕ) where
-    worked : WorkedWithin (shaped-placed (passed .shape)) s (workAfter h c s list .state) (depthOf h) 0
-        (editTable e (depthOf h) 0 (rootTree h s)) (editTakes e (depthOf h) 0 (rootTree h s))
-    worked =
+    root-edited : TableEdited (shaped-placed (passed .shape)) (c .live) (work s list 0) (workAfter h c s list) (depthOf h) 0
+        (editTable e (depthOf h) 0 (rootTree h s)) (editTakes e (depthOf h) 0 (rootTree h s)) (numbersOf h c s)
+    unfolding askedEdit
+    root-edited =
         range-edits (shaped-placed (passed .shape)) (depthOf h) (omega arith) (rootIn h) 0 0 e (work s list 0) bits area ready
         (omega (arith, takes-made))
 
     pub after-shaped : Shaped h (workAfter h c s list .state)
-    after-shaped = worked-ready ready (worked .worked) .shape
+    after-shaped = worked-ready ready (root-edited .works .worked) .shape
 
     pub after-sound : SoundPool h (workAfter h c s list .state)
-    after-sound = worked-ready ready (worked .worked) .pool
+    after-sound = worked-ready ready (root-edited .works .worked) .pool
 
     pub after-list : numbered (workAfter h c s list .count) (workAfter h c s list .list)
         ≡ putAll (c .live) (numbersOf h c s) (numbered 0 list)
-    unfolding askedEdit
-    after-list =
-        range-lists (shaped-placed (passed .shape)) (depthOf h) (omega arith) (rootIn h) 0 0 e (work s list 0) bits area ready
-        (omega (arith, takes-made))
+    after-list = root-edited .puts
 
     pub after-tree : rootTree h (workAfter h c s list .state) ≡ treeAfterModify h c s
-    after-tree = worked .worked .work .tree ∙ done-tree
+    after-tree = root-edited .works .worked .work .tree ∙ done-tree
 
 -- ---- what the call answers
 

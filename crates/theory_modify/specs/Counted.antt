@@ -44,7 +44,7 @@ use Rattle.theory_map.specs.Pieces.{Area, slotAt, Pieces, pieces}
 use Rattle.theory_map.specs.Need.{slot-fill}
 use Rattle.theory_map.specs.Loop.{slot-of}
 use Rattle.theory_modify.specs.Word.{hole-stays, valid-edited}
-use Rattle.theory_modify.specs.Range.{areaOf}
+use Rattle.theory_modify.specs.Pass.{areaOf}
 use Rattle.theory_modify.specs.Entry.{survey-page, survey-slot}
 use Rattle.theory_modify.specs.Numbers.{gathered, changedNumber, ownNumbers, lowerNumbers, tableNumbers}
 use Rattle.theory_modify.specs.Gathered.{number-changed, number-same, number-hole, own-on, own-here, lower-own}

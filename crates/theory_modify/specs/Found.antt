@@ -39,7 +39,7 @@ use Rattle.theory_tree.specs.Chunks.{index-slot}
 use Rattle.theory_map.specs.Stand.{Piece}
 use Rattle.theory_map.specs.Pieces.{Area, slotAt, Pieces, pieces}
 use Rattle.theory_modify.specs.Word.{hole-stays}
-use Rattle.theory_modify.specs.Range.{areaOf}
+use Rattle.theory_modify.specs.Pass.{areaOf}
 use Rattle.theory_modify.specs.Entry.{survey-page, survey-slot}
 use Rattle.theory_modify.specs.Counted.{valid-block, page-whole}
 use Rattle.theory_modify.specs.Listed.{slot-in}

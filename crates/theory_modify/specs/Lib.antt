@@ -6,13 +6,13 @@ pub mod House
 pub mod Word
 pub mod Passes
 pub mod Entry
+pub mod Gathered
+pub mod Notes
+pub mod Pass
 pub mod Own
 pub mod Range
 pub mod Splits
 -- the list
-pub mod Gathered
-pub mod Notes
-pub mod Listing
 pub mod Counted
 pub mod Once
 pub mod Listed

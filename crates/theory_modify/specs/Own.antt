@@ -13,6 +13,7 @@ use Rattle.pool.specs.declared.Handle.{Handle}
 use Rattle.map_count_spec.specs.Needed.{slot-below}
 use Rattle.modify_entry.specs.declared.Edit.{Edit}
 use Rattle.modify_entry.specs.Word.{editWord}
+use Rattle.modify_range.specs.Range.{Work, work}
 use Rattle.modify_entry.specs.Own.{Numbered, numbered, putNumber, Noted, ownChunk, own-same, own-changed}
 use Rattle.theory_forest.specs.Tree.{Tree, leaf}
 use Rattle.theory_sound.specs.Clauses.{levelAt}
@@ -26,11 +27,12 @@ use Rattle.theory_modify.specs.Word.{Bits, edited-stands}
 use Rattle.theory_modify.specs.Passes.{ownTo, own-valid, own-hole, own-node}
 use Rattle.theory_modify.specs.Entry.{Meets, meets-table, meets-hole, meets-entry, meets}
 use Rattle.theory_modify.specs.Gathered.{number-changed, number-same, number-hole, leafNumbers}
+use Rattle.theory_modify.specs.Pass.{SlotEdited}
 use Rattle.theory_modify.specs.Notes.{putAll, put-none, put-one}
 
--- the list and the count of what was put
-abbrev pub ofNoted : Noted → Numbered
-ofNoted n = numbered (n .count) (n .list)
+-- the words, list and count of an edit, with the ledger, which it leaves
+abbrev pub withNotes : List ℕ → Noted → Work
+withNotes ledger n = work (st (n .words) ledger) (n .list) (n .count)
 
 module _ {h : Handle} (placed : Placed h) (depth k : ℕ) (e : Edit) (ledger : List ℕ) (c : MemoryRegion) (n : Noted) where
   abbrev s : St
@@ -48,13 +50,13 @@ module _ {h : Handle} (placed : Placed h) (depth k : ℕ) (e : Edit) (ledger : L
   abbrev t : Tree
   t = slotShows h s depth k i
 
-  -- x is left: the slot shows u, and the numbers xs were put into the list
-  pub record Edited (x : Noted) (u : Tree) (xs : List ℕ) : Type 0 where
-    pub works : StepWithin placed s (st (x .words) ledger) depth k i u 0
-    pub puts : ofNoted x ≡ putAll (e .live) xs (ofNoted n)
+  abbrev notes : Numbered
+  notes = numbered (n .count) (n .list)
 
   abbrev Goal : Type 0
-  Goal = Edited (ownChunk k (3 - depth) e c n) (ownTo (e .set) (e .clear) t) (leafNumbers (e .set) (e .clear) c t)
+  Goal =
+      SlotEdited placed (e .live) (withNotes ledger n) (withNotes ledger (ownChunk k (3 - depth) e c n)) depth k i
+      (ownTo (e .set) (e .clear) t) 0 (leafNumbers (e .set) (e .clear) c t)
 
   inside : i < 512
   inside = slot-below (3 - depth) (c .start .0)
@@ -65,7 +67,7 @@ module _ {h : Handle} (placed : Placed h) (depth k : ℕ) (e : Edit) (ledger : L
         let is = own-same k (3 - depth) e c n refl refl same in
         record {
           works = subst₂ (λ (x : Noted) (u : Tree). StepWithin placed s (st (x .words) ledger) depth k i u 0) is (sym tree) (kept placed R i 0);
-          puts = ap ofNoted (sym is) ∙ sym (ap (λ (xs : List ℕ). putAll (e .live) xs (ofNoted n)) none ∙ put-none (e .live) (ofNoted n));
+          puts = ap (λ (x : Noted). numbered (x .count) (x .list)) (sym is) ∙ sym (ap (λ (xs : List ℕ). putAll (e .live) xs notes) none ∙ put-none (e .live) notes);
         }
 
     module _ (bits : Bits h e) (plain : HoldsLeaf h s depth k i) (v : valid w ≡ true) (fine : Fine depth w)
@@ -87,12 +89,12 @@ module _ {h : Handle} (placed : Placed h) (depth k : ℕ) (e : Edit) (ledger : L
                 (subst (Stands h (levelAt s k)) (sym is)
                 (edited-stands e w h depth (levelAt s k) bits (R .low) fine (leaf-from (R .pool) k i inside (R .used) (plain .plain)) v)));
             puts =
-                ap ofNoted (sym done)
+                ap (λ (x : Noted). numbered (x .count) (x .list)) (sym done)
                 ∙ sym
-                (ap (λ (xs : List ℕ). putAll (e .live) xs (ofNoted n))
+                (ap (λ (xs : List ℕ). putAll (e .live) xs notes)
                 (ap (leafNumbers (e .set) (e .clear) c) (plain .shows)
                 ∙ number-changed (e .set) (e .clear) c w v (λ q. other (is ∙ q)))
-                ∙ put-one (e .live) _ (ofNoted n));
+                ∙ put-one (e .live) _ notes);
           }
 
     pub own-edits : Bits h e → Goal

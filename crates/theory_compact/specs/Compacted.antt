@@ -13,7 +13,6 @@ use Rattle.pool.specs.declared.Counted.{Counted}
 use Rattle.pool.specs.declared.Counted.the-variants.{Tables}
 use Rattle.theory_forest.specs.Tree.{Tree}
 use Rattle.theory_forest.specs.Walk.{walkTree}
-use Rattle.theory_forest.specs.Nodes.{nodes}
 use Rattle.theory_forest.specs.Compact.{compactTree}
 use Rattle.theory_forest.specs.CompactWalk.{compact-walk}
 use Rattle.theory_tree.specs.Compact.{Tight, emptied, compact-count, compact-tight}
@@ -21,7 +20,7 @@ use Rattle.theory_sound.specs.Codec.{shaped-placed, rootTree}
 use Rattle.theory_sound.specs.Clauses.{InUse, SoundPool}
 use Rattle.theory_sound.specs.Decide.{sound-decide}
 use Rattle.theory_sound.specs.Hanging.{used-tree}
-use Rattle.theory_sound.specs.Step.{used-inside, Worked, root-ready, pool-again, shaped-again}
+use Rattle.theory_sound.specs.Step.{used-inside, root-ready, Leaves, root-leaves, leaves-used}
 use Rattle.arm.specs.Arm.{bits, flagsIn, says}
 use Rattle.arm.specs.Walk.{slot-below}
 use Rattle.theory_walk.specs.AsBefore.{walkOf, hole, shown}
@@ -47,13 +46,13 @@ unfolding compacted
 compact-none {h} shape P none = table-same (shaped-placed shape) none (3 - h .level) 0 (root-ready shape P)
 
 module _ {h : Handle} {s : St} (shape : Shaped h s) (P : SoundPool h s) where
-  worked : Worked h (shaped-placed shape) s (compacted h s) (3 - h .level) 0 (compactTree (3 - h .level) (rootTree h s))
+  leaves : Leaves h s (compacted h s) (compactTree (3 - h .level) (rootTree h s))
   unfolding compacted
-  worked = table-worked (shaped-placed shape) (3 - h .level) s 0 (root-ready shape P)
+  leaves = root-leaves shape P (table-worked (shaped-placed shape) (3 - h .level) s 0 (root-ready shape P))
 
   -- the root's tree is compacted
   pub compact-of-tree : rootTree h (compacted h s) ≡ compactTree (3 - h .level) (rootTree h s)
-  compact-of-tree = worked .work .tree
+  compact-of-tree = leaves .tree
 
   -- the call is accepted, and answers with the tables in use afterwards
   pub compact-answers : compactCall h s ≡ out (Tables (used (compacted h s .ledger))) (compacted h s)
@@ -63,10 +62,10 @@ module _ {h : Handle} {s : St} (shape : Shaped h s) (P : SoundPool h s) where
 
   -- SOUND AGAIN, in lists as long as before
   pub compact-keeps-sound : SoundPool h (compacted h s)
-  compact-keeps-sound = pool-again (worked .size) (shaped-placed shape) P (worked .work .over .sound)
+  compact-keeps-sound = leaves .pool
 
   pub compact-keeps-shape : Shaped h (compacted h s)
-  compact-keeps-shape = shaped-again (worked .size) shape
+  compact-keeps-shape = leaves .shape
 
   -- EVERY ADDRESS WALKS AS BEFORE, to the same frame and flags
   pub compact-walks-as-before : (va : ℕ) → shown (walkOf h (compacted h s) va) ≡ shown (walkOf h s va)
@@ -94,7 +93,7 @@ module _ {h : Handle} {s : St} (shape : Shaped h s) (P : SoundPool h s) where
   -- NEVER MORE TABLES: those that are freed are counted
   pub compact-frees : used (compacted h s .ledger) + emptied (3 - h .level) (rootTree h s) ≡ used (s .ledger)
   compact-frees =
-      let after = used-tree compact-keeps-shape compact-keeps-sound ∙ ap nodes compact-of-tree in
+      let after = leaves-used leaves in
       let before = used-tree shape P in
       let balance = compact-count (3 - h .level) (rootTree h s) in
       omega arith

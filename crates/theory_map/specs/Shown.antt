@@ -15,6 +15,7 @@ use Rattle.theory_forest.specs.Tree.{Tree, leaf, node}
 use Rattle.theory_forest.specs.Walk.{Ends, walkTree}
 use Rattle.theory_sound.specs.Clauses.{SoundPool}
 use Rattle.theory_sound.specs.Codec.{shaped-placed, rootTree}
+use Rattle.theory_sound.specs.Step.{Leaves}
 use Rattle.arm.specs.Arm.{frameOf, flagsIn, at, says}
 use Rattle.arm.specs.Walk.{index-is, flags-is, frame-is, says-hole, says-block, says-page}
 use Rattle.theory_walk.specs.AsBefore.{walkOf, Shown, mapped, hole, shown}
@@ -148,3 +149,11 @@ module _ {h : Handle} {s : St} (shape : Shaped h s) (P : SoundPool h s) (va : �
       let ends = table-ends (slotOfPage (va / 4096)) depth (rootTree h s) (slot-lt (va / 4096)) (root-fine (shaped-placed shape) P) in
       ap shown (walk-of-tree shape P va) ∙ ap (λ (x : Ends). shown (says va (reachedAt x))) same ∙ ends-shown va e depth (omega arith) ends
       ∙ ap inBytes (seen-ends (suc depth) (rootTree h s) (va / 4096))
+
+-- what is shown where a call left the tree t at the root
+pub leaves-shown : {h : Handle} {s s′ : St} {t : Tree} → Leaves h s s′ t → (va : ℕ) {x : Seen}
+    → seen (suc (3 - h .level)) t (va / 4096) ≡ x → shown (walkOf h s′ va) ≡ inBytes x
+leaves-shown {h} left va e =
+    walk-shown (left .shape) (left .pool) va
+    ∙ ap (λ (t : Tree). inBytes (seen (suc (3 - h .level)) t (va / 4096))) (left .tree)
+    ∙ ap inBytes e

@@ -19,7 +19,6 @@ pub mod Listed
 -- the call
 pub mod Asked
 pub mod Call
-pub mod Place
 -- the house rule
 pub mod Found
 pub mod Stays

@@ -4,7 +4,7 @@ use mathlib.Core.Path.{_≡_, sym, ap, _∙_}
 use Prim.Native.Nat.{ℕ, suc, _+_, _-_, _%_, _≤_, _<_}
 use native.Mathlib.Omega.{arith}
 use Rattle.pool.specs.State.{St, wordAt, numberAt, used-in}
-use Rattle.pool.specs.Number.{levelOf}
+use Rattle.pool.specs.Number.{levelOf, used}
 use Rattle.pool.specs.Refuse.{Shaped, shaped-keep}
 use Rattle.pool.specs.Sound.{flagSet}
 use Rattle.pool.specs.declared.Handle.{Handle}
@@ -13,11 +13,12 @@ use Rattle.theory_forest.specs.Sound.{TableWord, IsTable, Refers, Sound}
 use Rattle.theory_forest.specs.Under.{refers-level}
 use Rattle.theory_forest.specs.Keep.{Fits}
 use Rattle.theory_forest.specs.Place.{slot-self, below-self}
+use Rattle.theory_forest.specs.Nodes.{nodes}
 use Rattle.theory_forest.specs.Move.{Move, TableMove}
-use Rattle.theory_sound.specs.Codec.{Placed, shaped-placed, codecOf, view, word-in, zero-leaf}
+use Rattle.theory_sound.specs.Codec.{Placed, shaped-placed, codecOf, view, word-in, zero-leaf, rootTree}
 use Rattle.theory_sound.specs.Clauses.{InUse, levelAt, LeafWord, SoundPool}
 use Rattle.theory_sound.specs.Generic.{says-leaf, sound-pool, leaf-says}
-use Rattle.theory_sound.specs.Hanging.{root-used, root-left}
+use Rattle.theory_sound.specs.Hanging.{root-used, root-left, used-tree}
 use Rattle.theory_sound.specs.Lists.{TableInside, SameSize}
 
 -- the word v may stand as a leaf in a table of this level
@@ -99,3 +100,22 @@ module _ {h : Handle} {placed : Placed h} {s s′ : St} {depth p : ℕ} {t : Tre
 
   pub worked-ready : Ready h s depth p → Worked h placed s s′ depth p t → Ready h s′ depth p
   worked-ready R done = ready-again (done .size) placed R (done .work .over .sound) (done .work .over .ledger p (R .used) below-self)
+
+-- ---- work at the root
+
+-- s′ is sound, in lists as long as those of s, and its root shows t
+pub record Leaves (h : Handle) (s s′ : St) (t : Tree) : Type 0 where
+  pub shape : Shaped h s′
+  pub pool : SoundPool h s′
+  pub size : SameSize s s′
+  pub tree : rootTree h s′ ≡ t
+
+pub root-leaves : {h : Handle} {placed : Placed h} {s s′ : St} {t : Tree} → Shaped h s → SoundPool h s
+    → Worked h placed s s′ (3 - h .level) 0 t → Leaves h s s′ t
+root-leaves shape P done =
+    let ready = worked-ready (root-ready shape P) done in
+    record { shape = ready .shape; pool = ready .pool; size = done .size; tree = done .work .tree }
+
+-- the tables in use are the nodes of the tree that the root shows
+pub leaves-used : {h : Handle} {s s′ : St} {t : Tree} → Leaves h s s′ t → used (s′ .ledger) ≡ nodes t
+leaves-used left = used-tree (left .shape) (left .pool) ∙ ap nodes (left .tree)

@@ -86,15 +86,15 @@ module _ (h : Handle) (s : St) (start end set clear : ℕ) (live : Bool) (list :
 -- ---- DEMAND 2, after an accepted map: "each table in use hangs from the root exactly once"
 
 module _ {h : Handle} {c : MapArguments} {s s′ : St} {n : ℕ} (maps : Maps h c s n s′) where
-  -- by a path of slots from the root ..
+  -- a path of slots leads from the root to each table in use;
   pub map-tables-hang : {j : ℕ} → InUse s′ j → (slots : List ℕ) × Follows h s′ 0 slots j
   map-tables-hang inUse = reach (call-leaves maps .shape) (map-keeps-sound maps) inUse
 
-  -- .. and by no other;
+  -- one path alone leads from the root to a table;
   pub map-tables-hang-once : {j : ℕ} {slots slots′ : List ℕ} → Follows h s′ 0 slots j → Follows h s′ 0 slots′ j → slots ≡ slots′
   map-tables-hang-once a b = one-path (call-leaves maps .shape) (map-keeps-sound maps) a b
 
-  -- one slot of the tables in use refers to it, none to the root and none to a free table;
+  -- one slot of the tables in use refers to a table in use other than the root, none to the root and none to a free table;
   pub map-one-slot : {j : ℕ} → j ≢ 0 → InUse s′ j → OneSlot h s′ j
   map-one-slot other inUse = refer-once (call-leaves maps .shape) (map-keeps-sound maps) other inUse
 

@@ -73,7 +73,8 @@ module _ {h : Handle} (placed : Placed h) where
     EachWorks =
         (c : MemoryRegion) (p : ℕ) (x : S) → Piece depth (child q (slotAt depth c)) (chunkMap m c p) → Ready h (stateOf x) depth k
         → let i = entryIndex (3 - depth) (c .start .0) in let t = slotShows h (stateOf x) depth k i in
-        count c p t ≤ free (stateOf x .ledger) → StepWithin placed (stateOf x) (stateOf (each c p x)) depth k i (eachTree c p t) (count c p t)
+        count c p t ≤ free (stateOf x .ledger)
+        → StepWithin placed (stateOf x) (stateOf (each c p x)) depth k i (eachTree c p t) (count c p t)
 
     -- the first chunk of some done: what the others find
     pub record Stepped (c : MemoryRegion) (cs : List MemoryRegion) (p : ℕ) (x : S) : Type 0 where

@@ -57,7 +57,7 @@ module _ {h : Handle} {c : MapArguments} {s s′ : St} {n : ℕ} (maps : Maps h 
         (region-paged passed .spans va at) (region-paged passed .page va at) (valid-of (c .flags) v))
         ∙ ap (mapped (c .flags)) (frame-is passed va at)
 
-    -- without VALID it is a hole with the call's flags;
+    -- without VALID each page of the region is a hole with the call's flags;
     pub map-region-holes : InMapRegion c va → c .flags % 2 ≡ 0 → shown (walkOf h s′ va) ≡ hole (c .flags)
     unfolding askedMap inBytes
     map-region-holes at v =
@@ -120,14 +120,14 @@ module _ (h : Handle) (c : MapArguments) (s : St) where
 -- ---- DEMAND 3: VALID calls whose regions share no page
 
 pub record EitherOrder (h : Handle) (cs ds : List MapArguments) (s : St) : Type 0 where
-  -- all are accepted in one order exactly when all are in the other;
+  -- all are accepted in one order exactly when all are in the other
   pub accepted : ((s′ : St) × InTurn h cs s s′) ↔ ((t′ : St) × InTurn h ds s t′)
-  -- then every address has the same walk answer, level included,
+  -- after either order every address has the same walk answer, level included
   pub walks : (s′ t′ : St) → InTurn h cs s s′ → InTurn h ds s t′ → (va : ℕ) → walkOf h s′ va ≡ walkOf h t′ va
-  -- and equally many tables are in use
+  -- after either order equally many tables are in use
   pub tables : (s′ t′ : St) → InTurn h cs s s′ → InTurn h ds s t′ → used (s′ .ledger) ≡ used (t′ .ledger)
 
--- any number of them, in any order (Q-13), in a pool that refusals 1 and 8 leave;
+-- any number of VALID calls, in any order (Q-13), in a pool that refusals 1 and 8 leave
 pub maps-any-order : (h : Handle) (cs ds : List MapArguments) (s : St) → ShapedSound h s → Reorders cs ds → Pairs RegionsApart cs
     → Each Valid cs → EitherOrder h cs ds s
 maps-any-order h cs ds s law reorders apart valid = record {
@@ -140,7 +140,7 @@ maps-any-order h cs ds s law reorders apart valid = record {
   tables = λ s′ t′ turn turn′. order-tables law reorders apart turn turn′ valid;
 }
 
--- two of them, whatever the pool
+-- two VALID calls, whatever the pool
 pub maps-commute : (h : Handle) (c d : MapArguments) (s : St) → RegionsApart c d → Valid c → Valid d
     → EitherOrder h (c ∷ d ∷ []) (d ∷ c ∷ []) s
 maps-commute h c d s apart vc vd = record {

@@ -110,7 +110,7 @@ walk-same f g zero (node u) same = refl
 walk-same f g (suc n) (node u) same =
     ap (λ (i : ℕ). walkTree f n (u i)) (same n (omega arith)) ∙ walk-same f g n (u (g n)) (λ l h. same l (omega arith))
 
--- in a fine tree it ends in a fine word
+-- the walk of a fine tree ends in a fine word
 pub record FineEnds (depth : ℕ) (e : Ends) : Type 0 where
   pub fine : Fine (e .depth) (e .word)
   pub low : e .depth ≤ depth
@@ -122,7 +122,7 @@ ends-fine f zero (node u) slots fine = absurd fine
 ends-fine f (suc depth) (node u) slots fine =
     let e = ends-fine f depth (u (f depth)) slots (fine (f depth) (slots depth)) in record { fine = e .fine; low = omega (arith, e .low) }
 
--- .. below the root
+-- the walk of a fine table ends in a fine word below it
 pub table-ends : (f : ℕ → ℕ) (depth : ℕ) (t : Tree) → ((l : ℕ) → f l < 512) → FineTable depth t → FineEnds depth (walkTree f (suc depth) t)
 unfolding walkTree
 table-ends f depth (leaf w) slots fine = absurd fine

@@ -447,7 +447,8 @@ module _ {h : Handle} (placed : Placed h) where
       → ChunkFinds (suc depth) e c (slotShows h s (suc depth) k (entryIndex (3 - suc depth) (c .start .0))) v
       (surveyChunk (λ j n y. surveyRange depth h s j n y) h s k (3 - suc depth) e c v)
   chunk-finds depth q k e s R scans c p v piece =
-      survey-slot placed (λ j n y. surveyRange depth h s j n y) s k e c v (λ (x : Survey) (u : Tree). ChunkFinds (suc depth) e c u v x) depth R
+      survey-slot placed (λ j n y. surveyRange depth h s j n y) s k e c v
+      (λ (x : Survey) (u : Tree). ChunkFinds (suc depth) e c u v x) depth R
       (λ w fine. leaf-chunk (suc depth) q p e c w v (omega (arith, R .low)) fine piece)
       (λ j f ready tree. subst (λ (u : Tree). ChunkFinds (suc depth) e c u v (surveyRange depth h s j (chunkEdit e c) v)) tree
       (scans q j p (chunkEdit e c) s v (record { inside = piece .inside; room = piece .room }) ready (omega (arith, piece .some))))

@@ -60,7 +60,8 @@ module _ (set clear : ℕ) where
   leafNumbers c (leaf w) = changedNumber set clear c w
   leafNumbers c (node f) = []
 
-  pub own-here : (depth : ℕ) (c : MemoryRegion) (u : Tree) → ownEntry depth c u ≡ true → ownNumbers set clear (suc depth) c u ≡ leafNumbers c u
+  pub own-here : (depth : ℕ) (c : MemoryRegion) (u : Tree) → ownEntry depth c u ≡ true
+      → ownNumbers set clear (suc depth) c u ≡ leafNumbers c u
   unfolding ownNumbers
   own-here depth c (leaf w) e = rw e
   own-here depth c (node f) e = refl

@@ -37,7 +37,8 @@ use Rattle.theory_modify.specs.Terms.{ModifyArguments, modifyAnswer, Mod
 use Rattle.theory_modify.specs.Terms.{flagsAfter, modifyPagesOf, madeByModify, numbersOf}
 use Rattle.theory_modify.specs.Numbers.{occurs, firstPage}
 use Rattle.theory_modify.specs.Listed.{changes}
-use Rattle.theory_modify.specs.Call.{workAfter, region-paged, given, splits-made, numbers-made, numbers-one, numbers-tell, call-full, call-broken}
+use Rattle.theory_modify.specs.Call.{workAfter, region-paged, given, splits-made, numbers-made, numbers-one, numbers-tell, call-full}
+use Rattle.theory_modify.specs.Call.{call-broken}
 use Rattle.theory_modify.specs.Call.{call-short, call-accepted, full-back}
 use Rattle.theory_modify.specs.Call.{broken-back, short-back, call-passed, Clear, call-clear, call-leaves}
 use Rattle.theory_modify.specs.Call.{call-answer, call-off, call-on}
@@ -253,8 +254,8 @@ module _ (h : Handle) (c : ModifyArguments) (s : St) (list : List ℕ) where
       → ((surveyed h c s .broken ≡ true) × (surveyed h c s .word ≡ w)) ↔ LowestBreach h c s w
   house-rule-lowest passed w = survey-lowest passed w
 
-  -- so 10 is given with w exactly when none of refusals 1 to 9 is, the call is live, and w stands at the lowest address where it breaks the
-  -- house rule;
+  -- refusal 10 is given with w exactly when none of refusals 1 to 9 is, the call is live, and w stands at the lowest address where it
+  -- breaks the house rule;
   pub modify-refused-10-lowest : (w : ℕ) → (modifyAnswer h c s list ≡ modifying (Refused (HouseRule w)) s list)
       ↔ (ModifyPassed h c s × (madeByModify h c s ≤ free (s .ledger)) × (c .live ≡ true) × LowestBreach h c s w)
   modify-refused-10-lowest w = (

@@ -66,8 +66,11 @@ module _ {h : Handle} (placed : Placed h) (depth k : ℕ) (e : Edit) (ledger : L
     stays same tree none =
         let is = own-same k (3 - depth) e c n refl refl same in
         record {
-          works = subst₂ (λ (x : Noted) (u : Tree). StepWithin placed s (st (x .words) ledger) depth k i u 0) is (sym tree) (kept placed R i 0);
-          puts = ap (λ (x : Noted). numbered (x .count) (x .list)) (sym is) ∙ sym (ap (λ (xs : List ℕ). putAll (e .live) xs notes) none ∙ put-none (e .live) notes);
+          works =
+              subst₂ (λ (x : Noted) (u : Tree). StepWithin placed s (st (x .words) ledger) depth k i u 0) is (sym tree) (kept placed R i 0);
+          puts =
+              ap (λ (x : Noted). numbered (x .count) (x .list)) (sym is)
+              ∙ sym (ap (λ (xs : List ℕ). putAll (e .live) xs notes) none ∙ put-none (e .live) notes);
         }
 
     module _ (bits : Bits h e) (plain : HoldsLeaf h s depth k i) (v : valid w ≡ true) (fine : Fine depth w)

@@ -1,5 +1,5 @@
--- What an edit does to a slot and to a table of a sound pool: what the slot or the table shows then, and which numbers are put into the list.
--- A pass over a table's chunks: where each does so to its slot, all of them do so to the table.
+-- What an edit does to a slot and to a table of a sound pool: what the slot or the table shows then, and which numbers are put into the
+-- list. A pass over a table's chunks: where each does so to its slot, all of them do so to the table.
 use mathlib.Core.Path.{_≡_, refl, sym, ap, ap₂, subst, _∙_}
 use mathlib.Core.Bool.{Bool, false}
 use mathlib.Core.List.{List, [], _∷_}

@@ -167,7 +167,8 @@ module _ {h : Handle} (placed : Placed h) where
       → let t = treeFrom h (w .state) (suc depth) k in let cs = chunks (3 - suc depth) (e .region .start .0) (e .region .end .0) in
       editTakes e (suc depth) p t ≤ free (w .state .ledger)
       → TableEdited placed (e .live) w (eachChunk (3 - suc depth) (downStep h k (3 - suc depth) e) (e .region) w) (suc depth) k
-      (sweep (suc depth) (downTo (e .set) (e .clear) depth) cs p t) (editTakes e (suc depth) p t) (gathered (suc depth) (lowers e depth) cs t)
+      (sweep (suc depth) (downTo (e .set) (e .clear) depth) cs p t) (editTakes e (suc depth) p t)
+      (gathered (suc depth) (lowers e depth) cs t)
   unfolding neededTable
   down-pass depth q k p e w low edits bits area R room =
       pass placed (λ (x : Work). x) (downStep h k (3 - suc depth) e) (downTo (e .set) (e .clear) depth)

@@ -167,7 +167,7 @@ module _ {h : Handle} (placed : Placed h) {s : St} where
       empty k i none (inr inside) (inl past) = word-in s k i inside ∙ List·getD-eq-default (s .words) 0 (omega (arith, P .sized))
       empty k i none (inr inside) (inr at) = word-in s k i inside ∙ P .free k i at inside none
 
-  -- ---- and back
+  -- ---- from the forest to the clauses
 
   hangs-of : {k : ℕ} → Hangs (codecOf h placed) (view s) k → HangsIn h s k (parentOf (numberAt s k)) (slotOf (numberAt s k))
   hangs-of {k} hangs =

@@ -111,7 +111,7 @@ module _ {h : Handle} {s : St} (shape : Shaped h s) (P : SoundPool h s) where
       follow at-last = here
       follow (by at rest) = down (refers-leads (at .used) (once (pool-sound (shaped-placed shape) P) at)) (follow rest)
 
-  -- by one path alone
+  -- a table is reached from the root by one path alone
   pub one-path : {j : ℕ} {slots slots′ : List ℕ} → Follows h s 0 slots j → Follows h s 0 slots′ j → slots ≡ slots′
   one-path a b = one-way (pool-sound (shaped-placed shape) P) (points a) (points b)
     where

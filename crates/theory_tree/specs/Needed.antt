@@ -45,7 +45,7 @@ module _ (rules : ℕ → MemoryRegion → ℕ → Tree → Rule) where
       + tallied depth (λ d p u. needed depth d p u) (chunks (3 - depth) (c .start .0) (c .end .0)) frame (opened depth t) in
       counted (rules (suc depth) c frame t) 0 below
 
-  -- .. for the region c of a table
+  -- the new tables for the region c of a table
   unfoldable pub neededTable : ℕ → MemoryRegion → ℕ → Tree → ℕ
   neededTable depth c frame t = tallied depth (λ d p u. needed depth d p u) (chunks (3 - depth) (c .start .0) (c .end .0)) frame t
 

@@ -137,7 +137,8 @@ module _ {rule : Map → ℕ → ℕ → Tree → Rule} (L : Local rule) (rules 
       (λ s p cs. (f : ℕ → Tree) → sweep depth each cs p (node f) ≡ visitTable (rule (call s e p)) depth q (node f))
       (λ s p h f. sym (table-none depth q s e p f h))
       (λ s z p cs c ih f.
-      ap (λ (x : ℕ). sweep depth each cs (p + (z - s)) (node (λ j. cond (eqb j x) (each (region s z) p (f j)) (f j)))) (index-slot depth s low)
+      ap (λ (x : ℕ). sweep depth each cs (p + (z - s)) (node (λ j. cond (eqb j x) (each (region s z) p (f j)) (f j))))
+      (index-slot depth s low)
       ∙ ih (λ j. cond (eqb j (slotOfPage (s / 4096) depth)) (each (region s z) p (f j)) (f j))
       ∙ table depth q s e p z (slotOfPage (s / 4096) depth) low does c f (slot-lt (s / 4096) depth))
       s p I f

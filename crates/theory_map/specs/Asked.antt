@@ -13,18 +13,22 @@ use Rattle.address.specs.Address.{alignUp}
 use Rattle.entry.specs.Word.{only}
 use Rattle.region.specs.Region.{rounded}
 use Rattle.region.specs.declared.MemoryRegion.{MemoryRegion}
-use Rattle.pool.specs.Sound.{flagSet}
+use Rattle.pool.specs.Sound.{flagSet, soundb}
 use Rattle.pool.specs.declared.Handle.{Handle}
 use Rattle.pool.specs.declared.VaRange.{VaRange}
 use Rattle.pool.specs.declared.VaRange.the-variants.{Lower, Upper}
-use Rattle.pool.specs.Refuse.{number, firstRefused}
-use Rattle.pool.specs.declared.Refusal.the-variants.{End, InvalidFlags, FlagSet, RegionBackwards, AddressRange, Frame}
+use Rattle.pool.specs.State.{St}
+use Rattle.pool.specs.Refuse.{number, firstRefused, shaped, Shaped, shaped-says}
+use Rattle.pool.specs.declared.Refusal.{Refusal}
+use Rattle.pool.specs.declared.Refusal.the-variants.{Shape, Unsound, End, InvalidFlags, FlagSet, RegionBackwards, AddressRange, Frame}
 use Rattle.pool.specs.declared.Outcome.{Outcome}
 use Rattle.pool.specs.declared.Outcome.the-variants.{Accepted, Refused}
 use Rattle.region_verify.specs.Verify.{endFits, inRange, verify, verified-forwards, RegionInSpan, verified-span}
 use Rattle.map_rules.specs.declared.Map.{Map}
 use Rattle.map_rules.specs.Fit.{Fit}
 use Rattle.map_verify.specs.Ask.{askedMap, frameAsked, verifyMap, passes, only-plain, asked-fit, up-pages}
+use Rattle.theory_sound.specs.Clauses.{SoundPool}
+use Rattle.theory_sound.specs.Decide.{decide-sound}
 use Rattle.theory_tree.specs.Page.{pagesIn, span-size, span-suc, first, in-from}
 use Rattle.theory_tree.specs.Root.{upperRoot, upper-span}
 use Rattle.theory_tree.specs.Chunks.{Inside}
@@ -147,3 +151,27 @@ asked-early h end m =
     (frame-early (m .frame .0) (m .region .end .0 - m .region .start .0)))
     (lit< tt)))
     (lit< tt)
+
+-- ---- what refusals 1 to 8 leave, whatever the call
+
+-- `refused` is the call's answer for a refusal, `verdict` what refusals 2 to 7 say
+pub record Answers (h : Handle) (s : St) {X : Type 0} (refused : Refusal → X) (verdict : Outcome) (answer : X) : Type 0 where
+  pub misshaped : shaped h s ≡ false → refused Shape ≡ answer
+  pub stopped : shaped h s ≡ true → (r : Refusal) → verdict ≡ Refused r → refused r ≡ answer
+  pub unsound : shaped h s ≡ true → verdict ≡ Accepted → soundb h s ≡ false → refused Unsound ≡ answer
+  pub early : Early verdict
+
+-- what is answered otherwise than by refusals 1 to 8 was left by them
+pub left-by : {h : Handle} {s : St} {X : Type 0} {refused : Refusal → X} {verdict : Outcome} {answer : X}
+    → Answers h s refused verdict answer → ((r : Refusal) → number r < 9 → refused r ≡ answer → ⊥)
+    → Shaped h s × (verdict ≡ Accepted) × SoundPool h s
+left-by {h} {s} {refused = refused} {verdict = verdict} {answer = answer} answers later =
+    byBool (shaped h s) (λ e. asks e verdict refl (answers .early)) (λ e. absurd (later Shape (lit< tt) (answers .misshaped e)))
+  where
+    asks : shaped h s ≡ true → (y : Outcome) → verdict ≡ y → Early y → Shaped h s × (verdict ≡ Accepted) × SoundPool h s
+    asks e Accepted ok early =
+        let shape = shaped-says h s (rw e tt) in
+        byBool (soundb h s)
+        (λ sound. (shape, ok, decide-sound shape (rw sound tt)))
+        (λ unsound. absurd (later Unsound (lit< tt) (answers .unsound e ok unsound)))
+    asks e (Refused r) q early = absurd (later r (omega arith) (answers .stopped e r q))

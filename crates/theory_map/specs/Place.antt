@@ -23,34 +23,32 @@ use Rattle.theory_map.specs.Call.{area}
 
 -- ---- the pages of a region
 
-module _ (r : MemoryRegion) {b n p : ℕ} (I : Inside b n (r .start .0) (r .end .0) p) (va : ℕ) where
-  pub in-page : Holds r va → OfRegion (r .start .0 / 4096) (r .end .0 / 4096) (va / 4096)
-  in-page at = record { from = omega (arith, at .from, I .startPage); below = omega (arith, at .below, I .endPage) }
+-- the addresses of a region are those of the pages `from` to `upto`, and they lie in the root's span
+pub record Paged (h : Handle) (r : MemoryRegion) (from upto : ℕ) : Type 0 where
+  pub page : (va : ℕ) → Holds r va → OfRegion from upto (va / 4096)
+  pub address : (va : ℕ) → OfRegion from upto (va / 4096) → Holds r va
+  pub spans : (va : ℕ) → Holds r va → In (suc (depthOf h)) (rootIn h) (va / 4096)
 
-  pub page-in : OfRegion (r .start .0 / 4096) (r .end .0 / 4096) (va / 4096) → Holds r va
-  page-in of = record { from = omega (arith, of .from, I .startPage); below = omega (arith, of .below, I .endPage) }
-
-pub page-spans : (depth q : ℕ) {start end p page : ℕ} → Inside (first (suc depth) q) (pagesIn (suc depth)) start end p
-    → OfRegion (start / 4096) (end / 4096) page → In (suc depth) q page
-page-spans depth q {page = page} I of = in-of (suc depth) q page (omega (arith, I .low, of .from)) (omega (arith, I .high, of .below))
+pub paged : (h : Handle) (r : MemoryRegion) {p : ℕ}
+    → Inside (first (suc (depthOf h)) (rootIn h)) (pagesIn (suc (depthOf h))) (r .start .0) (r .end .0) p
+    → Paged h r (r .start .0 / 4096) (r .end .0 / 4096)
+paged h r I = record {
+  page = λ va at. record { from = omega (arith, at .from, I .startPage); below = omega (arith, at .below, I .endPage) };
+  address = λ va of. record { from = omega (arith, of .from, I .startPage); below = omega (arith, of .below, I .endPage) };
+  spans = λ va at. in-of (suc (depthOf h)) (rootIn h) (va / 4096) (omega (arith, I .low, at .from, I .startPage))
+      (omega (arith, I .high, at .below, I .endPage));
+}
 
 -- ---- the call's region
 
-module _ {h : Handle} {c : MapArguments} {s : St} (passed : MapPassed h c s) (va : ℕ) where
-  pub region-page : InMapRegion c va → OfRegion (mapPagesOf c .from) (mapPagesOf c .upto) (va / 4096)
+module _ {h : Handle} {c : MapArguments} {s : St} (passed : MapPassed h c s) where
+  pub region-paged : Paged h (rounded (c .start) (c .end)) (mapPagesOf c .from) (mapPagesOf c .upto)
   unfolding askedMap
-  region-page at = in-page (rounded (c .start) (c .end)) (area passed .inside) va at
+  region-paged = paged h (rounded (c .start) (c .end)) (area passed .inside)
 
-  pub page-region : OfRegion (mapPagesOf c .from) (mapPagesOf c .upto) (va / 4096) → InMapRegion c va
-  unfolding askedMap
-  page-region of = page-in (rounded (c .start) (c .end)) (area passed .inside) va of
-
-  pub region-spans : InMapRegion c va → In (suc (depthOf h)) (rootIn h) (va / 4096)
-  region-spans at = page-spans (depthOf h) (rootIn h) (area passed .inside) (region-page at)
-
-  pub frame-is : InMapRegion c va → (mapPagesOf c .frame + (va / 4096 - mapPagesOf c .from)) * 4096 ≡ frameFor c va
+  pub frame-is : (va : ℕ) → InMapRegion c va → (mapPagesOf c .frame + (va / 4096 - mapPagesOf c .from)) * 4096 ≡ frameFor c va
   unfolding askedMap down
-  frame-is at =
+  frame-is va at =
       let I = area passed .inside in
       let a = I .startPage in
       let b = I .framePage in

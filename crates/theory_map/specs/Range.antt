@@ -18,7 +18,7 @@ use Rattle.theory_tree.specs.Page.{child}
 use Rattle.theory_tree.specs.Chunks.{chunked, chunkedTable}
 use Rattle.theory_tree.specs.Needed.{needed, neededTable}
 use Rattle.theory_tree.specs.Document.{documentRule}
-use Rattle.theory_map.specs.Moves.{Worked}
+use Rattle.theory_map.specs.Moves.{WorkedWithin}
 use Rattle.theory_map.specs.Pieces.{doneTable, takesTable, slotAt, pieces}
 use Rattle.theory_map.specs.Chunk.{Works, ChunkWorks, page-works, chunk-works}
 use Rattle.theory_map.specs.Loop.{through, loop}
@@ -40,7 +40,7 @@ module _ {h : Handle} (placed : Placed h) where
   unfolding chunkedTable neededTable
   table-works depth low works q k m s allowed area R room =
       subst
-      (λ (s′ : St). Worked placed s s′ depth k (doneTable m depth (treeFrom h s depth k)) (takesTable m depth (treeFrom h s depth k)))
+      (λ (s′ : St). WorkedWithin placed s s′ depth k (doneTable m depth (treeFrom h s depth k)) (takesTable m depth (treeFrom h s depth k)))
       is
       (loop placed (λ (x : St). x) (λ c p t. mapStep h k (3 - depth) (chunkMap m c p) t)
       (λ c p u. chunked (documentRule (m .flags) (m .blocks)) depth c p u)

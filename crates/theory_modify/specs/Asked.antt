@@ -21,7 +21,7 @@ use Rattle.theory_map.specs.Stand.{Allowed}
 use Rattle.theory_map.specs.Pieces.{Area}
 use Rattle.theory_map.specs.Asked.{pages-inside, flags-allowed, Early, cond-early, first-early, verify-early}
 use Rattle.theory_modify.specs.Word.{Bits}
-use Rattle.theory_modify.specs.Range.{areaOf}
+use Rattle.theory_modify.specs.Pass.{areaOf}
 
 -- ---- the tests that are passed
 

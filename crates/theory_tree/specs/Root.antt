@@ -29,12 +29,12 @@ upperRoot depth = 2 ^ 52 / pagesIn (suc depth) - 1
 abbrev pub Spans : ℕ → ℕ → ℕ → Type 0
 Spans depth r address = In (suc depth) r (address / 4096)
 
--- a root spans 512 entries: the lowest addresses ..
+-- a lower root spans 512 entries, the lowest addresses
 pub lower-span : (depth address : ℕ) → depth ≤ 3 → address < span (3 - depth) → Spans depth lowerRoot address
 unfolding span
 lower-span depth address low h = let s = span-size depth low in let n = span-suc depth in div-eq-of-lt (omega arith)
 
--- .. or the highest
+-- an upper root spans 512 entries, the highest addresses
 in-upper : (depth page : ℕ) → depth ≤ 3 → 2 ^ 52 - pagesIn (suc depth) ≤ page → page < 2 ^ 52 → In (suc depth) (upperRoot depth) page
 unfolding upperRoot pagesIn
 in-upper zero page h l u = omega arith

@@ -90,7 +90,7 @@ module _ (h : Handle) (s : St) where
     pub ascends : (i j : ℕ) → i < j → j < length ls → nthLine ls i .end ≤ nthLine ls j .start
     -- every address of the region is in a line
     pub covers : (a : ℕ) → r .start .0 ≤ a → a < r .end .0 → InLine Walks ls a
-    -- and every line says what the walk meets
+    -- every line says what the walk meets
     pub walks : (i : ℕ) → i < length ls → Walks (nthLine ls i)
 
 -- the addresses of a region that was verified lie in the span

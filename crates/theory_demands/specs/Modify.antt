@@ -267,13 +267,16 @@ module _ (h : Handle) (s : St) (start end set clear : ℕ) (live : Bool) (list :
               module _ (on : live ≡ true) where
                 broken : v .broken ≡ true → Goal
                 unfolding ModifySlip
-                broken q = surveyed (survey-broken (free (s .ledger)) (length list) live v room on q) (HouseRule (v .word)) refl (record { given = (on, breach-is (v .word) .0 (q, refl)); lower = nine room })
+                broken q =
+                    surveyed (survey-broken (free (s .ledger)) (length list) live v room on q) (HouseRule (v .word)) refl
+                    (record { given = (on, breach-is (v .word) .0 (q, refl)); lower = nine room })
 
                 module _ (kept : v .broken ≡ false) where
                   narrow : length list < v .numbers → Goal
                   unfolding ModifySlip
                   narrow short =
-                      surveyed (survey-short (free (s .ledger)) (length list) live v room on kept short) (Short (v .numbers)) refl (record { given = (on, refl, short); lower = ten room (no-breach kept) })
+                      surveyed (survey-short (free (s .ledger)) (length list) live v room on kept short) (Short (v .numbers)) refl
+                      (record { given = (on, refl, short); lower = ten room (no-breach kept) })
 
                   enough : v .numbers ≤ length list → Goal
                   enough l = done (survey-accepted (free (s .ledger)) (length list) live v room on kept l) room (λ q. (kept, l))

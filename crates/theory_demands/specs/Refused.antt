@@ -380,14 +380,16 @@ module _ (h : Handle) (s : St) (start end frame flags constraints : ℕ) where
           unfolding MapSlip askedMap
           map-backwards x =
               map-refused (RegionBackwards (rounded start end))
-              (ask-region h end m ends plain (from .0) (sym (x .0)) (RegionBackwards (rounded start end)) refl) (record { given = (refl, x .1); lower = map-four })
+              (ask-region h end m ends plain (from .0) (sym (x .0)) (RegionBackwards (rounded start end)) refl)
+              (record { given = (refl, x .1); lower = map-four })
 
           map-beyond : ((a : VirtualAddress) × (verify h (rounded start end) ≡ Refused (AddressRange a))
               × (¬ (Backwards (rounded start end)))
               × BeyondRange (h .range) (h .level) (rounded start end) a) → MapGoal
           unfolding MapSlip askedMap
           map-beyond x =
-              map-refused (AddressRange (x .0)) (ask-region h end m ends plain (from .0) (sym (x .1)) (AddressRange (x .0)) refl) (record { given = x .3; lower = map-five (x .2) })
+              map-refused (AddressRange (x .0)) (ask-region h end m ends plain (from .0) (sym (x .1)) (AddressRange (x .0)) refl)
+              (record { given = x .3; lower = map-five (x .2) })
 
           module _ (stands : (verify h (rounded start end) ≡ Accepted) × RegionStands h (rounded start end)) where
             framed : frameAsked frame (rounded start end .end .0 - rounded start end .start .0) ≡ verifyMap h end m
@@ -403,7 +405,8 @@ module _ (h : Handle) (s : St) (start end frame flags constraints : ℕ) where
                 × BadFrame frame (rounded start end)
                 → MapGoal
             unfolding MapSlip
-            map-frame x = map-refused (Frame (record { 0 = frame })) (sym (x .0) ∙ framed) (record { given = (refl, x .1); lower = map-six })
+            map-frame x =
+                map-refused (Frame (record { 0 = frame })) (sym (x .0) ∙ framed) (record { given = (refl, x .1); lower = map-six })
 
             module _
                 (well : (frameAsked frame (rounded start end .end .0 - rounded start end .start .0) ≡ Accepted)

@@ -15,7 +15,7 @@ use Rattle.region.specs.Region.{rounded}
 use Rattle.region.specs.declared.MemoryRegion.{MemoryRegion}
 use Rattle.pool.specs.State.{St}
 use Rattle.pool.specs.Number.{free}
-use Rattle.pool.specs.Refuse.{shaped, number}
+use Rattle.pool.specs.Refuse.{shaped}
 use Rattle.pool.specs.Sound.{soundb, flagSet}
 use Rattle.pool.specs.declared.Handle.{Handle}
 use Rattle.pool.specs.declared.Refusal.{Refusal}
@@ -23,7 +23,6 @@ use Rattle.pool.specs.declared.Refusal.the-variants.{Shape, End, InvalidFlags, 
 use Rattle.pool.specs.declared.Refusal.the-variants.{HouseRule, Short}
 use Rattle.pool.specs.declared.Outcome.{Outcome}
 use Rattle.pool.specs.declared.Outcome.the-variants.{Accepted, Refused}
-use Rattle.theory_sound.specs.Clauses.{SoundPool}
 use Rattle.region_verify.specs.Verify.{endFits, verify}
 use Rattle.modify_entry.specs.declared.Edit.{Edit}
 use Rattle.modify_survey.specs.declared.Survey.{Survey}
@@ -38,9 +37,9 @@ use Rattle.modify.specs.Call.{call-asked}
 use Rattle.theory_modify.specs.Terms.{ModifyArguments, ModifyPassed}
 use Rattle.theory_modify.specs.House.{LowestBreach}
 use Rattle.theory_modify.specs.Modified.{house-rule-lowest}
-use Rattle.theory_demands.specs.Slip.{Misshaped, BadEnd, HasBit1, OutsideSet, Backwards, BeyondRange, BadBit, BadToSet, BadFlags}
+use Rattle.theory_demands.specs.Slip.{BadEnd, HasBit1, OutsideSet, Backwards, BeyondRange, BadBit, BadToSet, BadFlags}
 use Rattle.theory_demands.specs.Slip.{ModifySlip}
-use Rattle.theory_demands.specs.Told.{LowestGiven, none-below, number-range, shape-lowest}
+use Rattle.theory_demands.specs.Told.{NoneBelow, LowestGiven, number-range, shape-lowest, none-first, none-next}
 use Rattle.theory_demands.specs.Decided.{misshaped, well-shaped, not-misshaped, unsound, sound, RegionStands, region-told, end-told}
 use Rattle.theory_demands.specs.Decided.{set-told}
 
@@ -131,18 +130,6 @@ module _ (h : Handle) (s : St) (start end set clear : ℕ) (live : Bool) (list :
   abbrev r : MemoryRegion
   r = rounded start end
 
-  below : (n : ℕ) → (1 < n → ¬ (Misshaped h s)) → (2 < n → ¬ (BadEnd end)) → (3 < n → (f : ℕ) → ¬ (BadBit set clear f))
-      → (4 < n → (f : ℕ) → ¬ (BadFlags h set clear f))
-      → (5 < n → ¬ (Backwards r)) → (6 < n → (a : VirtualAddress) → ¬ (BeyondRange (h .range) (h .level) r a))
-      → (8 < n → ¬ (¬ (SoundPool h s)))
-      → (9 < n → v .splits ≤ free (s .ledger)) → (10 < n → (w : ℕ) → ¬ ((live ≡ true) × LowestBreach h c s w))
-      → (11 < n → live ≡ true → v .numbers ≤ length list)
-      → (q : Refusal) → number q < n → ¬ (Here q)
-  unfolding ModifySlip
-  below n one two three four five six eight nine ten eleven = none-below Here n one (λ l x g. two l (g .1)) three four
-      (λ l x g. five l (rw (← g .0) (g .1))) six (λ l x g. g) eight (λ l k x g. let z = nine l in omega (arith, g .0, g .1, g .2))
-      ten (λ l k g. let z = eleven l (g .0) in omega (arith, g .1, g .2))
-
   abbrev Whole : Modifying
   Whole = modifyCall h start end set clear live s list
 
@@ -156,86 +143,72 @@ module _ (h : Handle) (s : St) (start end set clear : ℕ) (live : Bool) (list :
     refused-by : (x : Refusal) → Refused x ≡ verifyEdit h end e → LowestGiven Here x → Goal
     refused-by x is lowest = inl (x, sym (call-refused h start end set clear live s list fits is x refl), lowest)
 
+    one : NoneBelow Here 2
+    unfolding ModifySlip
+    one = none-next Here 1 (none-first Here) (not-misshaped h s fits)
+
     bad-end : (endFits end ≡ false) × BadEnd end → Goal
     unfolding ModifySlip
-    bad-end x = refused-by (End end) (edit-end h end e (x .0)) (record {
-      given = (refl, x .1);
-      lower =
-          below 2 (λ l. not-misshaped h s fits) (λ l. absurd (omega arith)) (λ l. absurd (omega arith)) (λ l. absurd (omega arith))
-          (λ l. absurd (omega arith))
-          (λ l. absurd (omega arith))
-          (λ l. absurd (omega arith)) (λ l. absurd (omega arith)) (λ l. absurd (omega arith)) (λ l. absurd (omega arith));
-    })
+    bad-end x = refused-by (End end) (edit-end h end e (x .0)) (record { given = (refl, x .1); lower = one })
 
     module _ (ends : endFits end ≡ true) (good : ¬ (BadEnd end)) where
+      two : NoneBelow Here 3
+      unfolding ModifySlip
+      two = none-next Here 2 one (λ x g. good (g .1))
+
+      three : ((g : ℕ) → ¬ (BadBit set clear g)) → NoneBelow Here 4
+      unfolding ModifySlip
+      three plain = none-next Here 3 two plain
+
       bad-bit : ((f : ℕ) × (Refused (InvalidFlags f) ≡ verifyBits h set clear) × BadBit set clear f) → Goal
       unfolding ModifySlip askedEdit
-      bad-bit x = refused-by (InvalidFlags (x .0)) (edit-bits h end e ends (x .1) (InvalidFlags (x .0)) refl) (record {
-        given = x .2;
-        lower =
-            below 3 (λ l. not-misshaped h s fits) (λ l. good) (λ l. absurd (omega arith)) (λ l. absurd (omega arith))
-            (λ l. absurd (omega arith)) (λ l. absurd (omega arith))
-            (λ l. absurd (omega arith)) (λ l. absurd (omega arith)) (λ l. absurd (omega arith)) (λ l. absurd (omega arith));
-      })
+      bad-bit x =
+          refused-by (InvalidFlags (x .0)) (edit-bits h end e ends (x .1) (InvalidFlags (x .0)) refl) (record { given = x .2; lower = two })
 
       bad-flags : ((f : ℕ) × (Refused (FlagSet f) ≡ verifyBits h set clear) × ((g : ℕ) → ¬ (BadBit set clear g)) × BadFlags h set clear f)
           → Goal
       unfolding ModifySlip askedEdit
-      bad-flags x = refused-by (FlagSet (x .0)) (edit-bits h end e ends (x .1) (FlagSet (x .0)) refl) (record {
-        given = x .3;
-        lower =
-            below 4 (λ l. not-misshaped h s fits) (λ l. good) (λ l. x .2) (λ l. absurd (omega arith)) (λ l. absurd (omega arith))
-            (λ l. absurd (omega arith))
-            (λ l. absurd (omega arith)) (λ l. absurd (omega arith)) (λ l. absurd (omega arith)) (λ l. absurd (omega arith));
-      })
+      bad-flags x =
+          refused-by (FlagSet (x .0)) (edit-bits h end e ends (x .1) (FlagSet (x .0)) refl) (record { given = x .3; lower = three (x .2) })
 
       module _
           (bits : (Accepted ≡ verifyBits h set clear) × ((g : ℕ) → ¬ (BadBit set clear g)) × ((g : ℕ) → ¬ (BadFlags h set clear g))) where
+        four : NoneBelow Here 5
+        unfolding ModifySlip
+        four = none-next Here 4 (three (bits .1)) (bits .2)
+
+        five : ¬ (Backwards r) → NoneBelow Here 6
+        unfolding ModifySlip
+        five forwards = none-next Here 5 four (λ x g. forwards (rw (← g .0) (g .1)))
+
         region-is : verify h r ≡ verifyEdit h end e
         unfolding askedEdit
         region-is = edit-region h end e ends (bits .0) refl
 
         backwards : (verify h r ≡ Refused (RegionBackwards r)) × Backwards r → Goal
         unfolding ModifySlip
-        backwards x = refused-by (RegionBackwards r) (sym (x .0) ∙ region-is) (record {
-          given = (refl, x .1);
-          lower =
-              below 5 (λ l. not-misshaped h s fits) (λ l. good) (λ l. bits .1) (λ l. bits .2) (λ l. absurd (omega arith))
-              (λ l. absurd (omega arith))
-              (λ l. absurd (omega arith)) (λ l. absurd (omega arith)) (λ l. absurd (omega arith)) (λ l. absurd (omega arith));
-        })
+        backwards x = refused-by (RegionBackwards r) (sym (x .0) ∙ region-is) (record { given = (refl, x .1); lower = four })
 
         beyond : ((a : VirtualAddress) × (verify h r ≡ Refused (AddressRange a)) × (¬ (Backwards r))
             × BeyondRange (h .range) (h .level) r a)
             → Goal
         unfolding ModifySlip
-        beyond x = refused-by (AddressRange (x .0)) (sym (x .1) ∙ region-is) (record {
-          given = x .3;
-          lower = below 6 (λ l. not-misshaped h s fits) (λ l. good) (λ l. bits .1) (λ l. bits .2) (λ l. x .2) (λ l. absurd (omega arith))
-              (λ l. absurd (omega arith)) (λ l. absurd (omega arith)) (λ l. absurd (omega arith)) (λ l. absurd (omega arith));
-        })
+        beyond x = refused-by (AddressRange (x .0)) (sym (x .1) ∙ region-is) (record { given = x .3; lower = five (x .2) })
 
         module _ (stands : (verify h r ≡ Accepted) × RegionStands h r) where
           whole-is : modifySound h e s list ≡ Whole
           whole-is = call-asked h start end set clear live s list fits region-is (stands .0)
 
-          lower : (n : ℕ) → (8 < n → ¬ (¬ (SoundPool h s))) → (9 < n → v .splits ≤ free (s .ledger))
-              → (10 < n → (w : ℕ) → ¬ ((live ≡ true) × LowestBreach h c s w))
-              → (11 < n → live ≡ true → v .numbers ≤ length list) → (q : Refusal) → number q < n → ¬ (Here q)
-          lower n =
-              below n (λ l. not-misshaped h s fits) (λ l. good) (λ l. bits .1) (λ l. bits .2) (λ l. stands .1 .forwards)
-              (λ l. stands .1 .within)
+          seven : NoneBelow Here 8
+          unfolding ModifySlip
+          seven = none-next Here 7 (none-next Here 6 (five (stands .1 .forwards)) (stands .1 .within)) (λ x g. g)
 
           unsafe : soundb h s ≡ false → Goal
           unfolding ModifySlip
           unsafe un = inl (
             Unsound,
             sym (sound-not h e s list un ∙ whole-is),
-            record {
-              given = unsound h s fits un;
-              lower =
-                  lower 8 (λ l. absurd (omega arith)) (λ l. absurd (omega arith)) (λ l. absurd (omega arith)) (λ l. absurd (omega arith));
-            },
+            record { given = unsound h s fits un; lower = seven },
           )
 
           module _ (is : soundb h s ≡ true) where
@@ -252,6 +225,18 @@ module _ (h : Handle) (s : St) (start end set clear : ℕ) (live : Bool) (list :
                 let o : _≡_ {A = ℕ} 0 1 = cc in
                 omega arith
 
+            eight : NoneBelow Here 9
+            unfolding ModifySlip
+            eight = none-next Here 8 seven (λ g. g (sound h s fits is))
+
+            nine : v .splits ≤ free (s .ledger) → NoneBelow Here 10
+            unfolding ModifySlip
+            nine room = none-next Here 9 eight (λ k x g. omega (arith, g .0, g .1, g .2))
+
+            ten : v .splits ≤ free (s .ledger) → ((w : ℕ) → ¬ ((live ≡ true) × LowestBreach h c s w)) → NoneBelow Here 11
+            unfolding ModifySlip
+            ten room keeps = none-next Here 10 (nine room) keeps
+
             surveyed : {x : Outcome} → x ≡ verifySurvey (free (s .ledger)) (length list) live v → (y : Refusal) → x ≡ Refused y
                 → LowestGiven Here y → Goal
             unfolding askedEdit
@@ -259,10 +244,10 @@ module _ (h : Handle) (s : St) (start end set clear : ℕ) (live : Bool) (list :
 
             done : Accepted ≡ verifySurvey (free (s .ledger)) (length list) live v → v .splits ≤ free (s .ledger)
                 → (live ≡ true → (v .broken ≡ false) × (v .numbers ≤ length list)) → Goal
-            unfolding askedEdit
+            unfolding askedEdit ModifySlip
             done told room rest = inr (
-              (λ q. lower 12 (λ l g. g (sound h s fits is)) (λ l. room) (λ l w g. no-breach (rest (g .0) .0) w g)
-                  (λ l on. rest on .1) q (number-range q .1)),
+              (λ q. none-next Here 11 (ten room (λ w g. no-breach (rest (g .0) .0) w g))
+                  (λ k g. let z = rest (g .0) .1 in omega (arith, g .1, g .2)) q (number-range q .1)),
               λ x q. edited-not h e s list x
                   (ap (λ (y : Modifying). y .answer) (sound-edited h e s list is refl refl told refl ∙ whole-is) ∙ q),
             )
@@ -271,12 +256,7 @@ module _ (h : Handle) (s : St) (start end set clear : ℕ) (live : Bool) (list :
             unfolding ModifySlip
             full short =
                 surveyed (survey-full (free (s .ledger)) (length list) live v short) (WantOfRoom (v .splits) (free (s .ledger))) refl
-                (record {
-                  given = (refl, refl, short);
-                  lower =
-                      lower 9 (λ l g. g (sound h s fits is)) (λ l. absurd (omega arith)) (λ l. absurd (omega arith))
-                      (λ l. absurd (omega arith));
-                })
+                (record { given = (refl, refl, short); lower = eight })
 
             module _ (room : v .splits ≤ free (s .ledger)) where
               off : live ≡ false → Goal
@@ -287,20 +267,16 @@ module _ (h : Handle) (s : St) (start end set clear : ℕ) (live : Bool) (list :
               module _ (on : live ≡ true) where
                 broken : v .broken ≡ true → Goal
                 unfolding ModifySlip
-                broken q = surveyed (survey-broken (free (s .ledger)) (length list) live v room on q) (HouseRule (v .word)) refl (record {
-                  given = (on, breach-is (v .word) .0 (q, refl));
-                  lower = lower 10 (λ l g. g (sound h s fits is)) (λ l. room) (λ l. absurd (omega arith)) (λ l. absurd (omega arith));
-                })
+                broken q =
+                    surveyed (survey-broken (free (s .ledger)) (length list) live v room on q) (HouseRule (v .word)) refl
+                    (record { given = (on, breach-is (v .word) .0 (q, refl)); lower = nine room })
 
                 module _ (kept : v .broken ≡ false) where
                   narrow : length list < v .numbers → Goal
                   unfolding ModifySlip
                   narrow short =
-                      surveyed (survey-short (free (s .ledger)) (length list) live v room on kept short) (Short (v .numbers)) refl (record {
-                        given = (on, refl, short);
-                        lower = lower 11 (λ l g. g (sound h s fits is)) (λ l. room) (λ l. no-breach kept)
-                            (λ l. absurd (omega arith));
-                      })
+                      surveyed (survey-short (free (s .ledger)) (length list) live v room on kept short) (Short (v .numbers)) refl
+                      (record { given = (on, refl, short); lower = ten room (no-breach kept) })
 
                   enough : v .numbers ≤ length list → Goal
                   enough l = done (survey-accepted (free (s .ledger)) (length list) live v room on kept l) room (λ q. (kept, l))

@@ -44,7 +44,7 @@ use Rattle.map_spec.specs.Call.{putDown, mapSound, mapCall, sound-not, sound-fu
 use Rattle.theory_demands.specs.Slip.{Misshaped, BadEnd, HasBit1, OutsideSet, Backwards, BeyondRange, BeyondSpan, BadFrame, MakeSlip}
 use Rattle.theory_demands.specs.Slip.{CheckSlip, LookUpSlip, ImageSlip, ListSlip}
 use Rattle.theory_demands.specs.Slip.{MapSlip}
-use Rattle.theory_demands.specs.Told.{LowestGiven, Told, none-below, number-range, shape-lowest}
+use Rattle.theory_demands.specs.Told.{NoneBelow, LowestGiven, Told, none-below, number-range, shape-lowest, none-first, none-next}
 use Rattle.theory_demands.specs.Decided.{misshaped, not-misshaped, unsound, sound, RegionStands, region-told, accepted-not, end-told}
 use Rattle.theory_demands.specs.Decided.{set-told, span-told, frame-told}
 
@@ -208,38 +208,38 @@ module _ (h : Handle) (s : St) (start end : ℕ) (list : List ℕ) where
   abbrev lines : ℕ
   lines = 4 * length (linesOf h s (rounded start end))
 
-  list-below : (n : ℕ) → (1 < n → ¬ (Misshaped h s)) → (2 < n → ¬ (BadEnd end)) → (5 < n → ¬ (Backwards (rounded start end)))
-      → (6 < n → (a : VirtualAddress) → ¬ (BeyondRange (h .range) (h .level) (rounded start end) a)) → (8 < n → ¬ (¬ (SoundPool h s)))
-      → (11 < n → lines ≤ length list)
-      → (q : Refusal) → number q < n → ¬ (ListSlip h s start end list q)
-  unfolding ListSlip
-  list-below n one two five six eight eleven =
-      none-below (ListSlip h s start end list) n one (λ l e g. two l (g .1)) (λ l f g. g) (λ l f g. g)
-      (λ l r g. five l (rw (← g .0) (g .1))) six (λ l f g. g) eight (λ l k f g. g) (λ l w g. g)
-      (λ l k g. let z = eleven l in omega (arith, g .0, g .1))
+  abbrev ListHere : Refusal → Type 0
+  ListHere = ListSlip h s start end list
 
   list-answer : {x y : Listing} → x ≡ y → x .answer ≡ y .answer
   list-answer e = ap (λ (x : Listing). x .answer) e
 
   abbrev ListGoal : Type 0
-  ListGoal = Told (ListSlip h s start end list) listed.Refused (listCall h s start end list .answer)
+  ListGoal = Told ListHere listed.Refused (listCall h s start end list .answer)
 
   module _ (fits : shaped h s ≡ true) where
+    list-one : NoneBelow ListHere 2
+    unfolding ListSlip
+    list-one = none-next ListHere 1 (none-first ListHere) (not-misshaped h s fits)
+
     list-end : (endFits end ≡ false) × BadEnd end → ListGoal
     unfolding ListSlip
     list-end x = inl (
       End end,
       sym (list-answer (list-region h s start end list fits (ends-past h start end (x .0)) (End end) refl)),
-      record {
-        given = (refl, x .1);
-        lower =
-            list-below 2 (λ l. not-misshaped h s fits) (λ l. absurd (omega arith)) (λ l. absurd (omega arith)) (λ l. absurd (omega arith))
-            (λ l. absurd (omega arith))
-            (λ l. absurd (omega arith));
-      },
+      record { given = (refl, x .1); lower = list-one },
     )
 
     module _ (ends : endFits end ≡ true) (good : ¬ (BadEnd end)) where
+      list-four : NoneBelow ListHere 5
+      unfolding ListSlip
+      list-four = none-next ListHere 4
+          (none-next ListHere 3 (none-next ListHere 2 list-one (λ e g. good (g .1))) (λ f g. g)) (λ f g. g)
+
+      list-five : ¬ (Backwards (rounded start end)) → NoneBelow ListHere 6
+      unfolding ListSlip
+      list-five forwards = none-next ListHere 5 list-four (λ r g. forwards (rw (← g .0) (g .1)))
+
       list-backwards : (verify h (rounded start end) ≡ Refused (RegionBackwards (rounded start end))) × Backwards (rounded start end)
           → ListGoal
       unfolding ListSlip
@@ -248,13 +248,7 @@ module _ (h : Handle) (s : St) (start end : ℕ) (list : List ℕ) where
         sym
             (list-answer
             (list-region h s start end list fits (ends-fit h start end ends refl) (RegionBackwards (rounded start end)) (x .0))),
-        record {
-          given = (refl, x .1);
-          lower =
-              list-below 5 (λ l. not-misshaped h s fits) (λ l. good) (λ l. absurd (omega arith)) (λ l. absurd (omega arith))
-              (λ l. absurd (omega arith))
-              (λ l. absurd (omega arith));
-        },
+        record { given = (refl, x .1); lower = list-four },
       )
 
       list-beyond : ((a : VirtualAddress) × (verify h (rounded start end) ≡ Refused (AddressRange a)) × (¬ (Backwards (rounded start end)))
@@ -263,29 +257,24 @@ module _ (h : Handle) (s : St) (start end : ℕ) (list : List ℕ) where
       list-beyond x = inl (
         AddressRange (x .0),
         sym (list-answer (list-region h s start end list fits (ends-fit h start end ends refl) (AddressRange (x .0)) (x .1))),
-        record {
-          given = x .3;
-          lower =
-              list-below 6 (λ l. not-misshaped h s fits) (λ l. good) (λ l. x .2) (λ l. absurd (omega arith)) (λ l. absurd (omega arith))
-              (λ l. absurd (omega arith));
-        },
+        record { given = x .3; lower = list-five (x .2) },
       )
 
       module _ (stands : (verify h (rounded start end) ≡ Accepted) × RegionStands h (rounded start end)) where
         region-ok : Accepted ≡ verifyEnds h start end
         region-ok = sym (stands .0) ∙ ends-fit h start end ends refl
 
+        list-seven : NoneBelow ListHere 8
+        unfolding ListSlip
+        list-seven =
+            none-next ListHere 7 (none-next ListHere 6 (list-five (stands .1 .forwards)) (stands .1 .within)) (λ f g. g)
+
         list-unsafe : soundb h s ≡ false → ListGoal
         unfolding ListSlip
         list-unsafe un = inl (
           Unsound,
           sym (list-answer (list-unsound h s start end list fits region-ok refl un)),
-          record {
-            given = unsound h s fits un;
-            lower =
-                list-below 8 (λ l. not-misshaped h s fits) (λ l. good) (λ l. stands .1 .forwards) (λ l. stands .1 .within)
-                (λ l. absurd (omega arith)) (λ l. absurd (omega arith));
-          },
+          record { given = unsound h s fits un; lower = list-seven },
         )
 
         module _ (is : soundb h s ≡ true) where
@@ -293,25 +282,23 @@ module _ (h : Handle) (s : St) (start end : ℕ) (list : List ℕ) where
           unfolding linesOf
           list-is = list-sound h s start end list fits region-ok refl is refl
 
+          list-ten : NoneBelow ListHere 11
+          unfolding ListSlip
+          list-ten = none-next ListHere 10
+              (none-next ListHere 9 (none-next ListHere 8 list-seven (λ g. g (sound h s fits is))) (λ k f g. g)) (λ w g. g)
+
           list-narrow : length list < lines → ListGoal
           unfolding ListSlip
           list-narrow short = inl (
             Short lines,
             sym (list-answer (list-short (linesOf h s (rounded start end)) list short ∙ list-is)),
-            record {
-              given = (refl, short);
-              lower =
-                  list-below 11 (λ l. not-misshaped h s fits) (λ l. good) (λ l. stands .1 .forwards) (λ l. stands .1 .within)
-                  (λ l g. g (sound h s fits is))
-                  (λ l. absurd (omega arith));
-            },
+            record { given = (refl, short); lower = list-ten },
           )
 
           list-done : lines ≤ length list → ListGoal
+          unfolding ListSlip
           list-done room = inr (
-            (λ q. list-below 12 (λ l. not-misshaped h s fits) (λ l. good) (λ l. stands .1 .forwards) (λ l. stands .1 .within)
-                (λ l g. g (sound h s fits is))
-                (λ l. room) q (number-range q .1)),
+            (λ q. none-next ListHere 11 list-ten (λ k g. omega (arith, g .0, g .1)) q (number-range q .1)),
             λ r e. let z : _≡_ {A = Listed} (listed.Lines (length (linesOf h s (rounded start end)))) (listed.Refused r) =
                 list-answer (list-written (linesOf h s (rounded start end)) list room ∙ list-is) ∙ e in let o : _≡_ {A = ℕ} 0 1 =
                 cc in omega arith,
@@ -329,7 +316,7 @@ module _ (h : Handle) (s : St) (start end : ℕ) (list : List ℕ) where
       (λ fails. inl (
         Shape,
         sym (list-answer (list-misshaped h s start end list fails)),
-        shape-lowest (ListSlip h s start end list)
+        shape-lowest ListHere
             (misshaped h s fails),
       ))
 
@@ -345,18 +332,6 @@ module _ (h : Handle) (s : St) (start end frame flags constraints : ℕ) where
   abbrev m : Map
   m = askedMap start end frame flags constraints
 
-  map-below : (n : ℕ) → (1 < n → ¬ (Misshaped h s)) → (2 < n → ¬ (BadEnd end)) → (3 < n → ¬ (HasBit1 flags))
-      → (4 < n → ¬ (OutsideSet h flags))
-      → (5 < n → ¬ (Backwards (rounded start end)))
-      → (6 < n → (a : VirtualAddress) → ¬ (BeyondRange (h .range) (h .level) (rounded start end) a))
-      → (7 < n → ¬ (BadFrame frame (rounded start end))) → (8 < n → ¬ (¬ (SoundPool h s))) → (9 < n → need ≤ free (s .ledger))
-      → (q : Refusal) → number q < n → ¬ (MapHere q)
-  unfolding MapSlip
-  map-below n one two three four five six seven eight nine =
-      none-below MapHere n one (λ l e g. two l (g .1)) (λ l f g. three l (g .1)) (λ l f g. four l (g .1))
-      (λ l r g. five l (rw (← g .0) (g .1))) six (λ l f g. seven l (g .1)) eight
-      (λ l k f g. let z = nine l in omega (arith, g .0, g .1, g .2)) (λ l w g. g) (λ l k g. g)
-
   abbrev MapGoal : Type 0
   MapGoal = Told MapHere counted.Refused (mapCall h start end frame flags constraints s .answer)
 
@@ -365,82 +340,73 @@ module _ (h : Handle) (s : St) (start end frame flags constraints : ℕ) where
     map-refused : (r : Refusal) → Refused r ≡ verifyMap h end m → LowestGiven MapHere r → MapGoal
     map-refused r e lowest = inl (r, sym (answer-same (call-refused h start end frame flags constraints s fits e r refl)), lowest)
 
+    map-one : NoneBelow MapHere 2
+    unfolding MapSlip
+    map-one = none-next MapHere 1 (none-first MapHere) (not-misshaped h s fits)
+
     map-end : (endFits end ≡ false) × BadEnd end → MapGoal
     unfolding MapSlip
-    map-end x = map-refused (End end) (ask-end h end m (x .0)) (record {
-      given = (refl, x .1);
-      lower =
-          map-below 2 (λ l. not-misshaped h s fits) (λ l. absurd (omega arith)) (λ l. absurd (omega arith)) (λ l. absurd (omega arith))
-          (λ l. absurd (omega arith))
-          (λ l. absurd (omega arith))
-          (λ l. absurd (omega arith)) (λ l. absurd (omega arith)) (λ l. absurd (omega arith));
-    })
+    map-end x = map-refused (End end) (ask-end h end m (x .0)) (record { given = (refl, x .1); lower = map-one })
 
     module _ (ends : endFits end ≡ true) (good : ¬ (BadEnd end)) where
+      map-two : NoneBelow MapHere 3
+      unfolding MapSlip
+      map-two = none-next MapHere 2 map-one (λ e g. good (g .1))
+
       map-bit : HasBit1 flags → MapGoal
       unfolding MapSlip askedMap
-      map-bit x = map-refused (InvalidFlags flags) (ask-invalid h end m ends x) (record {
-        given = (refl, x);
-        lower =
-            map-below 3 (λ l. not-misshaped h s fits) (λ l. good) (λ l. absurd (omega arith)) (λ l. absurd (omega arith))
-            (λ l. absurd (omega arith)) (λ l. absurd (omega arith))
-            (λ l. absurd (omega arith)) (λ l. absurd (omega arith)) (λ l. absurd (omega arith));
-      })
+      map-bit x = map-refused (InvalidFlags flags) (ask-invalid h end m ends x) (record { given = (refl, x); lower = map-two })
 
       module _ (plain : ¬ (HasBit1 flags)) where
+        map-three : NoneBelow MapHere 4
+        unfolding MapSlip
+        map-three = none-next MapHere 3 map-two (λ f g. plain (g .1))
+
         map-set : (only (flagSet h) flags ≡ false) × OutsideSet h flags → MapGoal
         unfolding MapSlip askedMap
-        map-set x = map-refused (FlagSet flags) (ask-set h end m ends plain (x .0)) (record {
-          given = (refl, x .1);
-          lower =
-              map-below 4 (λ l. not-misshaped h s fits) (λ l. good) (λ l. plain) (λ l. absurd (omega arith)) (λ l. absurd (omega arith))
-              (λ l. absurd (omega arith))
-              (λ l. absurd (omega arith)) (λ l. absurd (omega arith)) (λ l. absurd (omega arith));
-        })
+        map-set x = map-refused (FlagSet flags) (ask-set h end m ends plain (x .0)) (record { given = (refl, x .1); lower = map-three })
 
         module _ (from : (only (flagSet h) flags ≡ true) × (¬ (OutsideSet h flags))) where
+          map-four : NoneBelow MapHere 5
+          unfolding MapSlip
+          map-four = none-next MapHere 4 map-three (λ f g. from .1 (g .1))
+
+          map-five : ¬ (Backwards (rounded start end)) → NoneBelow MapHere 6
+          unfolding MapSlip
+          map-five forwards = none-next MapHere 5 map-four (λ r g. forwards (rw (← g .0) (g .1)))
+
           map-backwards : (verify h (rounded start end) ≡ Refused (RegionBackwards (rounded start end))) × Backwards (rounded start end)
               → MapGoal
           unfolding MapSlip askedMap
           map-backwards x =
               map-refused (RegionBackwards (rounded start end))
-              (ask-region h end m ends plain (from .0) (sym (x .0)) (RegionBackwards (rounded start end)) refl) (record {
-                given = (refl, x .1);
-                lower =
-                    map-below 5 (λ l. not-misshaped h s fits) (λ l. good) (λ l. plain) (λ l. from .1) (λ l. absurd (omega arith))
-                    (λ l. absurd (omega arith))
-                    (λ l. absurd (omega arith)) (λ l. absurd (omega arith)) (λ l. absurd (omega arith));
-              })
+              (ask-region h end m ends plain (from .0) (sym (x .0)) (RegionBackwards (rounded start end)) refl)
+              (record { given = (refl, x .1); lower = map-four })
 
           map-beyond : ((a : VirtualAddress) × (verify h (rounded start end) ≡ Refused (AddressRange a))
               × (¬ (Backwards (rounded start end)))
               × BeyondRange (h .range) (h .level) (rounded start end) a) → MapGoal
           unfolding MapSlip askedMap
           map-beyond x =
-              map-refused (AddressRange (x .0)) (ask-region h end m ends plain (from .0) (sym (x .1)) (AddressRange (x .0)) refl) (record {
-                given = x .3;
-                lower =
-                    map-below 6 (λ l. not-misshaped h s fits) (λ l. good) (λ l. plain) (λ l. from .1) (λ l. x .2)
-                    (λ l. absurd (omega arith)) (λ l. absurd (omega arith)) (λ l. absurd (omega arith)) (λ l. absurd (omega arith));
-              })
+              map-refused (AddressRange (x .0)) (ask-region h end m ends plain (from .0) (sym (x .1)) (AddressRange (x .0)) refl)
+              (record { given = x .3; lower = map-five (x .2) })
 
           module _ (stands : (verify h (rounded start end) ≡ Accepted) × RegionStands h (rounded start end)) where
             framed : frameAsked frame (rounded start end .end .0 - rounded start end .start .0) ≡ verifyMap h end m
             unfolding askedMap
             framed = ask-frame h end m ends plain (from .0) (sym (stands .0)) refl
 
+            map-six : NoneBelow MapHere 7
+            unfolding MapSlip
+            map-six = none-next MapHere 6 (map-five (stands .1 .forwards)) (stands .1 .within)
+
             map-frame : (frameAsked frame (rounded start end .end .0 - rounded start end .start .0)
                 ≡ Refused (Frame (record { 0 = frame })))
                 × BadFrame frame (rounded start end)
                 → MapGoal
             unfolding MapSlip
-            map-frame x = map-refused (Frame (record { 0 = frame })) (sym (x .0) ∙ framed) (record {
-              given = (refl, x .1);
-              lower =
-                  map-below 7 (λ l. not-misshaped h s fits) (λ l. good) (λ l. plain) (λ l. from .1) (λ l. stands .1 .forwards)
-                  (λ l. stands .1 .within)
-                  (λ l. absurd (omega arith)) (λ l. absurd (omega arith)) (λ l. absurd (omega arith));
-            })
+            map-frame x =
+                map-refused (Frame (record { 0 = frame })) (sym (x .0) ∙ framed) (record { given = (refl, x .1); lower = map-six })
 
             module _
                 (well : (frameAsked frame (rounded start end .end .0 - rounded start end .start .0) ≡ Accepted)
@@ -448,39 +414,37 @@ module _ (h : Handle) (s : St) (start end frame flags constraints : ℕ) where
               map-asked : mapSound h m s ≡ mapCall h start end frame flags constraints s
               map-asked = call-asked h start end frame flags constraints s fits framed (well .0)
 
-              map-lower : (n : ℕ) → (8 < n → ¬ (¬ (SoundPool h s))) → (9 < n → need ≤ free (s .ledger)) → (q : Refusal) → number q < n
-                  → ¬ (MapHere q)
-              map-lower n =
-                  map-below n (λ l. not-misshaped h s fits) (λ l. good) (λ l. plain) (λ l. from .1) (λ l. stands .1 .forwards)
-                  (λ l. stands .1 .within) (λ l. well .1)
+              map-seven : NoneBelow MapHere 8
+              unfolding MapSlip
+              map-seven = none-next MapHere 7 map-six (λ f g. well .1 (g .1))
 
               map-unsound : soundb h s ≡ false → MapGoal
               unfolding MapSlip
               map-unsound un = inl (
                 Unsound,
                 sym (answer-same (sound-not h m s un ∙ map-asked)),
-                record {
-                  given = unsound h s fits un;
-                  lower = map-lower 8 (λ l. absurd (omega arith)) (λ l. absurd (omega arith));
-                },
+                record { given = unsound h s fits un; lower = map-seven },
               )
 
               module _ (is : soundb h s ≡ true) where
+                map-eight : NoneBelow MapHere 9
+                unfolding MapSlip
+                map-eight = none-next MapHere 8 map-seven (λ g. g (sound h s fits is))
+
                 map-full : free (s .ledger) < need → MapGoal
                 unfolding MapSlip
                 map-full short = inl (
                   WantOfRoom need (free (s .ledger)),
                   sym (answer-same (sound-full h m s is refl refl short ∙ map-asked)),
-                  record {
-                    given = (refl, refl, short);
-                    lower = map-lower 9 (λ l g. g (sound h s fits is)) (λ l. absurd (omega arith));
-                  },
+                  record { given = (refl, refl, short); lower = map-eight },
                 )
 
                 map-done : need ≤ free (s .ledger) → MapGoal
-                unfolding putDown
+                unfolding putDown MapSlip
                 map-done room = inr (
-                  (λ q. map-lower 12 (λ l g. g (sound h s fits is)) (λ l. room) q (number-range q .1)),
+                  (λ q. none-next MapHere 11
+                      (none-next MapHere 10 (none-next MapHere 9 map-eight (λ k f g. omega (arith, g .0, g .1, g .2))) (λ w g. g))
+                      (λ k g. g) q (number-range q .1)),
                   λ r e. let z = answer-same (sound-mapped h m s is refl refl room ∙ map-asked) ∙ e in
                       let o : _≡_ {A = ℕ} 0 1 = cc in
                       omega arith,

@@ -1,9 +1,9 @@
 -- "Lowest number first": what it means that an answer is told by a slip, whatever the call.
-use mathlib.Core.Path.{_≡_, sym, _∙_}
+use mathlib.Core.Path.{_≡_, sym, subst, _∙_}
 use mathlib.Core.Logic.{_⊎_, inl, inr, _≢_, _↔_}
-use Prim.Native.Nat.{ℕ, _≤_, _<_}
+use Prim.Native.Nat.{ℕ, zero, suc, _≤_, _<_}
 use native.Mathlib.Omega.{arith}
-use Rattle.laws.specs.Test.{le-or}
+use Rattle.laws.specs.Test.{eq-or, le-or}
 use Rattle.address.specs.declared.VirtualAddress.{VirtualAddress}
 use Rattle.address.specs.declared.PhysicalAddress.{PhysicalAddress}
 use Rattle.region.specs.declared.MemoryRegion.{MemoryRegion}
@@ -12,10 +12,14 @@ use Rattle.pool.specs.declared.Refusal.{Refusal}
 use Rattle.pool.specs.declared.Refusal.the-variants.{Shape, End, InvalidFlags, FlagSet, RegionBackwards, AddressRange, Frame, Unsound}
 use Rattle.pool.specs.declared.Refusal.the-variants.{WantOfRoom, HouseRule, Short}
 
+-- nothing below n is on the slip
+abbrev pub NoneBelow : (Refusal → Type 0) → ℕ → Type 0
+NoneBelow Slip n = (q : Refusal) → number q < n → ¬ (Slip q)
+
 -- r is on the slip, and nothing of a lower number is
 pub record LowestGiven (Slip : Refusal → Type 0) (r : Refusal) : Type 0 where
   pub given : Slip r
-  pub lower : (q : Refusal) → number q < number r → ¬ (Slip q)
+  pub lower : NoneBelow Slip (number r)
 
 -- an answer is refused by the lowest, or nothing is on the slip and it is no refusal
 abbrev pub Told : {A : Type 0} → (Refusal → Type 0) → (Refusal → A) → A → Type 0
@@ -58,7 +62,7 @@ module _ (Slip : Refusal → Type 0) (n : ℕ)
     (eight : 8 < n → ¬ (Slip Unsound)) (nine : 9 < n → (k f : ℕ) → ¬ (Slip (WantOfRoom k f)))
     (ten : 10 < n → (w : ℕ) → ¬ (Slip (HouseRule w)))
     (eleven : 11 < n → (k : ℕ) → ¬ (Slip (Short k))) where
-  pub none-below : (q : Refusal) → number q < n → ¬ (Slip q)
+  pub none-below : NoneBelow Slip n
   none-below Shape l = one l
   none-below (End e) l = two l e
   none-below (InvalidFlags f) l = three l f
@@ -88,3 +92,46 @@ number-range (Short k) = (omega arith, omega arith)
 -- a refusal 1 that is on the slip is the lowest
 pub shape-lowest : (Slip : Refusal → Type 0) → Slip Shape → LowestGiven Slip Shape
 shape-lowest Slip g = record { given = g; lower = λ q l s. let z = number-range q .0 in omega arith }
+
+-- ---- a slip read from its lowest number up
+
+-- no line of the number n is on the slip
+abbrev NoLine : (Refusal → Type 0) → ℕ → Type 0
+NoLine Slip zero = Unit {0}
+NoLine Slip (suc zero) = ¬ (Slip Shape)
+NoLine Slip (suc (suc zero)) = (e : ℕ) → ¬ (Slip (End e))
+NoLine Slip (suc (suc (suc zero))) = (f : ℕ) → ¬ (Slip (InvalidFlags f))
+NoLine Slip (suc (suc (suc (suc zero)))) = (f : ℕ) → ¬ (Slip (FlagSet f))
+NoLine Slip (suc (suc (suc (suc (suc zero))))) = (r : MemoryRegion) → ¬ (Slip (RegionBackwards r))
+NoLine Slip (suc (suc (suc (suc (suc (suc zero)))))) = (a : VirtualAddress) → ¬ (Slip (AddressRange a))
+NoLine Slip (suc (suc (suc (suc (suc (suc (suc zero))))))) = (f : PhysicalAddress) → ¬ (Slip (Frame f))
+NoLine Slip (suc (suc (suc (suc (suc (suc (suc (suc zero)))))))) = ¬ (Slip Unsound)
+NoLine Slip (suc (suc (suc (suc (suc (suc (suc (suc (suc zero))))))))) = (k f : ℕ) → ¬ (Slip (WantOfRoom k f))
+NoLine Slip (suc (suc (suc (suc (suc (suc (suc (suc (suc (suc zero)))))))))) = (w : ℕ) → ¬ (Slip (HouseRule w))
+NoLine Slip (suc (suc (suc (suc (suc (suc (suc (suc (suc (suc (suc n))))))))))) = (k : ℕ) → ¬ (Slip (Short k))
+
+module _ (Slip : Refusal → Type 0) where
+  line-none : (q : Refusal) → NoLine Slip (number q) → ¬ (Slip q)
+  line-none Shape off = off
+  line-none (End e) off = off e
+  line-none (InvalidFlags f) off = off f
+  line-none (FlagSet f) off = off f
+  line-none (RegionBackwards r) off = off r
+  line-none (AddressRange a) off = off a
+  line-none (Frame f) off = off f
+  line-none Unsound off = off
+  line-none (WantOfRoom k f) off = off k f
+  line-none (HouseRule w) off = off w
+  line-none (Short k) off = off k
+
+  -- nothing below 1 is on a slip
+  pub none-first : NoneBelow Slip 1
+  none-first q l = let z = number-range q .0 in absurd (omega arith)
+
+  -- one number more
+  pub none-next : (n : ℕ) → NoneBelow Slip n → NoLine Slip n → NoneBelow Slip (suc n)
+  none-next n below off q l = go (eq-or (number q) n)
+    where
+      go : (number q ≡ n) ⊎ (number q ≢ n) → ¬ (Slip q)
+      go (inl e) = line-none q (subst (NoLine Slip) (sym e) off)
+      go (inr other) = below q (omega arith)

@@ -24,14 +24,14 @@ use Rattle.theory_map.specs.Call.{area}
 -- ---- the pages of a region
 
 -- the addresses of a region are those of the pages `from` to `upto`, and they lie in the root's span
-pub record Paged (h : Handle) (r : MemoryRegion) (from upto : ℕ) : Type 0 where
-  pub page : (va : ℕ) → Holds r va → OfRegion from upto (va / 4096)
-  pub address : (va : ℕ) → OfRegion from upto (va / 4096) → Holds r va
-  pub spans : (va : ℕ) → Holds r va → In (suc (depthOf h)) (rootIn h) (va / 4096)
+pub record Paged (h : Handle) (InRegion : ℕ → Type 0) (from upto : ℕ) : Type 0 where
+  pub page : (va : ℕ) → InRegion va → OfRegion from upto (va / 4096)
+  pub address : (va : ℕ) → OfRegion from upto (va / 4096) → InRegion va
+  pub spans : (va : ℕ) → InRegion va → In (suc (depthOf h)) (rootIn h) (va / 4096)
 
 pub paged : (h : Handle) (r : MemoryRegion) {p : ℕ}
     → Inside (first (suc (depthOf h)) (rootIn h)) (pagesIn (suc (depthOf h))) (r .start .0) (r .end .0) p
-    → Paged h r (r .start .0 / 4096) (r .end .0 / 4096)
+    → Paged h (Holds r) (r .start .0 / 4096) (r .end .0 / 4096)
 paged h r I = record {
   page = λ va at. record { from = omega (arith, at .from, I .startPage); below = omega (arith, at .below, I .endPage) };
   address = λ va of. record { from = omega (arith, of .from, I .startPage); below = omega (arith, of .below, I .endPage) };
@@ -42,7 +42,7 @@ paged h r I = record {
 -- ---- the call's region
 
 module _ {h : Handle} {c : MapArguments} {s : St} (passed : MapPassed h c s) where
-  pub region-paged : Paged h (rounded (c .start) (c .end)) (mapPagesOf c .from) (mapPagesOf c .upto)
+  pub region-paged : Paged h (InMapRegion c) (mapPagesOf c .from) (mapPagesOf c .upto)
   unfolding askedMap
   region-paged = paged h (rounded (c .start) (c .end)) (area passed .inside)
 

@@ -44,7 +44,7 @@ use Rattle.theory_map.specs.Pieces.{Area}
 use Rattle.theory_map.specs.Place.{Paged, paged}
 use Rattle.theory_map.specs.Asked.{left-by}
 use Rattle.theory_modify.specs.Terms.{ModifyArguments, modifyAnswer, modifyAccepted, Modifies, editAsked, ModifyPassed, surveyed}
-use Rattle.theory_modify.specs.Terms.{modifyPagesOf, treeAfterModify, madeByModify, numbersOf}
+use Rattle.theory_modify.specs.Terms.{modifyPagesOf, treeAfterModify, madeByModify, numbersOf, InModifyRegion}
 use Rattle.theory_modify.specs.Numbers.{tableNumbers, occurs, firstPage}
 use Rattle.theory_modify.specs.Word.{Bits}
 use Rattle.theory_modify.specs.Pass.{areaOf, TableEdited}
@@ -71,7 +71,7 @@ module _ {h : Handle} {c : ModifyArguments} {s : St} (passed : ModifyPassed h c 
   area = asked-area h (c .start) (c .end) (c .set) (c .clear) (c .live) (passed .asks) (passed .shape .level)
 
   -- its region, in pages of the root's tree
-  pub region-paged : Paged h (rounded (c .start) (c .end)) (modifyPagesOf c .from) (modifyPagesOf c .upto)
+  pub region-paged : Paged h (InModifyRegion c) (modifyPagesOf c .from) (modifyPagesOf c .upto)
   unfolding askedEdit
   region-paged = paged h (rounded (c .start) (c .end)) (area .inside)
 

@@ -73,7 +73,7 @@ says-leaf set level w low leaf =
     block level some high leaf =
         let clear = leaf .clear high in
         and-i (ltb (w % 4) 2) (eqb (addressOf w % sizeAt level) 0) (lt→ltb (w % 4) 2 (omega arith))
-        (eq→eqb (addressOf w % sizeAt level) 0 (leaf .aligned some high))
+        (eq→eqb (addressOf w % sizeAt level) 0 (leaf .aligned (omega arith) (omega arith)))
 
     shape : (level : ℕ) → level ≤ 3 → LeafWord set level w → T (fits level w)
     shape zero low leaf =

@@ -18,6 +18,10 @@ use Rattle.checker_ledger.proofs.hangs.Reads as reads
 use Rattle.checker_ledger.proofs.hangs.Lts as lts
 use Rattle.entry.proofs.link.Reads as link-reads
 
+-- the start of the function, seen from after the call of `link`
+abbrev start-of-link : tie.After-link → tie.Start
+start-of-link c = c .before .before .before .before .before .before .before .before .before .before .before
+
 -- one part that fails
 no-hang : (base : ℕ) (s : St) (k : ℕ) → (Hangs base s k → ⊥) → false ≡ hangsb base s k
 no-hang base s k n = sym (is-false (hangsb base s k) (λ t. n (hangs-to base s k t)))
@@ -30,11 +34,11 @@ last-part base s k word link rest w l =
     (λ t. eq→eqb word link (sym w ∙ hangs-to base s k t .says ∙ l))
 
 -- the link of a table of the pool is its address + 3
-linked : (c : tie.After-link) → c .link .result ≡ linkOf (c .before .before .before .before .before .before .before .before .before .before .before .args .handle .base .0) (c .before .before .before .before .before .before .before .before .before .before .before .args .k)
+linked : (c : tie.After-link) → c .link .result ≡ linkOf (start-of-link c .args .handle .base .0) (start-of-link c .args .k)
 linked c =
-    let a = c .before .before .before .before .before .before .before .before .before .before .before .args in
-    let shape = c .before .before .before .before .before .before .before .before .before .before .before .pre .0 in
-    c .link .ensures ∙ link-fits (a .handle .base .0) (a .k) (shape .paged) (omega (arith, shape .ended, c .before .before .before .before .before .before .before .before .before .before .before .pre .1))
+    let a = start-of-link c .args in
+    let shape = start-of-link c .pre .0 in
+    c .link .ensures ∙ link-fits (a .handle .base .0) (a .k) (shape .paged) (omega (arith, shape .ended, start-of-link c .pre .1))
 
 pos : {y : ℕ} → (y ≡ 0 → ⊥) → 0 < y
 pos n = omega arith
@@ -99,7 +103,7 @@ link-requires c κs = omega arith
 
 returns-6 : tie.Need-returns-6
 returns-6 c =
-    let a = c .before .before .before .before .before .before .before .before .before .before .before .args in
+    let a = start-of-link c .args in
     let s = (st (a .words .now) (a .ledger .now)) in
     let x = numberAt s (a .k) in
     let at : 512 * parentOf x + slotOf x ≡ x / 8 - 1 = omega arith in

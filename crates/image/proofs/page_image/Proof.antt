@@ -17,6 +17,10 @@ use Rattle.image.proofs.page_image.Lts as lts
 use Rattle.image_bytes.proofs.write_to.Reads as write-to-reads
 use Rattle.pool_handle.proofs.is_shaped.Reads as is-shaped-reads
 
+-- the start of the function, seen from its last return
+abbrev start-of-returns-4 : tie.After-slice-known2 → tie.Start
+start-of-returns-4 c = c .before .before .before .before .before .before .before .before .before .before .before .before
+
 -- past the first test the shape is known
 good : (c : tie.Else1) → let a = c .before .before .before .before .before .args in shaped (a .handle) (st (a .words .now) (a .ledger .now)) ≡ true
 good c = sym (c .before .is-shaped .ensures) ∙ not-false _ (c .if1 .left)
@@ -68,7 +72,7 @@ same-length c = omega arith
 
 returns-4 : tie.Need-returns-4
 returns-4 c =
-    let a = c .before .before .before .before .before .before .before .before .before .before .before .before .args in
+    let a = start-of-returns-4 c .args in
     let whole : 512 * a .k + 512 - 512 * a .k ≡ 512 = omega arith in
     ap (imaged Accepted) (c .before .before .write-to .ensures ∙ ap (λ (n : ℕ). imageOf (partOf (512 * a .k) n (a .words .now))) whole)
     ∙ image-written (a .handle) (st (a .words .now) (a .ledger .now)) (a .k) (a .page .now) (good (c .before .before .before .before .before .before .before)) (omega arith) (c .before .before .before .before .before .if3 .left)

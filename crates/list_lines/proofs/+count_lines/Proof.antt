@@ -64,26 +64,33 @@ few c = subst (λ (n : ℕ). n < 2 ^ 64) (all c) (c .before .before .before .pre
 abbrev Asked : ℕ → Type 0
 Asked t = count-lines-lts.After-subtable (calls t) (count-lines-at t) count-lines.Post count-lines-Inv-loop count-lines-μ-loop
 
+-- ways back from where a chunk's entry is known: to the start, and to where the region is split
+abbrev start-of-asked : {t : ℕ} → Asked t → count-lines-lts.Start (calls t) (count-lines-at t) count-lines.Post count-lines-Inv-loop count-lines-μ-loop
+start-of-asked c = c .before .before .before .before .before .before .before .before .before .before
+
+abbrev split-of-asked : {t : ℕ} → Asked t → count-lines-lts.After-split (calls t) (count-lines-at t) count-lines.Post count-lines-Inv-loop count-lines-μ-loop
+split-of-asked c = c .before .before .before .before .before .before .before
+
 -- the lines counted, n of the chunk, and those of the chunks after it are all
 abbrev Sum : {t : ℕ} → Asked t → ℕ → Type 0
-Sum c n = let a = c .before .before .before .before .before .before .before .before .before .before .args in let f = linesAt (a .handle .base .0) (a .tables) (a .words .now) (a .k) (a .level) in
-    c .before .before .before .before .before .before .loop .count + n + length (each f (chunksOf (c .before .before .before .next2 .given .0 .1 .0))) ≡ length (each f (chunksOf (c .before .before .before .before .before .before .before .split .result)))
+Sum c n = let a = start-of-asked c .args in let f = linesAt (a .handle .base .0) (a .tables) (a .words .now) (a .k) (a .level) in
+    c .before .before .before .before .before .before .loop .count + n + length (each f (chunksOf (c .before .before .before .next2 .given .0 .1 .0))) ≡ length (each f (chunksOf (split-of-asked c .split .result)))
 
 regroup : (a n x : ℕ) {r s : ℕ} → r ≡ n + x → a + r ≡ s → a + n + x ≡ s
 regroup a n x e q = omega arith
 
-sum : {t : ℕ} (c : Asked t) (ls : List Line) → let a = c .before .before .before .before .before .before .before .before .before .before .args in linesAt (a .handle .base .0) (a .tables) (a .words .now) (a .k) (a .level) (c .before .before .before .next2 .given .0 .0) ≡ ls → Sum c (length ls)
+sum : {t : ℕ} (c : Asked t) (ls : List Line) → let a = start-of-asked c .args in linesAt (a .handle .base .0) (a .tables) (a .words .now) (a .k) (a .level) (c .before .before .before .next2 .given .0 .0) ≡ ls → Sum c (length ls)
 sum c ls lines =
-    let a = c .before .before .before .before .before .before .before .before .before .before .args in
+    let a = start-of-asked c .args in
     let cut = next-chunk (c .before .before .before .before .before .before .loop .rest) _ _ (c .before .before .before .before .before .next .ensures) (c .before .before .before .next2 .given .1) in
     regroup _ _ _ (count-step (linesAt (a .handle .base .0) (a .tables) (a .words .now) (a .k) (a .level)) ls cut lines) (c .before .before .before .before .before .before .loop .inv)
 
 one : {t : ℕ} (c : Asked t) → (c .subtable .result ≡ Outside) ⊎ (c .subtable .result ≡ Leaf) → Sum c 1
-one c e = let a = c .before .before .before .before .before .before .before .before .before .before .args in sum c _ (lines-other (a .handle .base .0) (a .tables) (a .words .now) (a .k) (a .level) _ (c .before .get-entry .ensures) (c .subtable .ensures) e)
+one c e = let a = start-of-asked c .args in sum c _ (lines-other (a .handle .base .0) (a .tables) (a .words .now) (a .k) (a .level) _ (c .before .get-entry .ensures) (c .subtable .ensures) e)
 
 below : {t : ℕ} (c : Asked t) (j : ℕ) → c .subtable .result ≡ Table j
-    → let a = c .before .before .before .before .before .before .before .before .before .before .args in Sum c (length (linesFrom (a .handle .base .0) (a .tables) (a .words .now) (3 - (a .level + 1)) j (c .before .before .before .next2 .given .0 .0)))
-below c j e = let a = c .before .before .before .before .before .before .before .before .before .before .args in sum c _ (lines-table (a .handle .base .0) (a .tables) (a .words .now) (a .k) (a .level) _ (c .before .get-entry .ensures) (c .subtable .ensures) j e)
+    → let a = start-of-asked c .args in Sum c (length (linesFrom (a .handle .base .0) (a .tables) (a .words .now) (3 - (a .level + 1)) j (c .before .before .before .next2 .given .0 .0)))
+below c j e = let a = start-of-asked c .args in sum c _ (lines-table (a .handle .base .0) (a .tables) (a .words .now) (a .k) (a .level) _ (c .before .get-entry .ensures) (c .subtable .ensures) j e)
 
 -- one chunk fewer is left
 fewer : {t : ℕ} (c : Asked t) → length (chunksOf (c .before .before .before .next2 .given .0 .1 .0)) < length (chunksOf (c .before .before .before .before .before .before .loop .rest))
@@ -131,7 +138,7 @@ count-lines-enum-known-kind : (t : ℕ) → count-lines-lts.Need-enum-known-kind
 count-lines-enum-known-kind t c = c .match2 .keys1
 
 count-lines-add-count : (t : ℕ) → count-lines-lts.Need-add-count (calls t) (count-lines-at t) count-lines.Post count-lines-Inv-loop count-lines-μ-loop
-count-lines-add-count t c = omega (arith, one (c .before) (no-table _ (c .match2 .keys2)), few (c .before .before .before .before .before .before .before .before))
+count-lines-add-count t c = omega (arith, one (c .before) (no-table _ (c .match2 .keys2)), few (split-of-asked (c .before)))
 
 count-lines-loop-less : (t : ℕ) → count-lines-lts.Need-loop-less (calls t) (count-lines-at t) count-lines.Post count-lines-Inv-loop count-lines-μ-loop
 count-lines-loop-less t c = fewer (c .before)
@@ -147,13 +154,13 @@ count-lines-add-count-lines t c =
 count-lines-count-lines-requires : (t : ℕ) → count-lines-lts.Need-count-lines-requires (calls t) (count-lines-at t) count-lines.Post count-lines-Inv-loop count-lines-μ-loop
 count-lines-count-lines-requires t c κs =
     let s = c .before .before .before in
-    let p = c .before .before .before .before .before .before .before .before .before .before .before .before .before .pre in
+    let p = start-of-asked s .pre in
     let table = c .before .kind .given .1 in
     let found = sub-found _ _ _ _ _ (sym (s .subtable .ensures) ∙ table) in
-    (omega (arith, found .high, p .0), (p .1 .0, found .below, omega (arith, found .high), omega (arith, below s _ table, few (c .before .before .before .before .before .before .before .before .before .before))))
+    (omega (arith, found .high, p .0), (p .1 .0, found .below, omega (arith, found .high), omega (arith, below s _ table, few (split-of-asked s))))
 
 count-lines-add-count-2 : (t : ℕ) → count-lines-lts.Need-add-count-2 (calls t) (count-lines-at t) count-lines.Post count-lines-Inv-loop count-lines-μ-loop
-count-lines-add-count-2 t c = omega (arith, below (c .before .before .before .before) _ (c .before .before .kind .given .1), few (c .before .before .before .before .before .before .before .before .before .before .before), c .count-lines .ensures)
+count-lines-add-count-2 t c = omega (arith, below (c .before .before .before .before) _ (c .before .before .kind .given .1), few (split-of-asked (c .before .before .before .before)), c .count-lines .ensures)
 
 count-lines-loop-less-2 : (t : ℕ) → count-lines-lts.Need-loop-less-2 (calls t) (count-lines-at t) count-lines.Post count-lines-Inv-loop count-lines-μ-loop
 count-lines-loop-less-2 t c = fewer (c .before .before .before .before)

@@ -62,28 +62,35 @@ all c =
 abbrev Asked : ℕ → Type 0
 Asked t = visit-range-lts.After-subtable (calls t) (visit-range-at t) visit-range.Post visit-range-Inv-loop visit-range-μ-loop
 
+-- ways back from where a chunk's entry is known: to the start, and to the loop's head
+abbrev start-of-asked : {t : ℕ} → Asked t → visit-range-lts.Start (calls t) (visit-range-at t) visit-range.Post visit-range-Inv-loop visit-range-μ-loop
+start-of-asked c = c .before .before .before .before .before .before .before .before .before .before
+
+abbrev loop-of-asked : {t : ℕ} → Asked t → visit-range-lts.At-loop (calls t) (visit-range-at t) visit-range.Post visit-range-Inv-loop visit-range-μ-loop
+loop-of-asked c = c .before .before .before .before .before .before
+
 -- the chunk, and those after it
-cut : {t : ℕ} (c : Asked t) → chunksOf (c .before .before .before .before .before .before .loop .rest) ≡ c .before .before .before .next2 .given .0 .0 ∷ chunksOf (c .before .before .before .next2 .given .0 .1 .0)
-cut c = next-chunk (c .before .before .before .before .before .before .loop .rest) _ _ (c .before .before .before .before .before .next .ensures) (c .before .before .before .next2 .given .1)
+cut : {t : ℕ} (c : Asked t) → chunksOf (loop-of-asked c .loop .rest) ≡ c .before .before .before .next2 .given .0 .0 ∷ chunksOf (c .before .before .before .next2 .given .0 .1 .0)
+cut c = next-chunk (loop-of-asked c .loop .rest) _ _ (c .before .before .before .before .before .next .ensures) (c .before .before .before .next2 .given .1)
 
 one : {t : ℕ} (c : Asked t) → (c .subtable .result ≡ Outside) ⊎ (c .subtable .result ≡ Leaf)
-    → let a = c .before .before .before .before .before .before .before .before .before .before .args in linesAt (a .handle .base .0) (a .tables) (a .words .now) (a .k) (a .level) (c .before .before .before .next2 .given .0 .0) ≡ line (c .before .before .before .next2 .given .0 .0) (c .before .get-entry .result) (a .level) ∷ []
-one c e = let a = c .before .before .before .before .before .before .before .before .before .before .args in lines-other (a .handle .base .0) (a .tables) (a .words .now) (a .k) (a .level) _ (c .before .get-entry .ensures) (c .subtable .ensures) e
+    → let a = start-of-asked c .args in linesAt (a .handle .base .0) (a .tables) (a .words .now) (a .k) (a .level) (c .before .before .before .next2 .given .0 .0) ≡ line (c .before .before .before .next2 .given .0 .0) (c .before .get-entry .result) (a .level) ∷ []
+one c e = let a = start-of-asked c .args in lines-other (a .handle .base .0) (a .tables) (a .words .now) (a .k) (a .level) _ (c .before .get-entry .ensures) (c .subtable .ensures) e
 
 below : {t : ℕ} (c : Asked t) (j : ℕ) → c .subtable .result ≡ Table j
-    → let a = c .before .before .before .before .before .before .before .before .before .before .args in linesAt (a .handle .base .0) (a .tables) (a .words .now) (a .k) (a .level) (c .before .before .before .next2 .given .0 .0) ≡ linesFrom (a .handle .base .0) (a .tables) (a .words .now) (3 - (a .level + 1)) j (c .before .before .before .next2 .given .0 .0)
-below c j e = let a = c .before .before .before .before .before .before .before .before .before .before .args in lines-table (a .handle .base .0) (a .tables) (a .words .now) (a .k) (a .level) _ (c .before .get-entry .ensures) (c .subtable .ensures) j e
+    → let a = start-of-asked c .args in linesAt (a .handle .base .0) (a .tables) (a .words .now) (a .k) (a .level) (c .before .before .before .next2 .given .0 .0) ≡ linesFrom (a .handle .base .0) (a .tables) (a .words .now) (3 - (a .level + 1)) j (c .before .before .before .next2 .given .0 .0)
+below c j e = let a = start-of-asked c .args in lines-table (a .handle .base .0) (a .tables) (a .words .now) (a .k) (a .level) _ (c .before .get-entry .ensures) (c .subtable .ensures) j e
 
-step : {t : ℕ} (c : Asked t) {ls : List Line} → let a = c .before .before .before .before .before .before .before .before .before .before .args in let f = linesAt (a .handle .base .0) (a .tables) (a .words .now) (a .k) (a .level) in f (c .before .before .before .next2 .given .0 .0) ≡ ls
-    → length (each f (chunksOf (c .before .before .before .before .before .before .loop .rest))) ≡ length ls + length (each f (chunksOf (c .before .before .before .next2 .given .0 .1 .0)))
-step c {ls} lines = let a = c .before .before .before .before .before .before .before .before .before .before .args in count-step (linesAt (a .handle .base .0) (a .tables) (a .words .now) (a .k) (a .level)) ls (cut c) lines
+step : {t : ℕ} (c : Asked t) {ls : List Line} → let a = start-of-asked c .args in let f = linesAt (a .handle .base .0) (a .tables) (a .words .now) (a .k) (a .level) in f (c .before .before .before .next2 .given .0 .0) ≡ ls
+    → length (each f (chunksOf (loop-of-asked c .loop .rest))) ≡ length ls + length (each f (chunksOf (c .before .before .before .next2 .given .0 .1 .0)))
+step c {ls} lines = let a = start-of-asked c .args in count-step (linesAt (a .handle .base .0) (a .tables) (a .words .now) (a .k) (a .level)) ls (cut c) lines
 
 -- room for the lines that remain
-room : {t : ℕ} (c : Asked t) → let a = c .before .before .before .before .before .before .before .before .before .before .args in
-    c .before .before .before .before .before .before .loop .to + 4 * length (each (linesAt (a .handle .base .0) (a .tables) (a .words .now) (a .k) (a .level)) (chunksOf (c .before .before .before .before .before .before .loop .rest))) ≤ length (c .before .before .before .before .before .before .loop .list)
+room : {t : ℕ} (c : Asked t) → let a = start-of-asked c .args in
+    loop-of-asked c .loop .to + 4 * length (each (linesAt (a .handle .base .0) (a .tables) (a .words .now) (a .k) (a .level)) (chunksOf (loop-of-asked c .loop .rest))) ≤ length (loop-of-asked c .loop .list)
 room c =
-    let inv = c .before .before .before .before .before .before .loop .inv in
-    omega (arith, inv .0, inv .1, ap length (all (c .before .before .before .before .before .before .before)), c .before .before .before .before .before .before .before .before .before .before .pre .1 .3)
+    let inv = loop-of-asked c .loop .inv in
+    omega (arith, inv .0, inv .1, ap length (all (loop-of-asked c .before)), start-of-asked c .pre .1 .3)
 
 visit-range-split-requires : (t : ℕ) → visit-range-lts.Need-split-requires (calls t) (visit-range-at t) visit-range.Post visit-range-Inv-loop visit-range-μ-loop
 visit-range-split-requires t c κs = omega arith
@@ -132,7 +139,7 @@ visit-range-put-line-requires t c κs =
 visit-range-add-to : (t : ℕ) → visit-range-lts.Need-add-to (calls t) (visit-range-at t) visit-range.Post visit-range-Inv-loop visit-range-μ-loop
 visit-range-add-to t c =
     let s = c .before .before .before .before .before in
-    omega (arith, step s (one s (no-table _ (c .before .before .before .before .match2 .keys2))), room s, c .before .before .before .before .before .before .before .before .before .before .before .loop .inv .1, c .before .before .before .before .before .before .before .before .before .before .before .before .before .before .before .good .1 .1 .1 .1 .1 .1 .0 .0)
+    omega (arith, step s (one s (no-table _ (c .before .before .before .before .match2 .keys2))), room s, loop-of-asked s .loop .inv .1, start-of-asked s .good .1 .1 .1 .1 .1 .1 .0 .0)
 
 visit-range-loop-less : (t : ℕ) → visit-range-lts.Need-loop-less (calls t) (visit-range-at t) visit-range.Post visit-range-Inv-loop visit-range-μ-loop
 visit-range-loop-less t c = let e = ap length (cut (c .before .before .before .before .before)) in omega (arith, e)
@@ -140,8 +147,8 @@ visit-range-loop-less t c = let e = ap length (cut (c .before .before .before .b
 visit-range-loop-again : (t : ℕ) → visit-range-lts.Need-loop-again (calls t) (visit-range-at t) visit-range.Post visit-range-Inv-loop visit-range-μ-loop
 visit-range-loop-again t c =
     let s = c .before .before .before .before .before in
-    let at = c .before .before .before .before .before .before .before .before .before .before .before .loop in
-    let a = c .before .before .before .before .before .before .before .before .before .before .before .before .before .before .before .args in
+    let at = loop-of-asked s .loop in
+    let a = start-of-asked s .args in
     let lines = one s (no-table _ (c .before .before .before .before .match2 .keys2)) in
     (omega (arith, at .inv .0, step s lines), omega arith, write-step (linesAt (a .handle .base .0) (a .tables) (a .words .now) (a .k) (a .level)) _ (cut s) lines (at .to) (at .list) (room s) refl (c .before .before .put-line .ensures) ∙ at .inv .2)
 
@@ -153,7 +160,7 @@ visit-range-add-visit-range t c =
 visit-range-visit-range-requires : (t : ℕ) → visit-range-lts.Need-visit-range-requires (calls t) (visit-range-at t) visit-range.Post visit-range-Inv-loop visit-range-μ-loop
 visit-range-visit-range-requires t c κs =
     let s = c .before .before .before .before in
-    let p = c .before .before .before .before .before .before .before .before .before .before .before .before .before .before .pre in
+    let p = start-of-asked s .pre in
     let table = c .before .before .kind .given .1 in
     let found = sub-found _ _ _ _ _ (sym (s .subtable .ensures) ∙ table) in
     (omega (arith, found .high, p .0), (p .1 .0, found .below, omega (arith, found .high), omega (arith, step s (below s _ table), room s)))
@@ -165,8 +172,8 @@ visit-range-loop-again-2 : (t : ℕ) → visit-range-lts.Need-loop-again-2 (call
 unfolding writeLines
 visit-range-loop-again-2 t c =
     let s = c .before .before .before .before .before .before .before in
-    let at = c .before .before .before .before .before .before .before .before .before .before .before .before .before .loop in
-    let a = c .before .before .before .before .before .before .before .before .before .before .before .before .before .before .before .before .before .args in
+    let at = loop-of-asked s .loop in
+    let a = start-of-asked s .args in
     let lines = below s _ (c .before .before .before .before .before .kind .given .1) in
     let to = ap (λ (x : Written). x .to) (c .before .before .visit-range .ensures) in
     let list = ap (λ (x : Written). x .list) (c .before .before .visit-range .ensures) in

@@ -62,36 +62,43 @@ count-new-μ-loop words ledger handle k level map end at₀ frame₀ count₀ at
 abbrev Place : ℕ → Type 0
 Place t = count-new-lts.After-entry-index (calls t) (count-new-at t) count-new.Post count-new-Inv-loop count-new-μ-loop
 
+-- ways back: from a chunk to the start; to the chunk from after the call of the function itself
+abbrev start-of-chunk : {t : ℕ} → Place t → count-new-lts.Start (calls t) (count-new-at t) count-new.Post count-new-Inv-loop count-new-μ-loop
+start-of-chunk c = c .before .before .before .before .before .before .before .before
+
+abbrev chunk-of-lower : {t : ℕ} → count-new-lts.After-count-new (calls t) (count-new-at t) count-new.Post count-new-Inv-loop count-new-μ-loop → Place t
+chunk-of-lower c = c .before .before .before .before .before .before .before .before .before .before
+
 -- the chunk's own map, and what remains after it
 abbrev chunkOf : (t : ℕ) → Place t → Map
-chunkOf t c = chunkMap (c .before .before .before .before .before .before .before .before .args .map) (region (c .before .before .before .loop .at) (c .before .chunk-end .result)) (c .before .before .before .loop .frame)
+chunkOf t c = chunkMap (start-of-chunk c .args .map) (region (c .before .before .before .loop .at) (c .before .chunk-end .result)) (c .before .before .before .loop .frame)
 
 abbrev leftOf : (t : ℕ) → Place t → Map
 leftOf t c =
-    let m = c .before .before .before .before .before .before .before .before .args .map in
+    let m = start-of-chunk c .args .map in
     chunkMap m (region (c .before .chunk-end .result) (m .region .end .0)) (c .before .before .before .loop .frame + (c .before .chunk-end .result - c .before .before .before .loop .at))
 
 -- what one chunk counts
 abbrev counts : (t : ℕ) → Place t → Map → ℕ
-counts t c = let a = c .before .before .before .before .before .before .before .before .args in countAt (a .handle) (st (a .words .now) (a .ledger .now)) (a .k) (a .level)
+counts t c = let a = start-of-chunk c .args in countAt (a .handle) (st (a .words .now) (a .ledger .now)) (a .k) (a .level)
 
 record Facts (t : ℕ) (c : Place t) : Type 0 where
-  within : c .before .chunk-end .result ≤ entryLast (c .before .before .before .before .before .before .before .before .args .level) (c .before .before .before .loop .at) + 1
-  high : c .before .before .before .before .before .before .before .before .args .level < 2
+  within : c .before .chunk-end .result ≤ entryLast (start-of-chunk c .args .level) (c .before .before .before .loop .at) + 1
+  high : start-of-chunk c .args .level < 2
   above : c .before .before .before .loop .at < c .before .chunk-end .result
-  under : c .before .chunk-end .result ≤ c .before .before .before .before .before .before .before .before .args .map .region .end .0
+  under : c .before .chunk-end .result ≤ start-of-chunk c .args .map .region .end .0
   paged : c .before .chunk-end .result % 4096 ≡ 0
   framed : leftOf t c .frame .0 % 4096 ≡ 0
   room : leftOf t c .frame .0 + (leftOf t c .region .end .0 - leftOf t c .region .start .0) ≤ 2 ^ 48
   slot : c .entry-index .result < 512
   fit : Fit (chunkOf t c)
-  next : c .before .before .before .loop .count + (counts t c (chunkOf t c) + sumChunks (c .before .before .before .before .before .before .before .before .args .level) (counts t c) (leftOf t c)) ≡ sumChunks (c .before .before .before .before .before .before .before .before .args .level) (counts t c) (c .before .before .before .before .before .before .before .before .args .map)
-  most : sumChunks (c .before .before .before .before .before .before .before .before .args .level) (counts t c) (c .before .before .before .before .before .before .before .before .args .map) ≤ 3 * 2 ^ 48
+  next : c .before .before .before .loop .count + (counts t c (chunkOf t c) + sumChunks (start-of-chunk c .args .level) (counts t c) (leftOf t c)) ≡ sumChunks (start-of-chunk c .args .level) (counts t c) (start-of-chunk c .args .map)
+  most : sumChunks (start-of-chunk c .args .level) (counts t c) (start-of-chunk c .args .map) ≤ 3 * 2 ^ 48
 
 facts : (t : ℕ) (c : Place t) → Facts t c
 unfolding entryIndex
 facts t c =
-    let start = c .before .before .before .before .before .before .before .before in
+    let start = start-of-chunk c in
     let a = start .args in
     let p = start .pre .1 in
     let at = c .before .before .before in
@@ -123,7 +130,7 @@ facts t c =
 
 -- the chunk's part, where it is what the code adds: the sum that is left after it
 counted : (t : ℕ) (c : Place t) (n : ℕ) → counts t c (chunkOf t c) ≡ n
-    → c .before .before .before .loop .count + n + sumChunks (c .before .before .before .before .before .before .before .before .args .level) (counts t c) (leftOf t c) ≡ sumChunks (c .before .before .before .before .before .before .before .before .args .level) (counts t c) (c .before .before .before .before .before .before .before .before .args .map)
+    → c .before .before .before .loop .count + n + sumChunks (start-of-chunk c .args .level) (counts t c) (leftOf t c) ≡ sumChunks (start-of-chunk c .args .level) (counts t c) (start-of-chunk c .args .map)
 counted t c n e = omega (arith, facts t c .next)
 
 adds : (t : ℕ) (c : Place t) (n : ℕ) → counts t c (chunkOf t c) ≡ n → c .before .before .before .loop .count + n < 2 ^ 64
@@ -131,13 +138,13 @@ adds t c n e = let f = facts t c in omega (arith, f .next, f .most)
 
 -- the rule of the chunk, and what the tables below it need
 ruled : (t : ℕ) (c : count-new-lts.After-rule-of (calls t) (count-new-at t) count-new.Post count-new-Inv-loop count-new-μ-loop) (w : ℕ)
-    → c .rule-of .result ≡ ruleOf (c .before .before .before .before .before .before .before .before .before .before .before .before .before .before .before .args .level) (c .before .chunk-of .result) w → c .rule-of .result ≡ ruleOf (c .before .before .before .before .before .before .before .before .before .before .before .before .before .before .before .args .level) (chunkOf t (c .before .before .before .before .before .before .before)) w
-ruled t c w e = e ∙ ap (λ (m : Map). ruleOf (c .before .before .before .before .before .before .before .before .before .before .before .before .before .before .before .args .level) m w) (c .before .chunk-of .ensures)
+    → c .rule-of .result ≡ ruleOf (start-of-chunk (c .before .before .before .before .before .before .before) .args .level) (c .before .chunk-of .result) w → c .rule-of .result ≡ ruleOf (start-of-chunk (c .before .before .before .before .before .before .before) .args .level) (chunkOf t (c .before .before .before .before .before .before .before)) w
+ruled t c w e = e ∙ ap (λ (m : Map). ruleOf (start-of-chunk (c .before .before .before .before .before .before .before) .args .level) m w) (c .before .chunk-of .ensures)
 
 lower : (t : ℕ) (c : count-new-lts.After-count-new (calls t) (count-new-at t) count-new.Post count-new-Inv-loop count-new-μ-loop) (j : ℕ)
-    → let a = c .before .before .before .before .before .before .before .before .before .before .before .before .before .before .before .before .before .before .args in let s = st (a .words .now) (a .ledger .now) in
-    c .count-new .result ≡ closed (3 - (a .level + 1)) (a .handle) s j (c .before .before .before .before .chunk-of .result) → c .count-new .result ≡ closed (3 - (a .level + 1)) (a .handle) s j (chunkOf t (c .before .before .before .before .before .before .before .before .before .before))
-lower t c j e = let a = c .before .before .before .before .before .before .before .before .before .before .before .before .before .before .before .before .before .before .args in e ∙ ap (λ (m : Map). closed (3 - (a .level + 1)) (a .handle) (st (a .words .now) (a .ledger .now)) j m) (c .before .before .before .before .chunk-of .ensures)
+    → let a = start-of-chunk (chunk-of-lower c) .args in let s = st (a .words .now) (a .ledger .now) in
+    c .count-new .result ≡ closed (3 - (a .level + 1)) (a .handle) s j (c .before .before .before .before .chunk-of .result) → c .count-new .result ≡ closed (3 - (a .level + 1)) (a .handle) s j (chunkOf t (chunk-of-lower c))
+lower t c j e = let a = start-of-chunk (chunk-of-lower c) .args in e ∙ ap (λ (m : Map). closed (3 - (a .level + 1)) (a .handle) (st (a .words .now) (a .ledger .now)) j m) (c .before .before .before .before .chunk-of .ensures)
 
 count-new-returns : (t : ℕ) → count-new-lts.Need-returns (calls t) (count-new-at t) count-new.Post count-new-Inv-loop count-new-μ-loop
 count-new-returns t c = let a = c .before .before .before .args in closed-done (a .handle) (st (a .words .now) (a .ledger .now)) (a .k) (a .level) (a .map) (omega arith)
@@ -166,16 +173,16 @@ count-new-add-frame : (t : ℕ) → count-new-lts.Need-add-frame (calls t) (coun
 count-new-add-frame t c = let f = facts t (c) in omega (arith, f .above, f .room)
 
 count-new-mul-word : (t : ℕ) → count-new-lts.Need-mul-word (calls t) (count-new-at t) count-new.Post count-new-Inv-loop count-new-μ-loop
-count-new-mul-word t c = let f = facts t (c) in omega (arith, f .slot, c .before .before .before .before .before .before .before .before .pre .1 .0, c .before .before .before .before .before .before .before .before .pre .1 .1)
+count-new-mul-word t c = let f = facts t (c) in omega (arith, f .slot, start-of-chunk c .pre .1 .0, start-of-chunk c .pre .1 .1)
 
 count-new-add-word : (t : ℕ) → count-new-lts.Need-add-word (calls t) (count-new-at t) count-new.Post count-new-Inv-loop count-new-μ-loop
-count-new-add-word t c = let f = facts t (c) in omega (arith, f .slot, c .before .before .before .before .before .before .before .before .pre .1 .0, c .before .before .before .before .before .before .before .before .pre .1 .1)
+count-new-add-word t c = let f = facts t (c) in omega (arith, f .slot, start-of-chunk c .pre .1 .0, start-of-chunk c .pre .1 .1)
 
 count-new-mul-word-2 : (t : ℕ) → count-new-lts.Need-mul-word-2 (calls t) (count-new-at t) count-new.Post count-new-Inv-loop count-new-μ-loop
-count-new-mul-word-2 t c = let f = facts t (c) in omega (arith, f .slot, c .before .before .before .before .before .before .before .before .pre .1 .0, c .before .before .before .before .before .before .before .before .pre .1 .1)
+count-new-mul-word-2 t c = let f = facts t (c) in omega (arith, f .slot, start-of-chunk c .pre .1 .0, start-of-chunk c .pre .1 .1)
 
 count-new-shared-slice-read-word : (t : ℕ) → count-new-lts.Need-shared-slice-read-word (calls t) (count-new-at t) count-new.Post count-new-Inv-loop count-new-μ-loop
-count-new-shared-slice-read-word t c = let f = facts t (c .before) in omega (arith, f .slot, c .before .before .before .before .before .before .before .before .before .pre .1 .0, c .before .before .before .before .before .before .before .before .before .pre .1 .1)
+count-new-shared-slice-read-word t c = let f = facts t (c .before) in omega (arith, f .slot, start-of-chunk (c .before) .pre .1 .0, start-of-chunk (c .before) .pre .1 .1)
 
 count-new-subtable-requires : (t : ℕ) → count-new-lts.Need-subtable-requires (calls t) (count-new-at t) count-new.Post count-new-Inv-loop count-new-μ-loop
 count-new-subtable-requires t c κs = omega arith
@@ -193,7 +200,7 @@ count-new-loop-again : (t : ℕ) → count-new-lts.Need-loop-again (calls t) (co
 count-new-loop-again t c =
     let place = c .before .before .before .before in
     let f = facts t place in
-    let a = c .before .before .before .before .before .before .before .before .before .before .before .before .args in
+    let a = start-of-chunk place .args in
     let here = entry-outside (a .handle) (st (a .words .now) (a .ledger .now)) (a .k) (a .level) (chunkOf t place) (place .entry-index .ensures) (c .before .before .subtable .ensures) (is-outside (c .before .before .subtable .result) (c .before .match .keys2) (c .match2 .keys2)) in
     (f .under, f .paged, f .framed, f .room, omega (arith, counted t place 0 here))
 
@@ -204,7 +211,7 @@ count-new-add-count : (t : ℕ) → count-new-lts.Need-add-count (calls t) (coun
 count-new-add-count t c =
     let place = c .before .before .before .before .before .before in
     let f = facts t place in
-    let a = c .before .before .before .before .before .before .before .before .before .before .before .before .before .before .args in
+    let a = start-of-chunk place .args in
     let here = entry-leaf (a .handle) (st (a .words .now) (a .ledger .now)) (a .k) (a .level) (chunkOf t place) (place .entry-index .ensures) (c .before .before .before .before .subtable .ensures) (c .before .enum-told .given .1) (omega (arith, f .high)) in
     omega (arith, adds t place (c .count-entry .result) (here ∙ sym (c .count-entry .ensures)))
 
@@ -215,7 +222,7 @@ count-new-loop-again-2 : (t : ℕ) → count-new-lts.Need-loop-again-2 (calls t)
 count-new-loop-again-2 t c =
     let place = c .before .before .before .before .before .before in
     let f = facts t place in
-    let a = c .before .before .before .before .before .before .before .before .before .before .before .before .before .before .args in
+    let a = start-of-chunk place .args in
     let here = entry-leaf (a .handle) (st (a .words .now) (a .ledger .now)) (a .k) (a .level) (chunkOf t place) (place .entry-index .ensures) (c .before .before .before .before .subtable .ensures) (c .before .enum-told .given .1) (omega (arith, f .high)) in
     (f .under, f .paged, f .framed, f .room, counted t place (c .count-entry .result) (here ∙ sym (c .count-entry .ensures)))
 
@@ -235,7 +242,7 @@ count-new-loop-again-3 : (t : ℕ) → count-new-lts.Need-loop-again-3 (calls t)
 count-new-loop-again-3 t c =
     let place = c .before .before .before .before .before .before .before .before in
     let f = facts t place in
-    let a = c .before .before .before .before .before .before .before .before .before .before .before .before .before .before .before .before .args in
+    let a = start-of-chunk place .args in
     let here = entry-none (a .handle) (st (a .words .now) (a .ledger .now)) (a .k) (a .level) (chunkOf t place) (place .entry-index .ensures) (c .before .before .before .before .before .before .subtable .ensures) (ruled t (c .before) _ (c .before .rule-of .ensures)) (no-down (c .before .rule-of .result) (c .match3 .keys2)) in
     (f .under, f .paged, f .framed, f .room, omega (arith, counted t place 0 here))
 
@@ -245,27 +252,27 @@ count-new-add-count-new t c = omega (arith, facts t (c .before .before .before .
 count-new-count-new-requires : (t : ℕ) → count-new-lts.Need-count-new-requires (calls t) (count-new-at t) count-new.Post count-new-Inv-loop count-new-μ-loop
 count-new-count-new-requires t c κs =
     let f = facts t (c .before .before .before .before .before .before .before .before .before) in
-    let a = c .before .before .before .before .before .before .before .before .before .before .before .before .before .before .before .before .before .args in
-    let p = c .before .before .before .before .before .before .before .before .before .before .before .before .before .before .before .before .before .pre .1 in
+    let a = start-of-chunk (c .before .before .before .before .before .before .before .before .before) .args in
+    let p = start-of-chunk (c .before .before .before .before .before .before .before .before .before) .pre .1 in
     let inside = sub-below (a .handle .base .0) _ (a .level) _ _ (sym (c .before .before .before .before .before .before .before .subtable .ensures) ∙ c .before .before .before .before .before .kind .given .1) in
-    (omega (arith, f .high, c .before .before .before .before .before .before .before .before .before .before .before .before .before .before .before .before .before .pre .0), (p .0, inside, omega (arith, f .high), subst⁻¹ Fit (c .before .before .before .chunk-of .ensures) (f .fit)))
+    (omega (arith, f .high, start-of-chunk (c .before .before .before .before .before .before .before .before .before) .pre .0), (p .0, inside, omega (arith, f .high), subst⁻¹ Fit (c .before .before .before .chunk-of .ensures) (f .fit)))
 
 count-new-add-count-2 : (t : ℕ) → count-new-lts.Need-add-count-2 (calls t) (count-new-at t) count-new.Post count-new-Inv-loop count-new-μ-loop
 count-new-add-count-2 t c =
-    let place = c .before .before .before .before .before .before .before .before .before .before in
+    let place = chunk-of-lower c in
     let f = facts t place in
-    let a = c .before .before .before .before .before .before .before .before .before .before .before .before .before .before .before .before .before .before .args in
+    let a = start-of-chunk place .args in
     let here = entry-table (a .handle) (st (a .words .now) (a .ledger .now)) (a .k) (a .level) (chunkOf t place) (place .entry-index .ensures) (c .before .before .before .before .before .before .before .before .subtable .ensures) (ruled t (c .before .before .before) _ (c .before .before .before .rule-of .ensures)) _ (c .before .before .before .before .before .before .kind .given .1) (c .before .enum-told2 .given .1) in
     omega (arith, adds t place (c .count-new .result) (here ∙ sym (lower t c _ (c .count-new .ensures))))
 
 count-new-loop-less-4 : (t : ℕ) → count-new-lts.Need-loop-less-4 (calls t) (count-new-at t) count-new.Post count-new-Inv-loop count-new-μ-loop
-count-new-loop-less-4 t c = omega (arith, facts t (c .before .before .before .before .before .before .before .before .before .before) .above, facts t (c .before .before .before .before .before .before .before .before .before .before) .under)
+count-new-loop-less-4 t c = omega (arith, facts t (chunk-of-lower c) .above, facts t (chunk-of-lower c) .under)
 
 count-new-loop-again-4 : (t : ℕ) → count-new-lts.Need-loop-again-4 (calls t) (count-new-at t) count-new.Post count-new-Inv-loop count-new-μ-loop
 count-new-loop-again-4 t c =
-    let place = c .before .before .before .before .before .before .before .before .before .before in
+    let place = chunk-of-lower c in
     let f = facts t place in
-    let a = c .before .before .before .before .before .before .before .before .before .before .before .before .before .before .before .before .before .before .args in
+    let a = start-of-chunk place .args in
     let here = entry-table (a .handle) (st (a .words .now) (a .ledger .now)) (a .k) (a .level) (chunkOf t place) (place .entry-index .ensures) (c .before .before .before .before .before .before .before .before .subtable .ensures) (ruled t (c .before .before .before) _ (c .before .before .before .rule-of .ensures)) _ (c .before .before .before .before .before .before .kind .given .1) (c .before .enum-told2 .given .1) in
     (f .under, f .paged, f .framed, f .room, counted t place (c .count-new .result) (here ∙ sym (lower t c _ (c .count-new .ensures))))
 

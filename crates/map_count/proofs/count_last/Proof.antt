@@ -34,6 +34,10 @@ abbrev μ-loop : tie.MeasureT-loop
 abbrev Place : Type 0
 Place = tie.After-chunk-of Inv-loop μ-loop
 
+-- the start of the function, seen from a chunk
+abbrev start-of-chunk : Place → tie.Start Inv-loop μ-loop
+start-of-chunk c = c .before .before .before .before .before .before .before
+
 -- the chunk's own map, and what remains after it
 abbrev chunkOf : Place → Map
 chunkOf c = c .chunk-of .result
@@ -49,7 +53,7 @@ counts c = let a = c .before .before .before .before .before .before .before .ar
 
 record Facts (c : Place) : Type 0 where
   above : c .before .before .before .before .loop .at < c .before .before .chunk-end .result
-  under : c .before .before .chunk-end .result ≤ c .before .before .before .before .before .before .before .args .map .region .end .0
+  under : c .before .before .chunk-end .result ≤ start-of-chunk c .args .map .region .end .0
   paged : c .before .before .chunk-end .result % 4096 ≡ 0
   framed : leftOf c .frame .0 % 4096 ≡ 0
   room : leftOf c .frame .0 + (leftOf c .region .end .0 - leftOf c .region .start .0) ≤ 2 ^ 48
@@ -57,13 +61,13 @@ record Facts (c : Place) : Type 0 where
   index : c .before .entry-index .result ≡ entryIndex 2 (chunkOf c .region .start .0)
   fit : Fit (chunkOf c)
   some : chunkOf c .region .start .0 < chunkOf c .region .end .0
-  next : c .before .before .before .before .loop .count + (counts c (chunkOf c) + sumChunks 2 (counts c) (leftOf c)) ≡ sumChunks 2 (counts c) (c .before .before .before .before .before .before .before .args .map)
-  most : sumChunks 2 (counts c) (c .before .before .before .before .before .before .before .args .map) ≤ 3 * 2 ^ 48
+  next : c .before .before .before .before .loop .count + (counts c (chunkOf c) + sumChunks 2 (counts c) (leftOf c)) ≡ sumChunks 2 (counts c) (start-of-chunk c .args .map)
+  most : sumChunks 2 (counts c) (start-of-chunk c .args .map) ≤ 3 * 2 ^ 48
 
 facts : (c : Place) → Facts c
 unfolding entryIndex
 facts c =
-    let start = c .before .before .before .before .before .before .before in
+    let start = start-of-chunk c in
     let a = start .args in
     let p = start .pre in
     let at = c .before .before .before .before in
@@ -96,7 +100,7 @@ facts c =
     }
 
 -- the chunk's part, where it is what the code adds: the sum that is left after it
-counted : (c : Place) (n : ℕ) → counts c (chunkOf c) ≡ n → c .before .before .before .before .loop .count + n + sumChunks 2 (counts c) (leftOf c) ≡ sumChunks 2 (counts c) (c .before .before .before .before .before .before .before .args .map)
+counted : (c : Place) (n : ℕ) → counts c (chunkOf c) ≡ n → c .before .before .before .before .loop .count + n + sumChunks 2 (counts c) (leftOf c) ≡ sumChunks 2 (counts c) (start-of-chunk c .args .map)
 counted c n e = omega (arith, facts c .next)
 
 loop-holds : tie.Need-loop-holds Inv-loop μ-loop
@@ -118,16 +122,16 @@ add-frame : tie.Need-add-frame Inv-loop μ-loop
 add-frame c = let f = facts c in omega (arith, f .above, f .room)
 
 mul-word : tie.Need-mul-word Inv-loop μ-loop
-mul-word c = omega (arith, facts c .slot, c .before .before .before .before .before .before .before .pre .0, c .before .before .before .before .before .before .before .pre .1)
+mul-word c = omega (arith, facts c .slot, start-of-chunk c .pre .0, start-of-chunk c .pre .1)
 
 add-word : tie.Need-add-word Inv-loop μ-loop
-add-word c = omega (arith, facts c .slot, c .before .before .before .before .before .before .before .pre .0, c .before .before .before .before .before .before .before .pre .1)
+add-word c = omega (arith, facts c .slot, start-of-chunk c .pre .0, start-of-chunk c .pre .1)
 
 mul-word-2 : tie.Need-mul-word-2 Inv-loop μ-loop
-mul-word-2 c = omega (arith, facts c .slot, c .before .before .before .before .before .before .before .pre .0, c .before .before .before .before .before .before .before .pre .1)
+mul-word-2 c = omega (arith, facts c .slot, start-of-chunk c .pre .0, start-of-chunk c .pre .1)
 
 shared-slice-read-word : tie.Need-shared-slice-read-word Inv-loop μ-loop
-shared-slice-read-word c = omega (arith, facts (c .before) .slot, c .before .before .before .before .before .before .before .before .pre .0, c .before .before .before .before .before .before .before .before .pre .1)
+shared-slice-read-word c = omega (arith, facts (c .before) .slot, start-of-chunk (c .before) .pre .0, start-of-chunk (c .before) .pre .1)
 
 subtable-requires : tie.Need-subtable-requires Inv-loop μ-loop
 subtable-requires c κs = tt
@@ -142,7 +146,7 @@ loop-again : tie.Need-loop-again Inv-loop μ-loop
 loop-again c =
     let place = c .before .before .before in
     let f = facts place in
-    let a = c .before .before .before .before .before .before .before .before .before .before .args in
+    let a = start-of-chunk place .args in
     let here = last-table (a .handle) (st (a .words .now) (a .ledger .now)) (a .k) (chunkOf place) (f .index) (c .before .subtable .ensures) (no-leaf (c .before .subtable .result) (c .match .keys2)) in
     (f .under, f .paged, f .framed, f .room, omega (arith, counted place 0 here))
 
@@ -159,7 +163,7 @@ loop-again-2 : tie.Need-loop-again-2 Inv-loop μ-loop
 loop-again-2 c =
     let place = c .before .before .before .before .before .before in
     let f = facts place in
-    let a = c .before .before .before .before .before .before .before .before .before .before .before .before .before .args in
+    let a = start-of-chunk place .args in
     let here = last-none (a .handle) (st (a .words .now) (a .ledger .now)) (a .k) (chunkOf place) (f .index) (c .before .before .before .before .subtable .ensures) (c .before .before .enum-told .given .1) (c .before .rule-of .ensures) (no-down (c .before .rule-of .result) (c .match2 .keys2)) in
     (f .under, f .paged, f .framed, f .room, omega (arith, counted place 0 here))
 
@@ -167,7 +171,7 @@ add-count : tie.Need-add-count Inv-loop μ-loop
 add-count c =
     let place = c .before .before .before .before .before .before .before in
     let f = facts place in
-    let a = c .before .before .before .before .before .before .before .before .before .before .before .before .before .before .args in
+    let a = start-of-chunk place .args in
     let here = last-down (a .handle) (st (a .words .now) (a .ledger .now)) (a .k) (chunkOf place) (f .index) (c .before .before .before .before .before .subtable .ensures) (c .before .before .before .enum-told .given .1) (c .before .before .rule-of .ensures) (c .enum-told2 .given .1) in
     omega (arith, counted place 1 here, f .most)
 
@@ -178,7 +182,7 @@ loop-again-3 : tie.Need-loop-again-3 Inv-loop μ-loop
 loop-again-3 c =
     let place = c .before .before .before .before .before .before .before in
     let f = facts place in
-    let a = c .before .before .before .before .before .before .before .before .before .before .before .before .before .before .args in
+    let a = start-of-chunk place .args in
     let here = last-down (a .handle) (st (a .words .now) (a .ledger .now)) (a .k) (chunkOf place) (f .index) (c .before .before .before .before .before .subtable .ensures) (c .before .before .before .enum-told .given .1) (c .before .before .rule-of .ensures) (c .enum-told2 .given .1) in
     (f .under, f .paged, f .framed, f .room, omega (arith, counted place 1 here))
 

@@ -44,20 +44,24 @@ calls t = (rule-of-reads.Asked, rule-of-reads.Learnt, chunk-end-reads.Asked, chu
 abbrev Place : ℕ → Type 0
 Place t = count-leaf-lts.After-chunk-end (calls t) (count-leaf-at t) count-leaf.Post
 
+-- the start of the function, seen from the first chunk below
+abbrev start-of-chunk : {t : ℕ} → Place t → count-leaf-lts.Start (calls t) (count-leaf-at t) count-leaf.Post
+start-of-chunk c = c .before .before .before .before .before
+
 -- the first chunk below
 abbrev firstOf : (t : ℕ) → Place t → Map
-firstOf t c = let m = c .before .before .before .before .before .args .map in chunkMap m (region (m .region .start .0) (c .chunk-end .result)) (m .frame .0)
+firstOf t c = let m = start-of-chunk c .args .map in chunkMap m (region (m .region .start .0) (c .chunk-end .result)) (m .frame .0)
 
 -- where it ends, and that its map fits
 record Facts (t : ℕ) (c : Place t) : Type 0 where
-  fits : (c .before .before .before .before .before .args .map .region .start .0 < c .chunk-end .result) × (c .chunk-end .result ≤ c .before .before .before .before .before .args .map .region .end .0)
+  fits : (start-of-chunk c .args .map .region .start .0 < c .chunk-end .result) × (c .chunk-end .result ≤ start-of-chunk c .args .map .region .end .0)
   fit : Fit (firstOf t c)
-  length : c .before .before .before .before .before .args .map .region .end .0 - c .before .before .before .before .before .args .map .region .start .0 ≤ 2 ^ 48
-  high : c .before .before .before .before .before .args .level < 2
+  length : start-of-chunk c .args .map .region .end .0 - start-of-chunk c .args .map .region .start .0 ≤ 2 ^ 48
+  high : start-of-chunk c .args .level < 2
 
 facts : (t : ℕ) (c : Place t) → Facts t c
 facts t c =
-    let start = c .before .before .before .before .before in
+    let start = start-of-chunk c in
     let a = start .args in
     let p = start .pre .1 in
     let stop = c .chunk-end .ensures in
@@ -90,10 +94,10 @@ deeper-fits t c =
 
 -- what remains, and its count
 abbrev restOf : (t : ℕ) → Place t → Map
-restOf t c = let m = c .before .before .before .before .before .args .map in chunkMap m (region (c .chunk-end .result) (m .region .end .0)) (m .frame .0 + (c .chunk-end .result - m .region .start .0))
+restOf t c = let m = start-of-chunk c .args .map in chunkMap m (region (c .chunk-end .result) (m .region .end .0)) (m .frame .0 + (c .chunk-end .result - m .region .start .0))
 
-rested : (t : ℕ) (c : count-leaf-lts.After-count-rest (calls t) (count-leaf-at t) count-leaf.Post) → c .count-rest .result ≡ rests (3 - (c .before .before .before .before .before .before .before .before .before .before .args .level + 1)) (restOf t (c .before .before .before .before .before))
-rested t c = c .count-rest .ensures ∙ ap (rests (3 - (c .before .before .before .before .before .before .before .before .before .before .args .level + 1))) (c .before .before .before .chunk-of2 .ensures)
+rested : (t : ℕ) (c : count-leaf-lts.After-count-rest (calls t) (count-leaf-at t) count-leaf.Post) → c .count-rest .result ≡ rests (3 - (start-of-chunk (c .before .before .before .before .before) .args .level + 1)) (restOf t (c .before .before .before .before .before))
+rested t c = c .count-rest .ensures ∙ ap (rests (3 - (start-of-chunk (c .before .before .before .before .before) .args .level + 1))) (c .before .before .before .chunk-of2 .ensures)
 
 count-leaf-rule-of-requires : (t : ℕ) → count-leaf-lts.Need-rule-of-requires (calls t) (count-leaf-at t) count-leaf.Post
 count-leaf-rule-of-requires t c κs = c .pre .1
@@ -120,7 +124,7 @@ count-leaf-sub-result : (t : ℕ) → count-leaf-lts.Need-sub-result (calls t) (
 count-leaf-sub-result t c = omega (arith, facts t (c .before) .fits .0)
 
 count-leaf-add-result : (t : ℕ) → count-leaf-lts.Need-add-result (calls t) (count-leaf-at t) count-leaf.Post
-count-leaf-add-result t c = let f = facts t (c .before) in omega (arith, f .fits .0, f .fits .1, c .before .before .before .before .before .before .pre .1 .0 .room)
+count-leaf-add-result t c = let f = facts t (c .before) in omega (arith, f .fits .0, f .fits .1, start-of-chunk (c .before) .pre .1 .0 .room)
 
 count-leaf-chunk-of-requires-2 : (t : ℕ) → count-leaf-lts.Need-chunk-of-requires-2 (calls t) (count-leaf-at t) count-leaf.Post
 count-leaf-chunk-of-requires-2 t c κs = tt
@@ -149,11 +153,11 @@ count-leaf-count-rest-requires t c κs = let f = facts t (c .before .before .bef
 count-leaf-add-result-3 : (t : ℕ) → count-leaf-lts.Need-add-result-3 (calls t) (count-leaf-at t) count-leaf.Post
 count-leaf-add-result-3 t c =
     let f = facts t (c .before .before .before .before .before) in
-    omega (arith, deeper-fits t (c .before), rested t c, rests-fit (c .before .before .before .before .before .before .before .before .before .before .args .level + 1) (restOf t (c .before .before .before .before .before)), f .fits .0, f .length)
+    omega (arith, deeper-fits t (c .before), rested t c, rests-fit (start-of-chunk (c .before .before .before .before .before) .args .level + 1) (restOf t (c .before .before .before .before .before)), f .fits .0, f .length)
 
 count-leaf-returns-3 : (t : ℕ) → count-leaf-lts.Need-returns-3 (calls t) (count-leaf-at t) count-leaf.Post
 count-leaf-returns-3 t c =
-    let a = c .before .before .before .before .before .before .before .before .before .before .args in
+    let a = start-of-chunk (c .before .before .before .before .before) .args in
     let high = facts t (c .before .before .before .before .before) .high in
     let rest = rested t c ∙ ap (λ (x : ℕ). rests (3 - (a .level + 1)) (chunkMap (a .map) (region x (a .map .region .end .0)) (a .map .frame .0 + (x - a .map .region .start .0)))) (c .before .before .before .before .before .chunk-end .ensures) in
     ap₂ (λ (x y : ℕ). 1 + x + y) (deeper t (c .before)) rest

@@ -11,6 +11,10 @@ use Rattle.map_put.proofs.put_entry.Reads as reads
 use Rattle.map_put.proofs.put_entry.Lts as lts
 use Rattle.map_put.proofs.drop_entry.Reads as drop-entry-reads
 
+-- the start of the function, seen from the return after the old table is dropped
+abbrev start-of-dropped : tie.After-slice-known5 → tie.Start
+start-of-dropped c = c .before .before .before .before .before .before .before .before .before .before .before .before .before
+
 -- the slot lies in the words
 enum-known-rule : tie.Need-enum-known-rule
 enum-known-rule c = c .match .keys1
@@ -72,14 +76,14 @@ returns c =
     (put-write (λ j t. t) (a .handle) (a .k) (a .level) (a .i) (st (a .words .now) (a .ledger .now)) _ (c .before .rule .given .1), λ e. (e, refl))
 
 same-length-2 : tie.Need-same-length-2
-same-length-2 c = c .before .before .before .before .drop-entry .kept .0 ∙ length-set (c .before .before .before .before .before .before .before .before .before .before .before .before .before .args .words .now) _ _
+same-length-2 c = c .before .before .before .before .drop-entry .kept .0 ∙ length-set (start-of-dropped c .args .words .now) _ _
 
 same-length-3 : tie.Need-same-length-3
 same-length-3 c = c .before .before .before .before .drop-entry .kept .1 .0
 
 returns-2 : tie.Need-returns-2
 returns-2 c =
-    let a = c .before .before .before .before .before .before .before .before .before .before .before .before .before .args in (
+    let a = start-of-dropped c .args in (
       c .before .before .before .before .drop-entry .ensures ∙ put-drop (λ j t. t) (a .handle) (a .k) (a .level) (a .i) (st (a .words .now) (a .ledger .now)) _ (c .before .before .before .before .before .before .before .before .before .rule2 .given .1),
       λ e. absurd (true≢false e),
     )

@@ -61,37 +61,62 @@ map-range-μ-loop words₀ ledger₀ handle k level map end at₀ frame₀ chang
 abbrev Place : ℕ → Type 0
 Place t = map-range-lts.After-chunk-of (calls t) (map-range-at t) map-range.Post map-range-Inv-loop map-range-μ-loop
 
+-- ways back: from a chunk to the loop's head and to the start; to the chunk, to where its rule is told (it leads down) and to the call of `descend`, from the ends of the loop's three ways (`again`) and from the call of the function itself
+abbrev loop-of-chunk : {t : ℕ} → Place t → map-range-lts.At-loop (calls t) (map-range-at t) map-range.Post map-range-Inv-loop map-range-μ-loop
+loop-of-chunk c = c .before .before .before .before
+
+abbrev start-of-chunk : {t : ℕ} → Place t → map-range-lts.Start (calls t) (map-range-at t) map-range.Post map-range-Inv-loop map-range-μ-loop
+start-of-chunk c = loop-of-chunk c .before .before .before
+
+abbrev chunk-of-again : {t : ℕ} → map-range-lts.After-slice-known5 (calls t) (map-range-at t) map-range.Post map-range-Inv-loop map-range-μ-loop → Place t
+chunk-of-again c = c .before .before .before .before .before .before .before .before .before .before
+
+abbrev chunk-of-told : {t : ℕ} → map-range-lts.After-enum-told (calls t) (map-range-at t) map-range.Post map-range-Inv-loop map-range-μ-loop → Place t
+chunk-of-told c = c .before .before .before .before
+
+abbrev told-of-again-2 : {t : ℕ} → map-range-lts.After-enum-told2 (calls t) (map-range-at t) map-range.Post map-range-Inv-loop map-range-μ-loop → map-range-lts.After-enum-told (calls t) (map-range-at t) map-range.Post map-range-Inv-loop map-range-μ-loop
+told-of-again-2 c = c .before .before .before .before .before .before .before .before .before
+
+abbrev told-of-call : {t : ℕ} → map-range-lts.After-map-range-arg2 (calls t) (map-range-at t) map-range.Post map-range-Inv-loop map-range-μ-loop → map-range-lts.After-enum-told (calls t) (map-range-at t) map-range.Post map-range-Inv-loop map-range-μ-loop
+told-of-call c = c .before .before .before .before .before .before .before .before .before .before .before .before
+
+abbrev descend-of-again-3 : {t : ℕ} → map-range-lts.After-ledger-changed (calls t) (map-range-at t) map-range.Post map-range-Inv-loop map-range-μ-loop → map-range-lts.After-descend (calls t) (map-range-at t) map-range.Post map-range-Inv-loop map-range-μ-loop
+descend-of-again-3 c = c .before .before .before .before .before .before .before .before .before .before .before .before .before .before .before
+
+abbrev told-of-again-3 : {t : ℕ} → map-range-lts.After-ledger-changed (calls t) (map-range-at t) map-range.Post map-range-Inv-loop map-range-μ-loop → map-range-lts.After-enum-told (calls t) (map-range-at t) map-range.Post map-range-Inv-loop map-range-μ-loop
+told-of-again-3 c = descend-of-again-3 c .before .before .before
+
 -- the chunk's own map, and what remains after it
 abbrev chunkOf : (t : ℕ) → Place t → Map
 chunkOf t c = c .chunk-of .result
 
 abbrev leftOf : (t : ℕ) → Place t → Map
 leftOf t c =
-    let m = c .before .before .before .before .before .before .before .args .map in
-    chunkMap m (region (c .before .before .chunk-end .result) (m .region .end .0)) (c .before .before .before .before .loop .frame + (c .before .before .chunk-end .result - c .before .before .before .before .loop .at))
+    let m = start-of-chunk c .args .map in
+    chunkMap m (region (c .before .before .chunk-end .result) (m .region .end .0)) (loop-of-chunk c .loop .frame + (c .before .before .chunk-end .result - loop-of-chunk c .loop .at))
 
 record Facts (t : ℕ) (c : Place t) : Type 0 where
-  above : c .before .before .before .before .loop .at < c .before .before .chunk-end .result
-  under : c .before .before .chunk-end .result ≤ c .before .before .before .before .before .before .before .args .map .region .end .0
+  above : loop-of-chunk c .loop .at < c .before .before .chunk-end .result
+  under : c .before .before .chunk-end .result ≤ start-of-chunk c .args .map .region .end .0
   paged : c .before .before .chunk-end .result % 4096 ≡ 0
   framed : leftOf t c .frame .0 % 4096 ≡ 0
   room : leftOf t c .frame .0 + (leftOf t c .region .end .0 - leftOf t c .region .start .0) ≤ 2 ^ 48
   slot : c .before .entry-index .result < 512
-  index : c .before .entry-index .result ≡ entryIndex (c .before .before .before .before .before .before .before .args .level) (chunkOf t c .region .start .0)
-  shape : Shaped (c .before .before .before .before .before .before .before .args .handle) (st (c .before .before .before .before .loop .words) (c .before .before .before .before .loop .ledger))
+  index : c .before .entry-index .result ≡ entryIndex (start-of-chunk c .args .level) (chunkOf t c .region .start .0)
+  shape : Shaped (start-of-chunk c .args .handle) (st (loop-of-chunk c .loop .words) (loop-of-chunk c .loop .ledger))
   fit : Fit (chunkOf t c)
   some : chunkOf t c .region .start .0 < chunkOf t c .region .end .0
-  next : let a = c .before .before .before .before .before .before .before .args in let f = mapStep (a .handle) (a .k) (a .level) in
-      eachChunk (a .level) f (leftOf t c) (f (chunkOf t c) (st (c .before .before .before .before .loop .words) (c .before .before .before .before .loop .ledger)))
+  next : let a = start-of-chunk c .args in let f = mapStep (a .handle) (a .k) (a .level) in
+      eachChunk (a .level) f (leftOf t c) (f (chunkOf t c) (st (loop-of-chunk c .loop .words) (loop-of-chunk c .loop .ledger)))
       ≡ eachChunk (a .level) f (a .map) (st (a .words .now) (a .ledger .now))
 
 facts : (t : ℕ) (c : Place t) → Facts t c
 unfolding entryIndex
 facts t c =
-    let start = c .before .before .before .before .before .before .before in
+    let start = start-of-chunk c in
     let a = start .args in
     let p = start .pre .1 in
-    let at = c .before .before .before .before in
+    let at = loop-of-chunk c in
     let inv = at .loop .inv in
     let s = st (at .loop .words) (at .loop .ledger) in
     let low = c .before .before .before .loop-test .taken in
@@ -159,22 +184,22 @@ map-range-put-entry-requires : (t : ℕ) → map-range-lts.Need-put-entry-requir
 map-range-put-entry-requires t c κs =
     let place = c .before .before .before .before .before in
     let f = facts t place in
-    let a = c .before .before .before .before .before .before .before .before .before .before .before .before .args in
+    let a = start-of-chunk place .args in
     let r = c .before .before .before .rule-of in (
       f .shape,
-      omega (arith, c .before .before .before .before .before .before .before .before .before .loop .inv .5, c .before .before .before .before .before .before .before .before .before .before .before .before .pre .1 .1),
+      omega (arith, loop-of-chunk place .loop .inv .5, start-of-chunk place .pre .1 .1),
       f .slot,
       record { here = no-down (r .result) (c .before .before .match .keys2); high = drop-high (a .level) (chunkOf t place) _ (r .ensures) },
     )
 
 map-range-loop-less : (t : ℕ) → map-range-lts.Need-loop-less (calls t) (map-range-at t) map-range.Post map-range-Inv-loop map-range-μ-loop
-map-range-loop-less t c = omega (arith, facts t (c .before .before .before .before .before .before .before .before .before .before) .above)
+map-range-loop-less t c = omega (arith, facts t (chunk-of-again c) .above)
 
 map-range-loop-again : (t : ℕ) → map-range-lts.Need-loop-again (calls t) (map-range-at t) map-range.Post map-range-Inv-loop map-range-μ-loop
 map-range-loop-again t c =
-    let at = c .before .before .before .before .before .before .before .before .before .before .before .before .before .before in
-    let a = c .before .before .before .before .before .before .before .before .before .before .before .before .before .before .before .before .before .args in
-    let place = c .before .before .before .before .before .before .before .before .before .before in
+    let place = chunk-of-again c in
+    let at = loop-of-chunk place in
+    let a = start-of-chunk place .args in
     let f = facts t place in
     let r = c .before .before .before .before .before .before .before .before .rule-of in
     let put = c .before .before .before .before .put-entry in (
@@ -192,7 +217,7 @@ map-range-descend-requires : (t : ℕ) → map-range-lts.Need-descend-requires (
 map-range-descend-requires t c κs =
     let place = c .before .before .before .before .before .before in
     let f = facts t place in
-    (f .shape, down-high (c .before .before .before .before .before .before .before .before .before .before .before .before .before .args .level) (chunkOf t place) _ (c .before .before .before .before .rule-of .ensures) (c .before .before .enum-told .given .1), omega (arith, c .before .before .before .before .before .before .before .before .before .before .loop .inv .5, c .before .before .before .before .before .before .before .before .before .before .before .before .before .pre .1 .1), f .slot)
+    (f .shape, down-high (start-of-chunk place .args .level) (chunkOf t place) _ (c .before .before .before .before .rule-of .ensures) (c .before .before .enum-told .given .1), omega (arith, loop-of-chunk place .loop .inv .5, start-of-chunk place .pre .1 .1), f .slot)
 
 map-range-enum-known-under : (t : ℕ) → map-range-lts.Need-enum-known-under (calls t) (map-range-at t) map-range.Post map-range-Inv-loop map-range-μ-loop
 map-range-enum-known-under t c = c .match2 .keys1
@@ -201,13 +226,13 @@ map-range-enum-told-2 : (t : ℕ) → map-range-lts.Need-enum-told-2 (calls t) (
 map-range-enum-told-2 t c = c .match2 .keys2
 
 map-range-loop-less-2 : (t : ℕ) → map-range-lts.Need-loop-less-2 (calls t) (map-range-at t) map-range.Post map-range-Inv-loop map-range-μ-loop
-map-range-loop-less-2 t c = omega (arith, facts t (c .before .before .before .before .before .before .before .before .before .before .before .before .before) .above)
+map-range-loop-less-2 t c = omega (arith, facts t (chunk-of-told (told-of-again-2 c)) .above)
 
 map-range-loop-again-2 : (t : ℕ) → map-range-lts.Need-loop-again-2 (calls t) (map-range-at t) map-range.Post map-range-Inv-loop map-range-μ-loop
 map-range-loop-again-2 t c =
-    let at = c .before .before .before .before .before .before .before .before .before .before .before .before .before .before .before .before .before in
-    let a = c .before .before .before .before .before .before .before .before .before .before .before .before .before .before .before .before .before .before .before .before .args in
-    let place = c .before .before .before .before .before .before .before .before .before .before .before .before .before in
+    let place = chunk-of-told (told-of-again-2 c) in
+    let at = loop-of-chunk place in
+    let a = start-of-chunk place .args in
     let f = facts t place in
     let s = st (at .loop .words) (at .loop .ledger) in (
       f .under,
@@ -216,24 +241,24 @@ map-range-loop-again-2 t c =
       f .room,
       c .before .before .before .before .before .before .descend .kept .0 ∙ at .loop .inv .4,
       c .before .before .before .before .before .before .descend .kept .1 .0 ∙ at .loop .inv .5,
-      ap (eachChunk (a .level) (mapStep (a .handle) (a .k) (a .level)) (leftOf t place)) (chunk-none (a .handle) (a .k) (a .level) (chunkOf t place) s (f .index) (c .before .before .before .before .before .before .before .before .before .before .before .rule-of .ensures) (c .before .before .before .before .before .before .before .before .before .enum-told .given .1) (c .before .before .before .before .before .before .descend .ensures) (c .enum-told2 .given .1)) ∙ f .next,
+      ap (eachChunk (a .level) (mapStep (a .handle) (a .k) (a .level)) (leftOf t place)) (chunk-none (a .handle) (a .k) (a .level) (chunkOf t place) s (f .index) (told-of-again-2 c .before .before .rule-of .ensures) (told-of-again-2 c .enum-told .given .1) (c .before .before .before .before .before .before .descend .ensures) (c .enum-told2 .given .1)) ∙ f .next,
       λ e. ap (λ (x : St). x .ledger) (below-nothing (a .handle) (a .k) (a .level) (place .before .entry-index .result) s (c .before .before .before .before .before .before .descend .ensures) (c .enum-told2 .given .1)) ∙ at .loop .inv .7 e,
     )
 
 map-range-add-map-range : (t : ℕ) → map-range-lts.Need-add-map-range (calls t) (map-range-at t) map-range.Post map-range-Inv-loop map-range-μ-loop
-map-range-add-map-range t c = omega (arith, down-high (c .before .before .before .before .before .before .before .before .before .before .before .before .before .before .before .before .before .before .before .before .before .before .before .args .level) (chunkOf t (c .before .before .before .before .before .before .before .before .before .before .before .before .before .before .before .before)) _ (c .before .before .before .before .before .before .before .before .before .before .before .before .before .before .rule-of .ensures) (c .before .before .before .before .before .before .before .before .before .before .before .before .enum-told .given .1))
+map-range-add-map-range t c = omega (arith, down-high (start-of-chunk (chunk-of-told (told-of-call c)) .args .level) (chunkOf t (chunk-of-told (told-of-call c))) _ (told-of-call c .before .before .rule-of .ensures) (told-of-call c .enum-told .given .1))
 
 map-range-map-range-requires : (t : ℕ) → map-range-lts.Need-map-range-requires (calls t) (map-range-at t) map-range.Post map-range-Inv-loop map-range-μ-loop
 map-range-map-range-requires t c κs =
-    let place = c .before .before .before .before .before .before .before .before .before .before .before .before .before .before .before .before in
+    let place = chunk-of-told (told-of-call c) in
     let f = facts t place in
-    let a = c .before .before .before .before .before .before .before .before .before .before .before .before .before .before .before .before .before .before .before .before .before .before .before .args in
-    let at = c .before .before .before .before .before .before .before .before .before .before .before .before .before .before .before .before .before .before .before .before in
+    let a = start-of-chunk place .args in
+    let at = loop-of-chunk place in
     let under = c .before .before .before .before .before .before .before .before .before in
     let s = st (at .loop .words) (at .loop .ledger) in
-    let high = down-high (a .level) (chunkOf t place) _ (c .before .before .before .before .before .before .before .before .before .before .before .before .before .before .rule-of .ensures) (c .before .before .before .before .before .before .before .before .before .before .before .before .enum-told .given .1) in
+    let high = down-high (a .level) (chunkOf t place) _ (told-of-call c .before .before .rule-of .ensures) (told-of-call c .enum-told .given .1) in
     let found = below-inside (a .handle) (a .k) (a .level) (place .before .entry-index .result) s _ (under .descend .ensures) (c .before .before .before .under .given .1) in (
-      omega (arith, high, c .before .before .before .before .before .before .before .before .before .before .before .before .before .before .before .before .before .before .before .before .before .before .before .pre .0),
+      omega (arith, high, start-of-chunk place .pre .0),
       (shaped-keep (a .handle) s (st (under .descend .last .0) (under .descend .last .1 .0)) (f .shape) (under .descend .kept .0) (under .descend .kept .1 .0), omega (arith, found, under .descend .kept .1 .0), omega (arith, high), f .fit),
     )
 
@@ -241,18 +266,18 @@ map-range-ledger-changed-requires : (t : ℕ) → map-range-lts.Need-ledger-chan
 map-range-ledger-changed-requires t c κs = tt
 
 map-range-loop-less-3 : (t : ℕ) → map-range-lts.Need-loop-less-3 (calls t) (map-range-at t) map-range.Post map-range-Inv-loop map-range-μ-loop
-map-range-loop-less-3 t c = omega (arith, facts t (c .before .before .before .before .before .before .before .before .before .before .before .before .before .before .before .before .before .before .before .before .before .before) .above)
+map-range-loop-less-3 t c = omega (arith, facts t (chunk-of-told (told-of-again-3 c)) .above)
 
 map-range-loop-again-3 : (t : ℕ) → map-range-lts.Need-loop-again-3 (calls t) (map-range-at t) map-range.Post map-range-Inv-loop map-range-μ-loop
 map-range-loop-again-3 t c =
-    let at = c .before .before .before .before .before .before .before .before .before .before .before .before .before .before .before .before .before .before .before .before .before .before .before .before .before .before in
-    let a = c .before .before .before .before .before .before .before .before .before .before .before .before .before .before .before .before .before .before .before .before .before .before .before .before .before .before .before .before .before .args in
-    let place = c .before .before .before .before .before .before .before .before .before .before .before .before .before .before .before .before .before .before .before .before .before .before in
+    let place = chunk-of-told (told-of-again-3 c) in
+    let at = loop-of-chunk place in
+    let a = start-of-chunk place .args in
     let f = facts t place in
     let s = st (at .loop .words) (at .loop .ledger) in
-    let r = c .before .before .before .before .before .before .before .before .before .before .before .before .before .before .before .before .before .before .before .before .rule-of .ensures in
-    let down = c .before .before .before .before .before .before .before .before .before .before .before .before .before .before .before .before .before .before .enum-told .given .1 in
-    let under = c .before .before .before .before .before .before .before .before .before .before .before .before .before .before .before .descend in
+    let r = told-of-again-3 c .before .before .rule-of .ensures in
+    let down = told-of-again-3 c .enum-told .given .1 in
+    let under = descend-of-again-3 c .descend in
     let lower = c .before .before .before .before .before .map-range in
     let high = down-high (a .level) (chunkOf t place) _ r down in (
       f .under,

@@ -25,6 +25,13 @@ use Rattle.checker.proofs.count_sound.Reads as count-sound-reads
 use Rattle.map_count.proofs.count_over.Reads as count-over-reads
 use Rattle.map_room.proofs.put_down.Reads as put-down-reads
 
+-- ways back: to the start from where the pool is found sound, and to there from the last return
+abbrev start-of-found : tie.After-found → tie.Start
+start-of-found c = c .before .before .before .before .before .before .before
+
+abbrev found-of-returns-3 : tie.After-slice-known4 → tie.After-found
+found-of-returns-3 c = c .before .before .before .before .before .before .before .before .before .before .before .before
+
 -- refusal 9's count, as it is computed, is document 01's in a sound pool
 counts : (h : Handle) (s : St) (m : Map) → Shaped h s → soundb h s ≡ true → closed (3 - h .level) h s 0 m ≡ needed (3 - h .level) h s 0 m
 counts h s m shape is = closed-needed h s shape (rw is tt) m
@@ -55,7 +62,7 @@ returns c =
 
 sub-free : tie.Need-sub-free
 sub-free c =
-    let start = c .before .before .before .before .before .before .before .before in
+    let start = start-of-found (c .before) in
     let a = start .args in
     let s = st (a .words .now) (a .ledger .now) in
     let known = count-sound (a .handle) s (c .before .before .before .count-sound .ensures) _ (c .before .found .given .1) in
@@ -63,7 +70,7 @@ sub-free c =
     omega (arith, known .1)
 
 count-over-requires : tie.Need-count-over-requires
-count-over-requires c κs = let p = c .before .before .before .before .before .before .before .before .before .before .pre in (p .0 .sized, p .0 .some, p .0 .level, p .1)
+count-over-requires c κs = let p = start-of-found (c .before .before .before) .pre in (p .0 .sized, p .0 .some, p .0 .level, p .1)
 
 same-length-3 : tie.Need-same-length-3
 same-length-3 c = omega arith
@@ -73,7 +80,7 @@ same-length-4 c = omega arith
 
 returns-2 : tie.Need-returns-2
 returns-2 c =
-    let start = c .before .before .before .before .before .before .before .before .before .before .before .before in
+    let start = start-of-found (c .before .before .before .before .before) in
     let a = start .args in
     let s = st (a .words .now) (a .ledger .now) in
     let known = count-sound (a .handle) s (c .before .before .before .before .before .before .before .count-sound .ensures) _ (c .before .before .before .before .before .found .given .1) in
@@ -82,7 +89,7 @@ returns-2 c =
 
 put-down-requires : tie.Need-put-down-requires
 put-down-requires c κs =
-    let start = c .before .before .before .before .before .before .before .before .before .before .before .before .before .before in
+    let start = start-of-found (c .before .before .before .before .before .before .before) in
     let a = start .args in
     let s = st (a .words .now) (a .ledger .now) in
     let known = count-sound (a .handle) s (c .before .before .before .before .before .before .before .before .before .count-sound .ensures) _ (c .before .before .before .before .before .before .before .found .given .1) in
@@ -97,10 +104,10 @@ same-length-6 c = c .before .before .before .before .put-down .kept .1 .0
 -- nothing is refused, so the map is put down
 returns-3 : tie.Need-returns-3
 returns-3 c =
-    let start = c .before .before .before .before .before .before .before .before .before .before .before .before .before .before .before .before .before .before .before in
+    let start = start-of-found (found-of-returns-3 c) in
     let a = start .args in
     let s = st (a .words .now) (a .ledger .now) in
-    let known = count-sound (a .handle) s (c .before .before .before .before .before .before .before .before .before .before .before .before .before .before .count-sound .ensures) _ (c .before .before .before .before .before .before .before .before .before .before .before .before .found .given .1) in
+    let known = count-sound (a .handle) s (found-of-returns-3 c .before .before .count-sound .ensures) _ (found-of-returns-3 c .found .given .1) in
     c .before .before .before .before .put-down .ensures
     ∙ sound-mapped (a .handle) (a .map) s (known .0) (counts (a .handle) s (a .map) (start .pre .0) (known .0)) (room (a .ledger .now) _ (known .1))
     (over-within _ _ (c .before .before .before .before .before .before .before .before .count-over .ensures) (c .before .before .before .before .before .before .before .if1 .left))

@@ -16,6 +16,10 @@ use Rattle.map_rules.proofs.is_already_mapped.Reads as is-already-mappe
 use Rattle.map_rules.proofs.leaf_word.Reads as leaf-word-reads
 use Rattle.region.proofs.MemoryRegion.is_block.Reads as is-block-reads
 
+-- the start of the function, seen from the return of a block
+abbrev start-of-returns-6 : tie.After-leaf-word2 → tie.Start
+start-of-returns-6 c = c .before .before .before .before .before .before .before .before .before .before
+
 -- the chunk has a page, so its frame lies below 2^48
 leaf-needs : (c : tie.Start) → (c .args .map .frame .0 % 4096 ≡ 0) × (c .args .map .frame .0 < 2 ^ 48) × Plain (c .args .map .flags)
 leaf-needs c = let p = c .pre .0 in (p .frame, omega (arith, p .room, c .pre .1), p .flags)
@@ -52,7 +56,7 @@ leaf-word-requires-2 c κs = leaf-needs (c .before .before .before .before .befo
 
 returns-6 : tie.Need-returns-6
 returns-6 c =
-    let a = c .before .before .before .before .before .before .before .before .before .before .args in
+    let a = start-of-returns-6 c .args in
     ap Write (c .leaf-word2 .ensures)
     ∙ rule-block (a .level) (a .map) (a .word) (omega arith) (sym (c .before .before .before .before .before .before .before .before .is-already-mapped .ensures) ∙ c .before .before .before .before .before .before .before .if2 .left) (sym (c .before .before .before .before .before .is-block .ensures) ∙ not-false _ (c .before .before .before .before .if3 .left)) (c .before .before .before .if4 .left)
     (sym (c .before .before .is-blockable .ensures) ∙ c .before .if6 .taken)

@@ -20,6 +20,16 @@ use Rattle.entry.proofs.flags.Reads as flags-reads
 use Rattle.map_rules.proofs.leaf_word.Reads as leaf-word-reads
 use Rattle.pool_take.proofs.take_table.Reads as take-table-reads
 
+-- the start of the function, seen from the two returns and from the call of `take_table` that fills with leaves
+abbrev start-of-returns : tie.After-slice-known5 → tie.Start
+start-of-returns c = c .before .before .before .before .before .before .before .before .before .before .before .before
+
+abbrev start-of-take : tie.After-take-table-arg4 → tie.Start
+start-of-take c = c .before .before .before .before .before .before .before .before .before .before
+
+abbrev start-of-returns-2 : tie.After-slice-known7 → tie.Start
+start-of-returns-2 c = start-of-take (c .before .before .before .before .before)
+
 up : (level : ℕ) → level < 3 → level + 1 ≤ 3
 up level h = omega arith
 
@@ -87,7 +97,7 @@ same-length-2 c = c .before .before .before .before .take-table .kept .1 .0
 
 returns : tie.Need-returns
 returns c =
-    let a = c .before .before .before .before .before .before .before .before .before .before .before .before .args in
+    let a = start-of-returns c .args in
     let s = (st (a .words .now) (a .ledger .now)) in
     let w = wordAt s (a .k) (a .i) in
     c .before .before .before .before .take-table .ensures
@@ -119,8 +129,8 @@ add-take-table-2 c = omega arith
 
 take-table-requires-2 : tie.Need-take-table-requires-2
 take-table-requires-2 c κs =
-    let p = c .before .before .before .before .before .before .before .before .before .before .pre in
-    let level = c .before .before .before .before .before .before .before .before .before .before .args .level in
+    let p = start-of-take c .pre in
+    let level = start-of-take c .args .level in
     let g = c .before .before .before .before in
     let fits = subst⁻¹ (λ (n : ℕ). n < 2 ^ 64) (ap₂ (λ (x s : ℕ). x + 511 * s) (first (c .before .before .before)) (c .before .before .granularity-at-level2 .ensures)) (last-fits level (word g) (p .1) (plain g)) in
     (p .0, up level (p .1), p .2, p .3, fits)
@@ -133,7 +143,7 @@ same-length-4 c = c .before .before .before .before .take-table2 .kept .1 .0
 
 returns-2 : tie.Need-returns-2
 returns-2 c =
-    let a = c .before .before .before .before .before .before .before .before .before .before .before .before .before .before .before .args in
+    let a = start-of-returns-2 c .args in
     let s = (st (a .words .now) (a .ledger .now)) in
     let w = word (c .before .before .before .before .before .before .before .before .before) in
     c .before .before .before .before .take-table2 .ensures

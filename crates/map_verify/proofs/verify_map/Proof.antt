@@ -19,6 +19,13 @@ use Rattle.region.proofs.MemoryRegion.len.Reads as len-reads
 use Rattle.region_verify.proofs.end_fits.Reads as end-fits-reads
 use Rattle.region_verify.proofs.verify_region.Reads as verify-region-reads
 
+-- ways back from after the call of `verify_region`: to where the end fits, and to the start
+abbrev ended-of-region : tie.After-verify-region → tie.Else1
+ended-of-region c = c .before .before .before .before .before .before .before
+
+abbrev start-of-region : tie.After-verify-region → tie.Start
+start-of-region c = ended-of-region c .before .before
+
 ends : (c : tie.Else1) → endFits (c .before .before .args .end) ≡ true
 ends c = sym (c .before .end-fits .ensures) ∙ not-false _ (c .if1 .left)
 
@@ -54,7 +61,7 @@ enum-told-2 : tie.Need-enum-told-2
 enum-told-2 c = search needs
 
 returns-4 : tie.Need-returns-4
-returns-4 c = let a = c .before .before .before .before .before .before .before .before .before .before .before .args in ask-region (a .handle) (a .end) (a .map) (ends (c .before .before .before .before .before .before .before .before .before)) (c .before .before .before .before .before .before .before .if2 .left) (from (c .before .before .before .before)) (c .before .before .verify-region .ensures) _ (c .enum-told2 .given .1)
+returns-4 c = let a = start-of-region (c .before .before) .args in ask-region (a .handle) (a .end) (a .map) (ends (ended-of-region (c .before .before))) (c .before .before .before .before .before .before .before .if2 .left) (from (c .before .before .before .before)) (c .before .before .verify-region .ensures) _ (c .enum-told2 .given .1)
 
 len-requires : tie.Need-len-requires
 len-requires c κs = search needs
@@ -63,7 +70,7 @@ verify-frame-requires : tie.Need-verify-frame-requires
 verify-frame-requires c κs = search needs
 
 returns-5 : tie.Need-returns-5
-returns-5 c = let a = c .before .before .before .before .before .before .before .before .before .before .before .before .before .args in c .verify-frame .ensures ∙ ap (λ (x : ℕ). frameAsked (a .map .frame .0) x) (c .before .len .ensures) ∙ ask-frame (a .handle) (a .end) (a .map) (ends (c .before .before .before .before .before .before .before .before .before .before .before)) (c .before .before .before .before .before .before .before .before .before .if2 .left) (from (c .before .before .before .before .before .before)) (c .before .before .before .before .verify-region .ensures) (c .before .before .enum-told .given .1)
+returns-5 c = let a = start-of-region (c .before .before .before .before) .args in c .verify-frame .ensures ∙ ap (λ (x : ℕ). frameAsked (a .map .frame .0) x) (c .before .len .ensures) ∙ ask-frame (a .handle) (a .end) (a .map) (ends (ended-of-region (c .before .before .before .before))) (c .before .before .before .before .before .before .before .before .before .if2 .left) (from (c .before .before .before .before .before .before)) (c .before .before .before .before .verify-region .ensures) (c .before .before .enum-told .given .1)
 
 pub verify-map-spec : {M : Type 1} → statement M
 verify-map-spec =

@@ -18,6 +18,13 @@ use Rattle.modify.proofs.modify_sound.Reads as modify-sound-reads
 use Rattle.pool_handle.proofs.is_shaped.Reads as is-shaped-reads
 use Rattle.region.proofs.MemoryRegion.new.Reads as new-reads
 
+-- ways back: to the start from where the edit is verified; from the last return to where the pool is told accepted
+abbrev start-of-verified : tie.After-verify-edit → tie.Start
+start-of-verified c = c .before .before .before .before .before .before .before .before .before
+
+abbrev told-of-returns-3 : tie.After-slice-known6 → tie.After-enum-told
+told-of-returns-3 c = c .before .before .before .before .before .before .before .before .before .before
+
 -- past the first test the shape is known
 good : (c : tie.Else1) → let a = c .before .before .before .before .before .before .before .args in shaped (a .handle) (st (a .words .now) (a .ledger .now)) ≡ true
 good c = sym (c .before .is-shaped .ensures) ∙ not-false _ (c .if1 .left)
@@ -27,8 +34,8 @@ edit : (c : tie.After-new) → let a = c .before .before .before .before .before
 edit c = let a = c .before .before .before .before .before .before .before .before .args in asked-is (a .start .0) (a .end .0) (a .set) (a .clear) (a .live) (c .new .ensures)
 
 -- what is asked of it
-verified : (c : tie.After-verify-edit) → let a = c .before .before .before .before .before .before .before .before .before .args in c .verify-edit .result ≡ verifyEdit (a .handle) (a .end .0) (askedEdit (a .start .0) (a .end .0) (a .set) (a .clear) (a .live))
-verified c = let a = c .before .before .before .before .before .before .before .before .before .args in c .verify-edit .ensures ∙ ap (verifyEdit (a .handle) (a .end .0)) (edit (c .before))
+verified : (c : tie.After-verify-edit) → let a = start-of-verified c .args in c .verify-edit .result ≡ verifyEdit (a .handle) (a .end .0) (askedEdit (a .start .0) (a .end .0) (a .set) (a .clear) (a .live))
+verified c = let a = start-of-verified c .args in c .verify-edit .ensures ∙ ap (verifyEdit (a .handle) (a .end .0)) (edit (c .before))
 
 is-shaped-requires : tie.Need-is-shaped-requires
 is-shaped-requires c κs = tt
@@ -56,7 +63,7 @@ enum-told c = c .match .keys2
 
 modify-sound-requires : tie.Need-modify-sound-requires
 modify-sound-requires c κs =
-    let a = c .before .before .before .before .before .before .before .before .before .before .before .before .before .before .args in
+    let a = start-of-verified (c .before .before .before .before .before) .args in
     let span = asked-span (a .handle) (a .start .0) (a .end .0) (a .set) (a .clear) (a .live) (sym (verified (c .before .before .before .before .before)) ∙ c .before .before .before .enum-told .given .1) in
     (shaped-says (a .handle) (st (a .words .now) (a .ledger .now)) (rw (good (c .before .before .before .before .before .before .before)) tt), subst⁻¹ (λ (e : Edit). e .region .end .0 - e .region .start .0 ≤ 2 ^ 48) (edit (c .before .before .before .before .before .before)) span)
 
@@ -67,7 +74,7 @@ same-length-4 : tie.Need-same-length-4
 same-length-4 c = omega arith
 
 returns-2 : tie.Need-returns-2
-returns-2 c = let a = c .before .before .before .before .before .before .before .before .before .before .before .before .args in call-refused (a .handle) (a .start .0) (a .end .0) (a .set) (a .clear) (a .live) (st (a .words .now) (a .ledger .now)) (a .list .now) (good (c .before .before .before .before .before)) (verified (c .before .before .before)) _ (c .before .outcome .given .1)
+returns-2 c = let a = start-of-verified (c .before .before .before) .args in call-refused (a .handle) (a .start .0) (a .end .0) (a .set) (a .clear) (a .live) (st (a .words .now) (a .ledger .now)) (a .list .now) (good (c .before .before .before .before .before)) (verified (c .before .before .before)) _ (c .before .outcome .given .1)
 
 same-length-5 : tie.Need-same-length-5
 same-length-5 c = c .before .before .before .before .before .before .modify-sound .kept .0
@@ -80,11 +87,11 @@ same-length-7 c = c .before .before .before .before .before .before .modify-soun
 
 returns-3 : tie.Need-returns-3
 returns-3 c =
-    let a = c .before .before .before .before .before .before .before .before .before .before .before .before .before .before .before .before .before .before .before .before .before .args in
+    let a = start-of-verified (told-of-returns-3 c .before .before) .args in
     let s = st (a .words .now) (a .ledger .now) in
     c .before .before .before .before .before .before .modify-sound .ensures
-    ∙ ap (λ (e : Edit). modifySound (a .handle) e s (a .list .now)) (edit (c .before .before .before .before .before .before .before .before .before .before .before .before .before))
-    ∙ call-asked (a .handle) (a .start .0) (a .end .0) (a .set) (a .clear) (a .live) s (a .list .now) (good (c .before .before .before .before .before .before .before .before .before .before .before .before .before .before)) (verified (c .before .before .before .before .before .before .before .before .before .before .before .before)) (c .before .before .before .before .before .before .before .before .before .before .enum-told .given .1)
+    ∙ ap (λ (e : Edit). modifySound (a .handle) e s (a .list .now)) (edit (told-of-returns-3 c .before .before .before))
+    ∙ call-asked (a .handle) (a .start .0) (a .end .0) (a .set) (a .clear) (a .live) s (a .list .now) (good (told-of-returns-3 c .before .before .before .before)) (verified (told-of-returns-3 c .before .before)) (told-of-returns-3 c .enum-told .given .1)
 
 pub modify-spec : {M : Type 1} → statement M
 modify-spec =

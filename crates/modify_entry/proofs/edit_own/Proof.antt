@@ -30,22 +30,29 @@ abbrev μ-loop : tie.MeasureT-loop
 abbrev Place : Type 0
 Place = tie.After-tlbi-address Inv-loop μ-loop
 
+-- ways back from a chunk: to the loop's head, and to the start
+abbrev loop-of-chunk : Place → tie.At-loop Inv-loop μ-loop
+loop-of-chunk c = c .before .before .before .before
+
+abbrev start-of-chunk : Place → tie.Start Inv-loop μ-loop
+start-of-chunk c = loop-of-chunk c .before .before .before
+
 record Facts (c : Place) : Type 0 where
-  above : c .before .before .before .before .loop .at < c .before .before .chunk-end .result
-  under : c .before .before .chunk-end .result ≤ c .before .before .before .before .before .before .before .args .edit .region .end .0
+  above : loop-of-chunk c .loop .at < c .before .before .chunk-end .result
+  under : c .before .before .chunk-end .result ≤ start-of-chunk c .args .edit .region .end .0
   slot : c .before .entry-index .result < 512
-  index : c .before .entry-index .result ≡ entryIndex (c .before .before .before .before .before .before .before .args .level) (c .before .before .before .before .loop .at)
-  room : 512 * c .before .before .before .before .before .before .before .args .k + 512 ≤ length (c .before .before .before .before .loop .words)
-  next : let a = c .before .before .before .before .before .before .before .args in let f = ownChunk (a .k) (a .level) (a .edit) in
-      eachChunk (a .level) f (region (c .before .before .chunk-end .result) (a .edit .region .end .0)) (f (region (c .before .before .before .before .loop .at) (c .before .before .chunk-end .result)) (noted (c .before .before .before .before .loop .words) (c .before .before .before .before .loop .list) (c .before .before .before .before .loop .count)))
+  index : c .before .entry-index .result ≡ entryIndex (start-of-chunk c .args .level) (loop-of-chunk c .loop .at)
+  room : 512 * start-of-chunk c .args .k + 512 ≤ length (loop-of-chunk c .loop .words)
+  next : let a = start-of-chunk c .args in let f = ownChunk (a .k) (a .level) (a .edit) in
+      eachChunk (a .level) f (region (c .before .before .chunk-end .result) (a .edit .region .end .0)) (f (region (loop-of-chunk c .loop .at) (c .before .before .chunk-end .result)) (noted (loop-of-chunk c .loop .words) (loop-of-chunk c .loop .list) (loop-of-chunk c .loop .count)))
       ≡ eachChunk (a .level) f (a .edit .region) (noted (a .words .now) (a .list .now) (a .before))
 
 facts : (c : Place) → Facts c
 unfolding entryIndex
 facts c =
-    let start = c .before .before .before .before .before .before .before in
+    let start = start-of-chunk c in
     let a = start .args in
-    let at = c .before .before .before .before in
+    let at = loop-of-chunk c in
     let inv = at .loop .inv in
     let low = c .before .before .before .loop-test .taken in
     let stop = c .before .before .chunk-end .ensures in
@@ -97,8 +104,8 @@ loop-again : tie.Need-loop-again Inv-loop μ-loop
 loop-again c =
     let place = c .before .before .before in
     let f = facts place in
-    let at = c .before .before .before .before .before .before .before in
-    let a = c .before .before .before .before .before .before .before .before .before .before .args in
+    let at = loop-of-chunk place in
+    let a = start-of-chunk place .args in
     let n = noted (at .loop .words) (at .loop .list) (at .loop .count) in
     let same = own-same (a .k) (a .level) (a .edit) (region (at .loop .at) (place .before .before .chunk-end .result)) n (f .index) (c .before .edit-word .ensures) (c .if1 .taken) in
     (at .loop .inv .0, at .loop .inv .1, ap (eachChunk (a .level) (ownChunk (a .k) (a .level) (a .edit)) (region (place .before .before .chunk-end .result) (a .edit .region .end .0))) same ∙ f .next)
@@ -125,8 +132,8 @@ loop-again-2 : tie.Need-loop-again-2 Inv-loop μ-loop
 loop-again-2 c =
     let place = c .before .before .before .before .before .before .before in
     let f = facts place in
-    let at = c .before .before .before .before .before .before .before .before .before .before .before in
-    let a = c .before .before .before .before .before .before .before .before .before .before .before .before .before .before .args in
+    let at = loop-of-chunk place in
+    let a = start-of-chunk place .args in
     let n = noted (at .loop .words) (at .loop .list) (at .loop .count) in
     let changed = own-changed (a .k) (a .level) (a .edit) (region (at .loop .at) (place .before .before .chunk-end .result)) n (f .index) (c .before .before .before .before .before .edit-word .ensures) (c .before .before .before .before .if1 .left) (place .tlbi-address .ensures) (c .before .before .put-number .ensures) in (
       length-set (at .loop .words) _ _ ∙ at .loop .inv .0,

@@ -58,26 +58,54 @@ modify-range-μ-loop words₀ ledger₀ handle k level edit list₀ before end a
 abbrev Place : ℕ → Type 0
 Place t = modify-range-lts.After-entry-index (calls t) (modify-range-at t) modify-range.Post modify-range-Inv-loop modify-range-μ-loop
 
+-- ways back: from a chunk to the start; to the chunk, to the test of its entry (`own`), to the call of `descend` and to the table below (`under`), from the ends of the loop's ways (`again`) and from the call of the function itself; to the start from the returns
+abbrev start-of-chunk : {t : ℕ} → Place t → modify-range-lts.Start (calls t) (modify-range-at t) modify-range.Post modify-range-Inv-loop modify-range-μ-loop
+start-of-chunk c = c .before .before .before .before .before .before .before .before
+
+abbrev chunk-of-descend : {t : ℕ} → modify-range-lts.After-descend (calls t) (modify-range-at t) modify-range.Post modify-range-Inv-loop modify-range-μ-loop → Place t
+chunk-of-descend c = c .before .before .before .before .before .before .before
+
+abbrev own-of-again-2 : {t : ℕ} → modify-range-lts.After-enum-told (calls t) (modify-range-at t) modify-range.Post modify-range-Inv-loop modify-range-μ-loop → modify-range-lts.After-is-own (calls t) (modify-range-at t) modify-range.Post modify-range-Inv-loop modify-range-μ-loop
+own-of-again-2 c = c .before .before .before .before .before .before .before .before .before .before
+
+abbrev descend-of-call : {t : ℕ} → modify-range-lts.After-modify-range-arg3 (calls t) (modify-range-at t) modify-range.Post modify-range-Inv-loop modify-range-μ-loop → modify-range-lts.After-descend (calls t) (modify-range-at t) modify-range.Post modify-range-Inv-loop modify-range-μ-loop
+descend-of-call c = c .before .before .before .before .before .before .before .before .before .before
+
+abbrev under-of-again-3 : {t : ℕ} → modify-range-lts.After-slice-known11 (calls t) (modify-range-at t) modify-range.Post modify-range-Inv-loop modify-range-μ-loop → modify-range-lts.After-under (calls t) (modify-range-at t) modify-range.Post modify-range-Inv-loop modify-range-μ-loop
+under-of-again-3 c = c .before .before .before .before .before .before .before .before .before .before .before
+
+abbrev descend-of-again-3 : {t : ℕ} → modify-range-lts.After-slice-known11 (calls t) (modify-range-at t) modify-range.Post modify-range-Inv-loop modify-range-μ-loop → modify-range-lts.After-descend (calls t) (modify-range-at t) modify-range.Post modify-range-Inv-loop modify-range-μ-loop
+descend-of-again-3 c = under-of-again-3 c .before .before .before .before .before .before
+
+abbrev own-of-again-3 : {t : ℕ} → modify-range-lts.After-slice-known11 (calls t) (modify-range-at t) modify-range.Post modify-range-Inv-loop modify-range-μ-loop → modify-range-lts.After-is-own (calls t) (modify-range-at t) modify-range.Post modify-range-Inv-loop modify-range-μ-loop
+own-of-again-3 c = descend-of-again-3 c .before .before .before .before
+
+abbrev start-of-returns : {t : ℕ} → modify-range-lts.After-slice-known5 (calls t) (modify-range-at t) modify-range.Post modify-range-Inv-loop modify-range-μ-loop → modify-range-lts.Start (calls t) (modify-range-at t) modify-range.Post modify-range-Inv-loop modify-range-μ-loop
+start-of-returns c = c .before .before .before .before .before .before .before .before .before .before .before
+
+abbrev start-of-returns-2 : {t : ℕ} → modify-range-lts.After-slice-known13 (calls t) (modify-range-at t) modify-range.Post modify-range-Inv-loop modify-range-μ-loop → modify-range-lts.Start (calls t) (modify-range-at t) modify-range.Post modify-range-Inv-loop modify-range-μ-loop
+start-of-returns-2 c = c .before .before .before .before .before .before .before .before .before .before .before .before .before
+
 -- the pool and the list before the chunk
 abbrev workOf : (t : ℕ) → Place t → Work
 workOf t c = work (st (c .before .before .before .loop .words) (c .before .before .before .loop .ledger)) (c .before .before .before .loop .list) (c .before .before .before .loop .count)
 
 record Facts (t : ℕ) (c : Place t) : Type 0 where
-  high : c .before .before .before .before .before .before .before .before .args .level < 3
+  high : start-of-chunk c .args .level < 3
   above : c .before .before .before .loop .at < c .before .chunk-end .result
-  under : c .before .chunk-end .result ≤ c .before .before .before .before .before .before .before .before .args .edit .region .end .0
+  under : c .before .chunk-end .result ≤ start-of-chunk c .args .edit .region .end .0
   slot : c .entry-index .result < 512
-  index : c .entry-index .result ≡ entryIndex (c .before .before .before .before .before .before .before .before .args .level) (c .before .before .before .loop .at)
-  shape : Shaped (c .before .before .before .before .before .before .before .before .args .handle) (st (c .before .before .before .loop .words) (c .before .before .before .loop .ledger))
-  table : c .before .before .before .before .before .before .before .before .args .k < length (c .before .before .before .loop .ledger)
-  next : let a = c .before .before .before .before .before .before .before .before .args in let f = downStep (a .handle) (a .k) (a .level) (a .edit) in
+  index : c .entry-index .result ≡ entryIndex (start-of-chunk c .args .level) (c .before .before .before .loop .at)
+  shape : Shaped (start-of-chunk c .args .handle) (st (c .before .before .before .loop .words) (c .before .before .before .loop .ledger))
+  table : start-of-chunk c .args .k < length (c .before .before .before .loop .ledger)
+  next : let a = start-of-chunk c .args in let f = downStep (a .handle) (a .k) (a .level) (a .edit) in
       eachChunk (a .level) f (region (c .before .chunk-end .result) (a .edit .region .end .0)) (f (region (c .before .before .before .loop .at) (c .before .chunk-end .result)) (workOf t c))
       ≡ eachChunk (a .level) f (a .edit .region) (work (st (a .words .now) (a .ledger .now)) (a .list .now) (a .before))
 
 facts : (t : ℕ) (c : Place t) → Facts t c
 unfolding entryIndex
 facts t c =
-    let start = c .before .before .before .before .before .before .before .before in
+    let start = start-of-chunk c in
     let a = start .args in
     let p = start .pre .1 in
     let at = c .before .before .before in
@@ -100,19 +128,19 @@ facts t c =
     }
 
 -- what is left to do after the chunk, where the step is known
-onwards : (t : ℕ) (c : Place t) (w : Work) → let a = c .before .before .before .before .before .before .before .before .args in let f = downStep (a .handle) (a .k) (a .level) (a .edit) in
+onwards : (t : ℕ) (c : Place t) (w : Work) → let a = start-of-chunk c .args in let f = downStep (a .handle) (a .k) (a .level) (a .edit) in
     w ≡ f (region (c .before .before .before .loop .at) (c .before .chunk-end .result)) (workOf t c)
     → eachChunk (a .level) f (region (c .before .chunk-end .result) (a .edit .region .end .0)) w ≡ eachChunk (a .level) f (a .edit .region) (work (st (a .words .now) (a .ledger .now)) (a .list .now) (a .before))
 onwards t c w e =
-    let a = c .before .before .before .before .before .before .before .before .args in
+    let a = start-of-chunk c .args in
     ap (eachChunk (a .level) (downStep (a .handle) (a .k) (a .level) (a .edit)) (region (c .before .chunk-end .result) (a .edit .region .end .0))) e ∙ facts t c .next
 
 -- whether the chunk's entry is the table's own, asked of the region itself
-is-own : (t : ℕ) (c : modify-range-lts.After-is-own (calls t) (modify-range-at t) modify-range.Post modify-range-Inv-loop modify-range-μ-loop) → let place = c .before .before .before in let a = c .before .before .before .before .before .before .before .before .before .before .before .args in
+is-own : (t : ℕ) (c : modify-range-lts.After-is-own (calls t) (modify-range-at t) modify-range.Post modify-range-Inv-loop modify-range-μ-loop) → let place = c .before .before .before in let a = start-of-chunk place .args in
     own (a .level) (region (place .before .before .before .loop .at) (place .before .chunk-end .result)) (wordAt (workOf t place .state) (a .k) (place .entry-index .result)) ≡ c .is-own .result
 is-own t c =
     let place = c .before .before .before in
-    let a = c .before .before .before .before .before .before .before .before .before .before .before .args in
+    let a = start-of-chunk place .args in
     sym (c .is-own .ensures ∙ ap (λ (e : Edit). own (a .level) (e .region) (wordAt (workOf t place .state) (a .k) (place .entry-index .result))) (c .before .before .chunk-edit .ensures))
 
 modify-range-edit-own-requires : (t : ℕ) → modify-range-lts.Need-edit-own-requires (calls t) (modify-range-at t) modify-range.Post modify-range-Inv-loop modify-range-μ-loop
@@ -126,9 +154,9 @@ modify-range-same-length-2 t c = c .before .before .before .before .edit-own .ke
 
 modify-range-returns : (t : ℕ) → modify-range-lts.Need-returns (calls t) (modify-range-at t) modify-range.Post modify-range-Inv-loop modify-range-μ-loop
 modify-range-returns t c =
-    let a = c .before .before .before .before .before .before .before .before .before .before .before .args in
+    let a = start-of-returns c .args in
     let w = work (st (a .words .now) (a .ledger .now)) (a .list .now) (a .before) in
-    own-done (a .k) (a .level) (a .edit) w (c .before .before .before .before .edit-own .ensures) ∙ modify-pages (a .handle) (a .k) (a .level) (a .edit) w (c .before .before .before .before .before .before .before .before .before .before .before .pre .1 .2) (c .before .before .before .before .before .before .before .if1 .taken)
+    own-done (a .k) (a .level) (a .edit) w (c .before .before .before .before .edit-own .ensures) ∙ modify-pages (a .handle) (a .k) (a .level) (a .edit) w (start-of-returns c .pre .1 .2) (c .before .before .before .before .before .before .before .if1 .taken)
 
 modify-range-loop-holds : (t : ℕ) → modify-range-lts.Need-loop-holds (calls t) (modify-range-at t) modify-range.Post modify-range-Inv-loop modify-range-μ-loop
 modify-range-loop-holds t c = (refl, refl, refl, refl)
@@ -163,7 +191,7 @@ modify-range-loop-less t c = let f = facts t (c .before .before .before .before)
 modify-range-loop-again : (t : ℕ) → modify-range-lts.Need-loop-again (calls t) (modify-range-at t) modify-range.Post modify-range-Inv-loop modify-range-μ-loop
 modify-range-loop-again t c =
     let at = c .before .before .before .before .before .before .before in
-    let a = c .before .before .before .before .before .before .before .before .before .before .before .before .args in
+    let a = at .before .before .before .before .before .args in
     let f = facts t (c .before .before .before .before) in
     (at .loop .inv .0, at .loop .inv .1, at .loop .inv .2, onwards t (c .before .before .before .before) (workOf t (c .before .before .before .before)) (step-own (a .handle) (a .k) (a .level) (a .edit) _ (workOf t (c .before .before .before .before)) (f .index) (is-own t (c .before) ∙ c .if2 .taken)))
 
@@ -177,47 +205,47 @@ modify-range-enum-told : (t : ℕ) → modify-range-lts.Need-enum-told (calls t)
 modify-range-enum-told t c = c .match .keys2
 
 modify-range-loop-less-2 : (t : ℕ) → modify-range-lts.Need-loop-less-2 (calls t) (modify-range-at t) modify-range.Post modify-range-Inv-loop modify-range-μ-loop
-modify-range-loop-less-2 t c = let f = facts t (c .before .before .before .before .before .before .before .before .before .before .before .before .before) in omega (arith, f .above, f .under)
+modify-range-loop-less-2 t c = let f = facts t (own-of-again-2 c .before .before .before) in omega (arith, f .above, f .under)
 
 modify-range-loop-again-2 : (t : ℕ) → modify-range-lts.Need-loop-again-2 (calls t) (modify-range-at t) modify-range.Post modify-range-Inv-loop modify-range-μ-loop
 modify-range-loop-again-2 t c =
-    let at = c .before .before .before .before .before .before .before .before .before .before .before .before .before .before .before .before in
-    let a = c .before .before .before .before .before .before .before .before .before .before .before .before .before .before .before .before .before .before .before .before .before .args in
-    let f = facts t (c .before .before .before .before .before .before .before .before .before .before .before .before .before) in
-    let step = step-none (a .handle) (a .k) (a .level) (a .edit) _ (workOf t (c .before .before .before .before .before .before .before .before .before .before .before .before .before)) (f .index) (is-own t (c .before .before .before .before .before .before .before .before .before .before) ∙ c .before .before .before .before .before .before .before .before .before .if2 .left) (c .before .before .before .before .before .before .descend .ensures) (c .enum-told .given .1) in
-    (c .before .before .before .before .before .before .descend .kept .0 ∙ at .loop .inv .0, c .before .before .before .before .before .before .descend .kept .1 .0 ∙ at .loop .inv .1, at .loop .inv .2, onwards t (c .before .before .before .before .before .before .before .before .before .before .before .before .before) _ step)
+    let at = own-of-again-2 c .before .before .before .before .before .before in
+    let a = at .before .before .before .before .before .args in
+    let f = facts t (own-of-again-2 c .before .before .before) in
+    let step = step-none (a .handle) (a .k) (a .level) (a .edit) _ (workOf t (own-of-again-2 c .before .before .before)) (f .index) (is-own t (own-of-again-2 c) ∙ c .before .before .before .before .before .before .before .before .before .if2 .left) (c .before .before .before .before .before .before .descend .ensures) (c .enum-told .given .1) in
+    (c .before .before .before .before .before .before .descend .kept .0 ∙ at .loop .inv .0, c .before .before .before .before .before .before .descend .kept .1 .0 ∙ at .loop .inv .1, at .loop .inv .2, onwards t (own-of-again-2 c .before .before .before) _ step)
 
 modify-range-add-modify-range : (t : ℕ) → modify-range-lts.Need-add-modify-range (calls t) (modify-range-at t) modify-range.Post modify-range-Inv-loop modify-range-μ-loop
-modify-range-add-modify-range t c = omega (arith, facts t (c .before .before .before .before .before .before .before .before .before .before .before .before .before .before .before .before) .high)
+modify-range-add-modify-range t c = omega (arith, facts t (chunk-of-descend (c .before .before .before .before .before .before .before .before .before)) .high)
 
 modify-range-modify-range-requires : (t : ℕ) → modify-range-lts.Need-modify-range-requires (calls t) (modify-range-at t) modify-range.Post modify-range-Inv-loop modify-range-μ-loop
 modify-range-modify-range-requires t c κs =
-    let place = c .before .before .before .before .before .before .before .before .before .before .before .before .before .before .before .before .before in
+    let place = chunk-of-descend (descend-of-call c) in
     let f = facts t place in
-    let a = c .before .before .before .before .before .before .before .before .before .before .before .before .before .before .before .before .before .before .before .before .before .before .before .before .before .args in
-    let at = c .before .before .before .before .before .before .before .before .before .before .before .before .before .before .before .before .before .before .before .before in
-    let under = c .before .before .before .before .before .before .before .before .before .before in
+    let a = start-of-chunk place .args in
+    let at = place .before .before .before in
+    let under = descend-of-call c in
     let s = st (at .loop .words) (at .loop .ledger) in
     let found = below-inside (a .handle) (a .k) (a .level) (place .entry-index .result) s _ (under .descend .ensures) (c .before .before .before .before .under .given .1) in (
-      omega (arith, f .high, c .before .before .before .before .before .before .before .before .before .before .before .before .before .before .before .before .before .before .before .before .before .before .before .before .before .pre .0),
+      omega (arith, f .high, start-of-chunk place .pre .0),
       (shaped-keep (a .handle) s (st (under .descend .last .0) (under .descend .last .1 .0)) (f .shape) (under .descend .kept .0) (under .descend .kept .1 .0), omega (arith, found, under .descend .kept .1 .0), omega (arith, f .high)),
     )
 
 modify-range-loop-less-3 : (t : ℕ) → modify-range-lts.Need-loop-less-3 (calls t) (modify-range-at t) modify-range.Post modify-range-Inv-loop modify-range-μ-loop
-modify-range-loop-less-3 t c = let f = facts t (c .before .before .before .before .before .before .before .before .before .before .before .before .before .before .before .before .before .before .before .before .before .before .before .before) in omega (arith, f .above, f .under)
+modify-range-loop-less-3 t c = let f = facts t (chunk-of-descend (descend-of-again-3 c)) in omega (arith, f .above, f .under)
 
 modify-range-loop-again-3 : (t : ℕ) → modify-range-lts.Need-loop-again-3 (calls t) (modify-range-at t) modify-range.Post modify-range-Inv-loop modify-range-μ-loop
 modify-range-loop-again-3 t c =
-    let at = c .before .before .before .before .before .before .before .before .before .before .before .before .before .before .before .before .before .before .before .before .before .before .before .before .before .before .before in
-    let a = c .before .before .before .before .before .before .before .before .before .before .before .before .before .before .before .before .before .before .before .before .before .before .before .before .before .before .before .before .before .before .before .before .args in
-    let f = facts t (c .before .before .before .before .before .before .before .before .before .before .before .before .before .before .before .before .before .before .before .before .before .before .before .before) in
-    let under = c .before .before .before .before .before .before .before .before .before .before .before .before .before .before .before .before .before in
+    let at = chunk-of-descend (descend-of-again-3 c) .before .before .before in
+    let a = start-of-chunk (chunk-of-descend (descend-of-again-3 c)) .args in
+    let f = facts t (chunk-of-descend (descend-of-again-3 c)) in
+    let under = descend-of-again-3 c in
     let rec = c .before .before .before .before .before .before .modify-range in
-    let j = c .before .before .before .before .before .before .before .before .before .before .before .under .given .0 .0 in
+    let j = under-of-again-3 c .under .given .0 .0 in
     let lent = work (st (under .descend .last .0) (under .descend .last .1 .0)) (at .loop .list) (at .loop .count) in
-    let part = ap (λ (e : Edit). modifyRange (3 - (a .level + 1)) (a .handle) j e lent) (c .before .before .before .before .before .before .before .before .before .before .before .before .before .before .before .before .before .before .before .before .before .before .before .chunk-edit .ensures) in
-    let step = rec .ensures ∙ part ∙ step-into (a .handle) (a .k) (a .level) (a .edit) _ (workOf t (c .before .before .before .before .before .before .before .before .before .before .before .before .before .before .before .before .before .before .before .before .before .before .before .before)) (f .index) (is-own t (c .before .before .before .before .before .before .before .before .before .before .before .before .before .before .before .before .before .before .before .before .before) ∙ c .before .before .before .before .before .before .before .before .before .before .before .before .before .before .before .before .before .before .before .before .if2 .left) (under .descend .ensures) j (c .before .before .before .before .before .before .before .before .before .before .before .under .given .1) in
-    (rec .kept .0 ∙ under .descend .kept .0 ∙ at .loop .inv .0, rec .kept .1 .0 ∙ under .descend .kept .1 .0 ∙ at .loop .inv .1, rec .kept .1 .1 .1 .1 .1 .1 .0 ∙ at .loop .inv .2, onwards t (c .before .before .before .before .before .before .before .before .before .before .before .before .before .before .before .before .before .before .before .before .before .before .before .before) _ step)
+    let part = ap (λ (e : Edit). modifyRange (3 - (a .level + 1)) (a .handle) j e lent) (own-of-again-3 c .before .before .chunk-edit .ensures) in
+    let step = rec .ensures ∙ part ∙ step-into (a .handle) (a .k) (a .level) (a .edit) _ (workOf t (chunk-of-descend under)) (f .index) (is-own t (own-of-again-3 c) ∙ under .before .before .before .if2 .left) (under .descend .ensures) j (under-of-again-3 c .under .given .1) in
+    (rec .kept .0 ∙ under .descend .kept .0 ∙ at .loop .inv .0, rec .kept .1 .0 ∙ under .descend .kept .1 .0 ∙ at .loop .inv .1, rec .kept .1 .1 .1 .1 .1 .1 .0 ∙ at .loop .inv .2, onwards t (chunk-of-descend under) _ step)
 
 modify-range-edit-own-requires-2 : (t : ℕ) → modify-range-lts.Need-edit-own-requires-2 (calls t) (modify-range-at t) modify-range.Post modify-range-Inv-loop modify-range-μ-loop
 modify-range-edit-own-requires-2 t c κs = let p = c .before .before .before .before .before .before .before .before .pre .1 in omega (arith, p .0 .sized, p .1, c .before .before .before .loop .inv .0)
@@ -234,7 +262,7 @@ modify-range-same-length-5 t c = c .before .before .before .before .edit-own2 .k
 modify-range-returns-2 : (t : ℕ) → modify-range-lts.Need-returns-2 (calls t) (modify-range-at t) modify-range.Post modify-range-Inv-loop modify-range-μ-loop
 modify-range-returns-2 t c =
     let at = c .before .before .before .before .before .before .before .before in
-    let a = c .before .before .before .before .before .before .before .before .before .before .before .before .before .args in
+    let a = start-of-returns-2 c .args in
     let w = work (st (at .loop .words) (at .loop .ledger)) (at .loop .list) (at .loop .count) in
     own-done (a .k) (a .level) (a .edit) w (c .before .before .before .before .edit-own2 .ensures)
     ∙ ap (ownWork (a .k) (a .level) (a .edit)) (sym (each-done (a .level) (downStep (a .handle) (a .k) (a .level) (a .edit)) (at .loop .at) (a .edit .region .end .0) w (omega arith)) ∙ at .loop .inv .3)

@@ -57,23 +57,27 @@ survey-range-μ-loop words ledger handle k level edit end at₀ seen₀ at seen 
 abbrev Place : ℕ → Type 0
 Place t = survey-range-lts.After-entry-index (calls t) (survey-range-at t) survey-range.Post survey-range-Inv-loop survey-range-μ-loop
 
+-- the start of the function, seen from a chunk
+abbrev start-of-chunk : {t : ℕ} → Place t → survey-range-lts.Start (calls t) (survey-range-at t) survey-range.Post survey-range-Inv-loop survey-range-μ-loop
+start-of-chunk c = c .before .before .before .before .before .before
+
 -- what is done with one chunk
 abbrev stepOf : (t : ℕ) → Place t → Survey → Survey
-stepOf t c v = let a = c .before .before .before .before .before .before .args in surveyStep (a .handle) (st (a .words .now) (a .ledger .now)) (a .k) (a .level) (a .edit) (region (c .before .before .before .loop .at) (c .before .chunk-end .result)) v
+stepOf t c v = let a = start-of-chunk c .args in surveyStep (a .handle) (st (a .words .now) (a .ledger .now)) (a .k) (a .level) (a .edit) (region (c .before .before .before .loop .at) (c .before .chunk-end .result)) v
 
 record Facts (t : ℕ) (c : Place t) : Type 0 where
   above : c .before .before .before .loop .at < c .before .chunk-end .result
-  under : c .before .chunk-end .result ≤ c .before .before .before .before .before .before .args .edit .region .end .0
+  under : c .before .chunk-end .result ≤ start-of-chunk c .args .edit .region .end .0
   slot : c .entry-index .result < 512
-  index : c .entry-index .result ≡ entryIndex (c .before .before .before .before .before .before .args .level) (c .before .before .before .loop .at)
+  index : c .entry-index .result ≡ entryIndex (start-of-chunk c .args .level) (c .before .before .before .loop .at)
   room : Room (region (c .before .before .before .loop .at) (c .before .chunk-end .result)) (c .before .before .before .loop .seen)
-  next : let a = c .before .before .before .before .before .before .args in let f = surveyStep (a .handle) (st (a .words .now) (a .ledger .now)) (a .k) (a .level) (a .edit) in
+  next : let a = start-of-chunk c .args in let f = surveyStep (a .handle) (st (a .words .now) (a .ledger .now)) (a .k) (a .level) (a .edit) in
       eachChunk (a .level) f (region (c .before .chunk-end .result) (a .edit .region .end .0)) (stepOf t c (c .before .before .before .loop .seen)) ≡ eachChunk (a .level) f (a .edit .region) (a .before)
 
 facts : (t : ℕ) (c : Place t) → Facts t c
 unfolding entryIndex
 facts t c =
-    let a = c .before .before .before .before .before .before .args in
+    let a = start-of-chunk c .args in
     let at = c .before .before .before in
     let inv = at .loop .inv in
     let low = c .before .before .loop-test .taken in
@@ -93,10 +97,10 @@ facts t c =
 
 -- the invariant after the chunk, where the step and what it adds are known
 again : (t : ℕ) (c : Place t) (x : Survey) → Adds (region (c .before .before .before .loop .at) (c .before .chunk-end .result)) (c .before .before .before .loop .seen) x → x ≡ stepOf t c (c .before .before .before .loop .seen)
-    → let a = c .before .before .before .before .before .before .args in let f = surveyStep (a .handle) (st (a .words .now) (a .ledger .now)) (a .k) (a .level) (a .edit) in
+    → let a = start-of-chunk c .args in let f = surveyStep (a .handle) (st (a .words .now) (a .ledger .now)) (a .k) (a .level) (a .edit) in
     Room (region (c .before .chunk-end .result) (a .edit .region .end .0)) x × (eachChunk (a .level) f (region (c .before .chunk-end .result) (a .edit .region .end .0)) x ≡ eachChunk (a .level) f (a .edit .region) (a .before))
 again t c x adds e =
-    let a = c .before .before .before .before .before .before .args in
+    let a = start-of-chunk c .args in
     let f = facts t c in (
       room-after (c .before .before .before .loop .at) (c .before .chunk-end .result) (a .edit .region .end .0) (f .above) (f .under) (c .before .before .before .loop .seen) (c .before .before .before .loop .inv .0) x adds,
       ap (eachChunk (a .level) (surveyStep (a .handle) (st (a .words .now) (a .ledger .now)) (a .k) (a .level) (a .edit)) (region (c .before .chunk-end .result) (a .edit .region .end .0))) e ∙ f .next,
@@ -115,16 +119,16 @@ survey-range-chunk-edit-requires : (t : ℕ) → survey-range-lts.Need-chunk-edi
 survey-range-chunk-edit-requires t c κs = tt
 
 survey-range-mul-word : (t : ℕ) → survey-range-lts.Need-mul-word (calls t) (survey-range-at t) survey-range.Post survey-range-Inv-loop survey-range-μ-loop
-survey-range-mul-word t c = let p = c .before .before .before .before .before .before .before .pre .1 in omega (arith, facts t (c .before) .slot, p .0, p .1)
+survey-range-mul-word t c = let p = start-of-chunk (c .before) .pre .1 in omega (arith, facts t (c .before) .slot, p .0, p .1)
 
 survey-range-add-word : (t : ℕ) → survey-range-lts.Need-add-word (calls t) (survey-range-at t) survey-range.Post survey-range-Inv-loop survey-range-μ-loop
-survey-range-add-word t c = let p = c .before .before .before .before .before .before .before .pre .1 in omega (arith, facts t (c .before) .slot, p .0, p .1)
+survey-range-add-word t c = let p = start-of-chunk (c .before) .pre .1 in omega (arith, facts t (c .before) .slot, p .0, p .1)
 
 survey-range-mul-word-2 : (t : ℕ) → survey-range-lts.Need-mul-word-2 (calls t) (survey-range-at t) survey-range.Post survey-range-Inv-loop survey-range-μ-loop
-survey-range-mul-word-2 t c = let p = c .before .before .before .before .before .before .before .pre .1 in omega (arith, facts t (c .before) .slot, p .0, p .1)
+survey-range-mul-word-2 t c = let p = start-of-chunk (c .before) .pre .1 in omega (arith, facts t (c .before) .slot, p .0, p .1)
 
 survey-range-shared-slice-read-word : (t : ℕ) → survey-range-lts.Need-shared-slice-read-word (calls t) (survey-range-at t) survey-range.Post survey-range-Inv-loop survey-range-μ-loop
-survey-range-shared-slice-read-word t c = let p = c .before .before .before .before .before .before .before .before .pre .1 in omega (arith, facts t (c .before .before) .slot, p .0, p .1)
+survey-range-shared-slice-read-word t c = let p = start-of-chunk (c .before .before) .pre .1 in omega (arith, facts t (c .before .before) .slot, p .0, p .1)
 
 survey-range-subtable-requires : (t : ℕ) → survey-range-lts.Need-subtable-requires (calls t) (survey-range-at t) survey-range.Post survey-range-Inv-loop survey-range-μ-loop
 survey-range-subtable-requires t c κs = tt
@@ -140,7 +144,7 @@ survey-range-loop-less t c = let f = facts t (c .before .before .before .before 
 
 survey-range-loop-again : (t : ℕ) → survey-range-lts.Need-loop-again (calls t) (survey-range-at t) survey-range.Post survey-range-Inv-loop survey-range-μ-loop
 survey-range-loop-again t c =
-    let a = c .before .before .before .before .before .before .before .before .before .before .before .args in
+    let a = start-of-chunk (c .before .before .before .before .before) .args in
     let f = facts t (c .before .before .before .before .before) in
     let s = st (a .words .now) (a .ledger .now) in
     let r = region (c .before .before .before .before .before .before .before .before .loop .at) (c .before .before .before .before .before .before .chunk-end .result) in
@@ -156,8 +160,8 @@ survey-range-loop-less-2 t c = let f = facts t (c .before .before .before .befor
 
 survey-range-loop-again-2 : (t : ℕ) → survey-range-lts.Need-loop-again-2 (calls t) (survey-range-at t) survey-range.Post survey-range-Inv-loop survey-range-μ-loop
 survey-range-loop-again-2 t c =
-    let a = c .before .before .before .before .before .before .before .before .before .before .before .before .before .args in
     let place = c .before .before .before .before .before .before .before in
+    let a = start-of-chunk place .args in
     let f = facts t place in
     let s = st (a .words .now) (a .ledger .now) in
     let seen = place .before .before .before .loop .seen in
@@ -173,7 +177,7 @@ survey-range-add-survey-range t c =
 
 survey-range-survey-range-requires : (t : ℕ) → survey-range-lts.Need-survey-range-requires (calls t) (survey-range-at t) survey-range.Post survey-range-Inv-loop survey-range-μ-loop
 survey-range-survey-range-requires t c κs =
-    let p = c .before .before .before .before .before .before .before .before .before .before .before .before .pre in
+    let p = start-of-chunk (c .before .before .before .before .before .before) .pre in
     let found = sub-found _ _ _ _ _ (sym (c .before .before .before .subtable .ensures) ∙ c .before .kind .given .1) in
     let room = subst⁻¹ (λ (e : Edit). Room (e .region) (c .before .before .before .before .before .before .before .before .before .loop .seen)) (c .before .before .before .before .before .chunk-edit .ensures) (facts t (c .before .before .before .before .before .before) .room) in
     (omega (arith, found .high, p .0), (p .1 .0, found .below, omega (arith, found .high), room))
@@ -183,8 +187,8 @@ survey-range-loop-less-3 t c = let f = facts t (c .before .before .before .befor
 
 survey-range-loop-again-3 : (t : ℕ) → survey-range-lts.Need-loop-again-3 (calls t) (survey-range-at t) survey-range.Post survey-range-Inv-loop survey-range-μ-loop
 survey-range-loop-again-3 t c =
-    let a = c .before .before .before .before .before .before .before .before .before .before .before .before .before .args in
     let place = c .before .before .before .before .before .before .before in
+    let a = start-of-chunk place .args in
     let f = facts t place in
     let s = st (a .words .now) (a .ledger .now) in
     let seen = place .before .before .before .loop .seen in

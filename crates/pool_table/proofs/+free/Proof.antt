@@ -46,6 +46,19 @@ free-Inv-loop words₀ ledger₀ handle k level i₀ words ledger i =
 abbrev free-μ-loop : free-lts.MeasureT-loop
 free-μ-loop words₀ ledger₀ handle k level i₀ words ledger i = 512 - i
 
+-- ways back: from where a table below is told to the loop's head and to the start; to the start from the returns
+abbrev loop-of-told : {t : ℕ} → free-lts.After-kind (calls t) (free-at t) free.Post free-Inv-loop free-μ-loop → free-lts.At-loop (calls t) (free-at t) free.Post free-Inv-loop free-μ-loop
+loop-of-told c = c .before .before .before .before .before
+
+abbrev start-of-told : {t : ℕ} → free-lts.After-kind (calls t) (free-at t) free.Post free-Inv-loop free-μ-loop → free-lts.Start (calls t) (free-at t) free.Post free-Inv-loop free-μ-loop
+start-of-told c = loop-of-told c .before .before .before .before
+
+abbrev start-of-returns : {t : ℕ} → free-lts.After-slice-known4 (calls t) (free-at t) free.Post free-Inv-loop free-μ-loop → free-lts.Start (calls t) (free-at t) free.Post free-Inv-loop free-μ-loop
+start-of-returns c = c .before .before .before .before .before .before .before .before .before .before
+
+abbrev start-of-returns-2 : {t : ℕ} → free-lts.After-slice-known9 (calls t) (free-at t) free.Post free-Inv-loop free-μ-loop → free-lts.Start (calls t) (free-at t) free.Post free-Inv-loop free-μ-loop
+start-of-returns-2 c = c .before .before .before .before .before .before .before .before .before .before .before .before
+
 free-clear-table-requires : (t : ℕ) → free-lts.Need-clear-table-requires (calls t) (free-at t) free.Post free-Inv-loop free-μ-loop
 free-clear-table-requires t c κs = let p = c .before .before .before .before .before .pre .1 in (p .0, p .1)
 
@@ -57,7 +70,7 @@ free-same-length-2 t c = c .before .before .before .before .clear-table .kept .1
 
 free-returns : (t : ℕ) → free-lts.Need-returns (calls t) (free-at t) free.Post free-Inv-loop free-μ-loop
 free-returns t c =
-    let a = c .before .before .before .before .before .before .before .before .before .before .args in
+    let a = start-of-returns c .args in
     c .before .before .before .before .clear-table .ensures ∙ free-last (a .handle) (a .k) (a .level) (st (a .words .now) (a .ledger .now)) (omega arith)
 
 free-loop-holds : (t : ℕ) → free-lts.Need-loop-holds (calls t) (free-at t) free.Post free-Inv-loop free-μ-loop
@@ -109,8 +122,8 @@ free-free-requires : (t : ℕ) → free-lts.Need-free-requires (calls t) (free-a
 free-free-requires t c κs =
     let told = c .before .before .before in
     let found = sub-found _ _ _ _ _ (sym (told .before .before .subtable .ensures) ∙ told .kind .given .1) in
-    let inv = c .before .before .before .before .before .before .before .before .loop .inv in
-    let p = c .before .before .before .before .before .before .before .before .before .before .before .before .pre in
+    let inv = loop-of-told told .loop .inv in
+    let p = start-of-told told .pre in
     let low = lower (p .0) (found .high) in
     (low .0, (inv .1 ∙ p .1 .0 ∙ ap (λ (n : ℕ). 512 * n) (sym (inv .2)), found .below, low .1))
 
@@ -119,15 +132,15 @@ free-loop-less-2 t c = omega arith
 
 free-loop-again-2 : (t : ℕ) → free-lts.Need-loop-again-2 (calls t) (free-at t) free.Post free-Inv-loop free-μ-loop
 free-loop-again-2 t c =
-    let at = c .before .before .before .before .before .before .before .before .before .before .before .before .before in
-    let a = c .before .before .before .before .before .before .before .before .before .before .before .before .before .before .before .before .before .args in
+    let at = loop-of-told (c .before .before .before .before .before .before .before .before) in
+    let a = at .before .before .before .before .args in
     let s = st (at .loop .words) (at .loop .ledger) in
     let called = c .before .before .before .before in (
-      omega (arith, c .before .before .before .before .before .before .before .before .before .before .before .before .loop-test .taken),
+      omega (arith, called .before .before .before .before .before .before .before .before .loop-test .taken),
       called .free .kept .0 ∙ at .loop .inv .1,
       called .free .kept .1 .0 ∙ at .loop .inv .2,
       iter-step (freeSlot (below (a .level) (a .handle)) (a .handle) (a .k) (a .level)) (at .loop .i) (st (a .words .now) (a .ledger .now)) (at .loop .inv .3)
-          (called .free .ensures ∙ slot-table (below (a .level) (a .handle)) (a .handle) (a .k) (a .level) (at .loop .i) s (c .before .before .before .before .before .before .before .before .before .before .subtable .ensures) _ (c .before .before .before .before .before .before .before .before .kind .given .1)),
+          (called .free .ensures ∙ slot-table (below (a .level) (a .handle)) (a .handle) (a .k) (a .level) (at .loop .i) s (called .before .before .before .before .before .before .subtable .ensures) _ (c .before .before .before .before .before .before .before .before .kind .given .1)),
     )
 
 free-clear-table-requires-2 : (t : ℕ) → free-lts.Need-clear-table-requires-2 (calls t) (free-at t) free.Post free-Inv-loop free-μ-loop
@@ -145,7 +158,7 @@ free-same-length-4 t c = c .before .before .before .before .clear-table2 .kept .
 free-returns-2 : (t : ℕ) → free-lts.Need-returns-2 (calls t) (free-at t) free.Post free-Inv-loop free-μ-loop
 free-returns-2 t c =
     let at = c .before .before .before .before .before .before .before .before in
-    let a = c .before .before .before .before .before .before .before .before .before .before .before .before .args in
+    let a = start-of-returns-2 c .args in
     let all : at .loop .i ≡ 512 = omega arith in
     c .before .before .before .before .clear-table2 .ensures
     ∙ ap (clear (a .k)) (rw all at (at .loop .inv .3))

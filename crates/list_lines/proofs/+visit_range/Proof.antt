@@ -15,9 +15,9 @@ use Rattle.list_lines.specs.Lines.{Line, line, each, numbers, linesFrom,
 use Prim.Native.Nat.{ℕ, _<_}
 use borrow.Fn.Kinds.{In}
 use borrow.Fn.PlainCycle.{Measures, is, falls, and}
-use Rattle.list_lines.proofs.visit_range.Reads as visit-range
-use Rattle.list_lines.proofs.visit_range.Kinds as visit-range-kinds
-use Rattle.list_lines.proofs.+visit_range.Lts-visit_range as visit-range-lts
+use Rattle.list_lines.proofs.visit_range.Reads as reads
+use Rattle.list_lines.proofs.visit_range.Kinds as kinds
+use Rattle.list_lines.proofs.+visit_range.Lts-visit_range as lts
 use Rattle.entry.proofs.subtable.Reads as subtable-reads
 use Rattle.region.proofs.ChunkedIterator.next.Reads as next-reads
 use Rattle.region.proofs.MemoryRegion.split.Reads as split-reads
@@ -26,32 +26,32 @@ use Rattle.list_lines.proofs.put_line.Reads as put-line-reads
 use Rattle.list_lines.proofs.+visit_range.{statement}
 use Rattle.list_lines.proofs.+visit_range.Tie.{close}
 
-abbrev μ-visit-range : Measures 2 visit-range-kinds.ps ℕ
-μ-visit-range κs a = 3 - a .1 .1 .1 .1 .0
+abbrev μ : Measures 2 kinds.ps ℕ
+μ κs a = 3 - a .1 .1 .1 .1 .0
 
-abbrev visit-range-at : ℕ → In 2 visit-range-kinds.ps
-visit-range-at t =
-    and 2 visit-range-kinds.ps (is 2 visit-range-kinds.ps μ-visit-range t) visit-range.Pre
+abbrev started : ℕ → In 2 kinds.ps
+started t =
+    and 2 kinds.ps (is 2 kinds.ps μ t) reads.Pre
 
-abbrev visit-range-below : ℕ → In 2 visit-range-kinds.ps
-visit-range-below t =
-    and 2 visit-range-kinds.ps (falls 2 visit-range-kinds.ps _<_ μ-visit-range t) visit-range.Pre
+abbrev fewer : ℕ → In 2 kinds.ps
+fewer t =
+    and 2 kinds.ps (falls 2 kinds.ps _<_ μ t) reads.Pre
 
-abbrev calls : ℕ → visit-range-lts.Claims
-calls t = (split-reads.Asked, split-reads.Learnt, next-reads.Asked, next-reads.Learnt, get-entry-reads.Asked, get-entry-reads.Learnt, subtable-reads.Asked, subtable-reads.Learnt, put-line-reads.Asked, put-line-reads.Learnt, visit-range-below t, visit-range.Post)
+abbrev calls : ℕ → lts.Claims
+calls t = (split-reads.Asked, split-reads.Learnt, next-reads.Asked, next-reads.Learnt, get-entry-reads.Asked, get-entry-reads.Learnt, subtable-reads.Asked, subtable-reads.Learnt, put-line-reads.Asked, put-line-reads.Learnt, fewer t, reads.Post)
 
-abbrev visit-range-Inv-loop : visit-range-lts.InvT-loop
-visit-range-Inv-loop words tables handle k level list₀ from to₀ rest₀ list to rest =
+abbrev Inv-loop : lts.InvT-loop
+Inv-loop words tables handle k level list₀ from to₀ rest₀ list to rest =
     (to + 4 * length (each (linesAt (handle .base .0) tables words k level) (chunksOf rest)) ≡ from + 4 * length (each (linesAt (handle .base .0) tables words k level) (chunksOf rest₀)))
     × (length list ≡ length list₀)
     × (putPart to (numbers (each (linesAt (handle .base .0) tables words k level) (chunksOf rest))) list
     ≡ putPart from (numbers (each (linesAt (handle .base .0) tables words k level) (chunksOf rest₀))) list₀)
 
-abbrev visit-range-μ-loop : visit-range-lts.MeasureT-loop
-visit-range-μ-loop words tables handle k level list₀ from to₀ rest₀ list to rest = length (chunksOf rest)
+abbrev μ-loop : lts.MeasureT-loop
+μ-loop words tables handle k level list₀ from to₀ rest₀ list to rest = length (chunksOf rest)
 
 -- all the lines, by the chunks at entry
-all : {t : ℕ} (c : visit-range-lts.After-split (calls t) (visit-range-at t) visit-range.Post visit-range-Inv-loop visit-range-μ-loop) → let a = c .before .before .before .args in
+all : {t : ℕ} (c : lts.After-split (calls t) (started t) reads.Post Inv-loop μ-loop) → let a = c .before .before .before .args in
     linesFrom (a .handle .base .0) (a .tables) (a .words .now) (3 - a .level) (a .k) (a .region) ≡ each (linesAt (a .handle .base .0) (a .tables) (a .words .now) (a .k) (a .level)) (chunksOf (c .split .result))
 all c =
     let a = c .before .before .before .args in
@@ -60,13 +60,13 @@ all c =
 
 -- a chunk, once its entry is known
 abbrev Asked : ℕ → Type 0
-Asked t = visit-range-lts.After-subtable (calls t) (visit-range-at t) visit-range.Post visit-range-Inv-loop visit-range-μ-loop
+Asked t = lts.After-subtable (calls t) (started t) reads.Post Inv-loop μ-loop
 
 -- ways back from where a chunk's entry is known: to the start, and to the loop's head
-abbrev start-of-asked : {t : ℕ} → Asked t → visit-range-lts.Start (calls t) (visit-range-at t) visit-range.Post visit-range-Inv-loop visit-range-μ-loop
+abbrev start-of-asked : {t : ℕ} → Asked t → lts.Start (calls t) (started t) reads.Post Inv-loop μ-loop
 start-of-asked c = c .before .before .before .before .before .before .before .before .before .before
 
-abbrev loop-of-asked : {t : ℕ} → Asked t → visit-range-lts.At-loop (calls t) (visit-range-at t) visit-range.Post visit-range-Inv-loop visit-range-μ-loop
+abbrev loop-of-asked : {t : ℕ} → Asked t → lts.At-loop (calls t) (started t) reads.Post Inv-loop μ-loop
 loop-of-asked c = c .before .before .before .before .before .before
 
 -- the chunk, and those after it
@@ -92,27 +92,27 @@ room c =
     let inv = loop-of-asked c .loop .inv in
     omega (arith, inv .0, inv .1, ap length (all (loop-of-asked c .before)), start-of-asked c .pre .1 .3)
 
-visit-range-split-requires : (t : ℕ) → visit-range-lts.Need-split-requires (calls t) (visit-range-at t) visit-range.Post visit-range-Inv-loop visit-range-μ-loop
-visit-range-split-requires t c κs = omega arith
+split-requires : (t : ℕ) → lts.Need-split-requires (calls t) (started t) reads.Post Inv-loop μ-loop
+split-requires t c κs = omega arith
 
-visit-range-loop-holds : (t : ℕ) → visit-range-lts.Need-loop-holds (calls t) (visit-range-at t) visit-range.Post visit-range-Inv-loop visit-range-μ-loop
-visit-range-loop-holds t c = (refl, refl, refl)
+loop-holds : (t : ℕ) → lts.Need-loop-holds (calls t) (started t) reads.Post Inv-loop μ-loop
+loop-holds t c = (refl, refl, refl)
 
-visit-range-next-requires : (t : ℕ) → visit-range-lts.Need-next-requires (calls t) (visit-range-at t) visit-range.Post visit-range-Inv-loop visit-range-μ-loop
-visit-range-next-requires t c κs = omega arith
+next-requires : (t : ℕ) → lts.Need-next-requires (calls t) (started t) reads.Post Inv-loop μ-loop
+next-requires t c κs = omega arith
 
-visit-range-enum-known-next : (t : ℕ) → visit-range-lts.Need-enum-known-next (calls t) (visit-range-at t) visit-range.Post visit-range-Inv-loop visit-range-μ-loop
-visit-range-enum-known-next t c = c .match .keys1
+enum-known-next : (t : ℕ) → lts.Need-enum-known-next (calls t) (started t) reads.Post Inv-loop μ-loop
+enum-known-next t c = c .match .keys1
 
-visit-range-enum-told : (t : ℕ) → visit-range-lts.Need-enum-told (calls t) (visit-range-at t) visit-range.Post visit-range-Inv-loop visit-range-μ-loop
-visit-range-enum-told t c = omega arith
+enum-told : (t : ℕ) → lts.Need-enum-told (calls t) (started t) reads.Post Inv-loop μ-loop
+enum-told t c = omega arith
 
-visit-range-same-length : (t : ℕ) → visit-range-lts.Need-same-length (calls t) (visit-range-at t) visit-range.Post visit-range-Inv-loop visit-range-μ-loop
-visit-range-same-length t c = c .before .before .before .loop .inv .1
+same-length : (t : ℕ) → lts.Need-same-length (calls t) (started t) reads.Post Inv-loop μ-loop
+same-length t c = c .before .before .before .loop .inv .1
 
-visit-range-returns : (t : ℕ) → visit-range-lts.Need-returns (calls t) (visit-range-at t) visit-range.Post visit-range-Inv-loop visit-range-μ-loop
+returns : (t : ℕ) → lts.Need-returns (calls t) (started t) reads.Post Inv-loop μ-loop
 unfolding writeLines
-visit-range-returns t c =
+returns t c =
     let at = c .before .before .before in
     let a = at .before .before .before .before .args in
     let f = linesAt (a .handle .base .0) (a .tables) (a .words .now) (a .k) (a .level) in
@@ -122,55 +122,55 @@ visit-range-returns t c =
     ap₂ written to (sym (write-done f (at .loop .to) (at .loop .list) none) ∙ at .loop .inv .2)
     ∙ ap (λ (ls : List Line). writeLines (a .from) ls (a .list .now)) (sym (all (at .before)))
 
-visit-range-get-entry-requires : (t : ℕ) → visit-range-lts.Need-get-entry-requires (calls t) (visit-range-at t) visit-range.Post visit-range-Inv-loop visit-range-μ-loop
-visit-range-get-entry-requires t c κs = omega arith
+get-entry-requires : (t : ℕ) → lts.Need-get-entry-requires (calls t) (started t) reads.Post Inv-loop μ-loop
+get-entry-requires t c κs = omega arith
 
-visit-range-subtable-requires : (t : ℕ) → visit-range-lts.Need-subtable-requires (calls t) (visit-range-at t) visit-range.Post visit-range-Inv-loop visit-range-μ-loop
-visit-range-subtable-requires t c κs = omega arith
+subtable-requires : (t : ℕ) → lts.Need-subtable-requires (calls t) (started t) reads.Post Inv-loop μ-loop
+subtable-requires t c κs = omega arith
 
-visit-range-enum-known-kind : (t : ℕ) → visit-range-lts.Need-enum-known-kind (calls t) (visit-range-at t) visit-range.Post visit-range-Inv-loop visit-range-μ-loop
-visit-range-enum-known-kind t c = c .match2 .keys1
+enum-known-kind : (t : ℕ) → lts.Need-enum-known-kind (calls t) (started t) reads.Post Inv-loop μ-loop
+enum-known-kind t c = c .match2 .keys1
 
-visit-range-put-line-requires : (t : ℕ) → visit-range-lts.Need-put-line-requires (calls t) (visit-range-at t) visit-range.Post visit-range-Inv-loop visit-range-μ-loop
-visit-range-put-line-requires t c κs =
+put-line-requires : (t : ℕ) → lts.Need-put-line-requires (calls t) (started t) reads.Post Inv-loop μ-loop
+put-line-requires t c κs =
     let s = c .before .before in
     omega (arith, step s (one s (no-table _ (c .before .match2 .keys2))), room s)
 
-visit-range-add-to : (t : ℕ) → visit-range-lts.Need-add-to (calls t) (visit-range-at t) visit-range.Post visit-range-Inv-loop visit-range-μ-loop
-visit-range-add-to t c =
+add-to : (t : ℕ) → lts.Need-add-to (calls t) (started t) reads.Post Inv-loop μ-loop
+add-to t c =
     let s = c .before .before .before .before .before in
     omega (arith, step s (one s (no-table _ (c .before .before .before .before .match2 .keys2))), room s, loop-of-asked s .loop .inv .1, start-of-asked s .good .1 .1 .1 .1 .1 .1 .0 .0)
 
-visit-range-loop-less : (t : ℕ) → visit-range-lts.Need-loop-less (calls t) (visit-range-at t) visit-range.Post visit-range-Inv-loop visit-range-μ-loop
-visit-range-loop-less t c = let e = ap length (cut (c .before .before .before .before .before)) in omega (arith, e)
+loop-less : (t : ℕ) → lts.Need-loop-less (calls t) (started t) reads.Post Inv-loop μ-loop
+loop-less t c = let e = ap length (cut (c .before .before .before .before .before)) in omega (arith, e)
 
-visit-range-loop-again : (t : ℕ) → visit-range-lts.Need-loop-again (calls t) (visit-range-at t) visit-range.Post visit-range-Inv-loop visit-range-μ-loop
-visit-range-loop-again t c =
+loop-again : (t : ℕ) → lts.Need-loop-again (calls t) (started t) reads.Post Inv-loop μ-loop
+loop-again t c =
     let s = c .before .before .before .before .before in
     let at = loop-of-asked s .loop in
     let a = start-of-asked s .args in
     let lines = one s (no-table _ (c .before .before .before .before .match2 .keys2)) in
     (omega (arith, at .inv .0, step s lines), omega arith, write-step (linesAt (a .handle .base .0) (a .tables) (a .words .now) (a .k) (a .level)) _ (cut s) lines (at .to) (at .list) (room s) refl (c .before .before .put-line .ensures) ∙ at .inv .2)
 
-visit-range-add-visit-range : (t : ℕ) → visit-range-lts.Need-add-visit-range (calls t) (visit-range-at t) visit-range.Post visit-range-Inv-loop visit-range-μ-loop
-visit-range-add-visit-range t c =
+add-visit-range : (t : ℕ) → lts.Need-add-visit-range (calls t) (started t) reads.Post Inv-loop μ-loop
+add-visit-range t c =
     let found = sub-found _ _ _ _ _ (sym (c .before .before .before .subtable .ensures) ∙ c .before .kind .given .1) in
     omega (arith, found .high)
 
-visit-range-visit-range-requires : (t : ℕ) → visit-range-lts.Need-visit-range-requires (calls t) (visit-range-at t) visit-range.Post visit-range-Inv-loop visit-range-μ-loop
-visit-range-visit-range-requires t c κs =
+visit-range-requires : (t : ℕ) → lts.Need-visit-range-requires (calls t) (started t) reads.Post Inv-loop μ-loop
+visit-range-requires t c κs =
     let s = c .before .before .before .before in
     let p = start-of-asked s .pre in
     let table = c .before .before .kind .given .1 in
     let found = sub-found _ _ _ _ _ (sym (s .subtable .ensures) ∙ table) in
     (omega (arith, found .high, p .0), (p .1 .0, found .below, omega (arith, found .high), omega (arith, step s (below s _ table), room s)))
 
-visit-range-loop-less-2 : (t : ℕ) → visit-range-lts.Need-loop-less-2 (calls t) (visit-range-at t) visit-range.Post visit-range-Inv-loop visit-range-μ-loop
-visit-range-loop-less-2 t c = let e = ap length (cut (c .before .before .before .before .before .before .before)) in omega (arith, e)
+loop-less-2 : (t : ℕ) → lts.Need-loop-less-2 (calls t) (started t) reads.Post Inv-loop μ-loop
+loop-less-2 t c = let e = ap length (cut (c .before .before .before .before .before .before .before)) in omega (arith, e)
 
-visit-range-loop-again-2 : (t : ℕ) → visit-range-lts.Need-loop-again-2 (calls t) (visit-range-at t) visit-range.Post visit-range-Inv-loop visit-range-μ-loop
+loop-again-2 : (t : ℕ) → lts.Need-loop-again-2 (calls t) (started t) reads.Post Inv-loop μ-loop
 unfolding writeLines
-visit-range-loop-again-2 t c =
+loop-again-2 t c =
     let s = c .before .before .before .before .before .before .before in
     let at = loop-of-asked s .loop in
     let a = start-of-asked s .args in
@@ -180,26 +180,26 @@ visit-range-loop-again-2 t c =
     (omega (arith, at .inv .0, step s lines, to), omega arith, write-step (linesAt (a .handle .base .0) (a .tables) (a .words .now) (a .k) (a .level)) _ (cut s) lines (at .to) (at .list) (room s) to list ∙ at .inv .2)
 
 pub +visit-range-spec : {M : Type 1} → statement M
-+visit-range-spec = close μ-visit-range λ t. visit-range-lts.spec (calls t)
-    (visit-range-at t)
-    visit-range.Post
-    visit-range-Inv-loop
-    visit-range-μ-loop
-    (visit-range-split-requires t)
-    (visit-range-loop-holds t)
-    (visit-range-next-requires t)
-    (visit-range-enum-known-next t)
-    (visit-range-enum-told t)
-    (visit-range-same-length t)
-    (visit-range-returns t)
-    (visit-range-get-entry-requires t)
-    (visit-range-subtable-requires t)
-    (visit-range-enum-known-kind t)
-    (visit-range-put-line-requires t)
-    (visit-range-add-to t)
-    (visit-range-loop-less t)
-    (visit-range-loop-again t)
-    (visit-range-add-visit-range t)
-    (visit-range-visit-range-requires t)
-    (visit-range-loop-less-2 t)
-    (visit-range-loop-again-2 t)
++visit-range-spec = close μ λ t. lts.spec (calls t)
+    (started t)
+    reads.Post
+    Inv-loop
+    μ-loop
+    (split-requires t)
+    (loop-holds t)
+    (next-requires t)
+    (enum-known-next t)
+    (enum-told t)
+    (same-length t)
+    (returns t)
+    (get-entry-requires t)
+    (subtable-requires t)
+    (enum-known-kind t)
+    (put-line-requires t)
+    (add-to t)
+    (loop-less t)
+    (loop-again t)
+    (add-visit-range t)
+    (visit-range-requires t)
+    (loop-less-2 t)
+    (loop-again-2 t)

@@ -19,9 +19,9 @@ use Rattle.map_count_leaf.proofs.Tags.{no-down}
 use Prim.Native.Nat.{ℕ, _<_}
 use borrow.Fn.Kinds.{In}
 use borrow.Fn.PlainCycle.{Measures, is, falls, and}
-use Rattle.map_count.proofs.count_new.Reads as count-new
-use Rattle.map_count.proofs.count_new.Kinds as count-new-kinds
-use Rattle.map_count.proofs.+count_new.Lts-count_new as count-new-lts
+use Rattle.map_count.proofs.count_new.Reads as reads
+use Rattle.map_count.proofs.count_new.Kinds as kinds
+use Rattle.map_count.proofs.+count_new.Lts-count_new as lts
 use Rattle.entry.proofs.subtable.Reads as subtable-reads
 use Rattle.map_count.proofs.count_last.Reads as count-last-reads
 use Rattle.map_count_leaf.proofs.count_entry.Reads as count-entry-reads
@@ -32,41 +32,41 @@ use Rattle.address_slot.proofs.entry_index.Reads as entry-index-reads
 use Rattle.map_count.proofs.+count_new.{statement}
 use Rattle.map_count.proofs.+count_new.Tie.{close}
 
-abbrev μ-count-new : Measures 2 count-new-kinds.ps ℕ
-μ-count-new κs a = 3 - a .1 .1 .1 .1 .0
+abbrev μ : Measures 2 kinds.ps ℕ
+μ κs a = 3 - a .1 .1 .1 .1 .0
 
-abbrev count-new-at : ℕ → In 2 count-new-kinds.ps
-count-new-at t =
-    and 2 count-new-kinds.ps (is 2 count-new-kinds.ps μ-count-new t) count-new.Pre
+abbrev started : ℕ → In 2 kinds.ps
+started t =
+    and 2 kinds.ps (is 2 kinds.ps μ t) reads.Pre
 
-abbrev count-new-below : ℕ → In 2 count-new-kinds.ps
-count-new-below t =
+abbrev fewer : ℕ → In 2 kinds.ps
+fewer t =
     and
     2
-    count-new-kinds.ps
-    (falls 2 count-new-kinds.ps _<_ μ-count-new t)
-    count-new.Pre
+    kinds.ps
+    (falls 2 kinds.ps _<_ μ t)
+    reads.Pre
 
-abbrev calls : ℕ → count-new-lts.Claims
-calls t = (count-last-reads.Asked, count-last-reads.Learnt, chunk-end-reads.Asked, chunk-end-reads.Learnt, entry-index-reads.Asked, entry-index-reads.Learnt, subtable-reads.Asked, subtable-reads.Learnt, count-entry-reads.Asked, count-entry-reads.Learnt, chunk-of-reads.Asked, chunk-of-reads.Learnt, rule-of-reads.Asked, rule-of-reads.Learnt, count-new-below t, count-new.Post)
+abbrev calls : ℕ → lts.Claims
+calls t = (count-last-reads.Asked, count-last-reads.Learnt, chunk-end-reads.Asked, chunk-end-reads.Learnt, entry-index-reads.Asked, entry-index-reads.Learnt, subtable-reads.Asked, subtable-reads.Learnt, count-entry-reads.Asked, count-entry-reads.Learnt, chunk-of-reads.Asked, chunk-of-reads.Learnt, rule-of-reads.Asked, rule-of-reads.Learnt, fewer t, reads.Post)
 
-abbrev count-new-Inv-loop : count-new-lts.InvT-loop
-count-new-Inv-loop words ledger handle k level map end at₀ frame₀ count₀ at frame count =
+abbrev Inv-loop : lts.InvT-loop
+Inv-loop words ledger handle k level map end at₀ frame₀ count₀ at frame count =
     (at ≤ map .region .end .0) × (at % 4096 ≡ 0) × (frame % 4096 ≡ 0) × (frame + (map .region .end .0 - at) ≤ 2 ^ 48)
     × (count + sumChunks level (countAt handle (st words ledger) k level) (chunkMap map (region at (map .region .end .0)) frame) ≡ sumChunks level (countAt handle (st words ledger) k level) map)
 
-abbrev count-new-μ-loop : count-new-lts.MeasureT-loop
-count-new-μ-loop words ledger handle k level map end at₀ frame₀ count₀ at frame count = map .region .end .0 - at
+abbrev μ-loop : lts.MeasureT-loop
+μ-loop words ledger handle k level map end at₀ frame₀ count₀ at frame count = map .region .end .0 - at
 
 -- a chunk, once its end and its slot are known
 abbrev Place : ℕ → Type 0
-Place t = count-new-lts.After-entry-index (calls t) (count-new-at t) count-new.Post count-new-Inv-loop count-new-μ-loop
+Place t = lts.After-entry-index (calls t) (started t) reads.Post Inv-loop μ-loop
 
 -- ways back: from a chunk to the start; to the chunk from after the call of the function itself
-abbrev start-of-chunk : {t : ℕ} → Place t → count-new-lts.Start (calls t) (count-new-at t) count-new.Post count-new-Inv-loop count-new-μ-loop
+abbrev start-of-chunk : {t : ℕ} → Place t → lts.Start (calls t) (started t) reads.Post Inv-loop μ-loop
 start-of-chunk c = c .before .before .before .before .before .before .before .before
 
-abbrev chunk-of-lower : {t : ℕ} → count-new-lts.After-count-new (calls t) (count-new-at t) count-new.Post count-new-Inv-loop count-new-μ-loop → Place t
+abbrev chunk-of-lower : {t : ℕ} → lts.After-count-new (calls t) (started t) reads.Post Inv-loop μ-loop → Place t
 chunk-of-lower c = c .before .before .before .before .before .before .before .before .before .before
 
 -- the chunk's own map, and what remains after it
@@ -137,147 +137,147 @@ adds : (t : ℕ) (c : Place t) (n : ℕ) → counts t c (chunkOf t c) ≡ n → 
 adds t c n e = let f = facts t c in omega (arith, f .next, f .most)
 
 -- the rule of the chunk, and what the tables below it need
-ruled : (t : ℕ) (c : count-new-lts.After-rule-of (calls t) (count-new-at t) count-new.Post count-new-Inv-loop count-new-μ-loop) (w : ℕ)
+ruled : (t : ℕ) (c : lts.After-rule-of (calls t) (started t) reads.Post Inv-loop μ-loop) (w : ℕ)
     → c .rule-of .result ≡ ruleOf (start-of-chunk (c .before .before .before .before .before .before .before) .args .level) (c .before .chunk-of .result) w → c .rule-of .result ≡ ruleOf (start-of-chunk (c .before .before .before .before .before .before .before) .args .level) (chunkOf t (c .before .before .before .before .before .before .before)) w
 ruled t c w e = e ∙ ap (λ (m : Map). ruleOf (start-of-chunk (c .before .before .before .before .before .before .before) .args .level) m w) (c .before .chunk-of .ensures)
 
-lower : (t : ℕ) (c : count-new-lts.After-count-new (calls t) (count-new-at t) count-new.Post count-new-Inv-loop count-new-μ-loop) (j : ℕ)
+lower : (t : ℕ) (c : lts.After-count-new (calls t) (started t) reads.Post Inv-loop μ-loop) (j : ℕ)
     → let a = start-of-chunk (chunk-of-lower c) .args in let s = st (a .words .now) (a .ledger .now) in
     c .count-new .result ≡ closed (3 - (a .level + 1)) (a .handle) s j (c .before .before .before .before .chunk-of .result) → c .count-new .result ≡ closed (3 - (a .level + 1)) (a .handle) s j (chunkOf t (chunk-of-lower c))
 lower t c j e = let a = start-of-chunk (chunk-of-lower c) .args in e ∙ ap (λ (m : Map). closed (3 - (a .level + 1)) (a .handle) (st (a .words .now) (a .ledger .now)) j m) (c .before .before .before .before .chunk-of .ensures)
 
-count-new-returns : (t : ℕ) → count-new-lts.Need-returns (calls t) (count-new-at t) count-new.Post count-new-Inv-loop count-new-μ-loop
-count-new-returns t c = let a = c .before .before .before .args in closed-done (a .handle) (st (a .words .now) (a .ledger .now)) (a .k) (a .level) (a .map) (omega arith)
+returns : (t : ℕ) → lts.Need-returns (calls t) (started t) reads.Post Inv-loop μ-loop
+returns t c = let a = c .before .before .before .args in closed-done (a .handle) (st (a .words .now) (a .ledger .now)) (a .k) (a .level) (a .map) (omega arith)
 
-count-new-count-last-requires : (t : ℕ) → count-new-lts.Need-count-last-requires (calls t) (count-new-at t) count-new.Post count-new-Inv-loop count-new-μ-loop
-count-new-count-last-requires t c κs = let p = c .before .before .before .before .pre .1 in (p .0, p .1, p .3)
+count-last-requires : (t : ℕ) → lts.Need-count-last-requires (calls t) (started t) reads.Post Inv-loop μ-loop
+count-last-requires t c κs = let p = c .before .before .before .before .pre .1 in (p .0, p .1, p .3)
 
-count-new-returns-2 : (t : ℕ) → count-new-lts.Need-returns-2 (calls t) (count-new-at t) count-new.Post count-new-Inv-loop count-new-μ-loop
-count-new-returns-2 t c =
+returns-2 : (t : ℕ) → lts.Need-returns-2 (calls t) (started t) reads.Post Inv-loop μ-loop
+returns-2 t c =
     let a = c .before .before .before .before .before .args in
     c .count-last .ensures ∙ ap (λ (l : ℕ). closed (3 - l) (a .handle) (st (a .words .now) (a .ledger .now)) (a .k) (a .map)) (sym (c .before .if2 .taken))
 
-count-new-loop-holds : (t : ℕ) → count-new-lts.Need-loop-holds (calls t) (count-new-at t) count-new.Post count-new-Inv-loop count-new-μ-loop
-count-new-loop-holds t c = let p = c .before .before .before .before .pre .1 in (p .3 .some, p .3 .from, p .3 .frame, p .3 .room, omega arith)
+loop-holds : (t : ℕ) → lts.Need-loop-holds (calls t) (started t) reads.Post Inv-loop μ-loop
+loop-holds t c = let p = c .before .before .before .before .pre .1 in (p .3 .some, p .3 .from, p .3 .frame, p .3 .room, omega arith)
 
-count-new-chunk-end-requires : (t : ℕ) → count-new-lts.Need-chunk-end-requires (calls t) (count-new-at t) count-new.Post count-new-Inv-loop count-new-μ-loop
-count-new-chunk-end-requires t c κs = omega arith
+chunk-end-requires : (t : ℕ) → lts.Need-chunk-end-requires (calls t) (started t) reads.Post Inv-loop μ-loop
+chunk-end-requires t c κs = omega arith
 
-count-new-entry-index-requires : (t : ℕ) → count-new-lts.Need-entry-index-requires (calls t) (count-new-at t) count-new.Post count-new-Inv-loop count-new-μ-loop
-count-new-entry-index-requires t c κs = omega arith
+entry-index-requires : (t : ℕ) → lts.Need-entry-index-requires (calls t) (started t) reads.Post Inv-loop μ-loop
+entry-index-requires t c κs = omega arith
 
-count-new-sub-frame : (t : ℕ) → count-new-lts.Need-sub-frame (calls t) (count-new-at t) count-new.Post count-new-Inv-loop count-new-μ-loop
-count-new-sub-frame t c = omega (arith, facts t c .above)
+sub-frame : (t : ℕ) → lts.Need-sub-frame (calls t) (started t) reads.Post Inv-loop μ-loop
+sub-frame t c = omega (arith, facts t c .above)
 
-count-new-add-frame : (t : ℕ) → count-new-lts.Need-add-frame (calls t) (count-new-at t) count-new.Post count-new-Inv-loop count-new-μ-loop
-count-new-add-frame t c = let f = facts t (c) in omega (arith, f .above, f .room)
+add-frame : (t : ℕ) → lts.Need-add-frame (calls t) (started t) reads.Post Inv-loop μ-loop
+add-frame t c = let f = facts t (c) in omega (arith, f .above, f .room)
 
-count-new-mul-word : (t : ℕ) → count-new-lts.Need-mul-word (calls t) (count-new-at t) count-new.Post count-new-Inv-loop count-new-μ-loop
-count-new-mul-word t c = let f = facts t (c) in omega (arith, f .slot, start-of-chunk c .pre .1 .0, start-of-chunk c .pre .1 .1)
+mul-word : (t : ℕ) → lts.Need-mul-word (calls t) (started t) reads.Post Inv-loop μ-loop
+mul-word t c = let f = facts t (c) in omega (arith, f .slot, start-of-chunk c .pre .1 .0, start-of-chunk c .pre .1 .1)
 
-count-new-add-word : (t : ℕ) → count-new-lts.Need-add-word (calls t) (count-new-at t) count-new.Post count-new-Inv-loop count-new-μ-loop
-count-new-add-word t c = let f = facts t (c) in omega (arith, f .slot, start-of-chunk c .pre .1 .0, start-of-chunk c .pre .1 .1)
+add-word : (t : ℕ) → lts.Need-add-word (calls t) (started t) reads.Post Inv-loop μ-loop
+add-word t c = let f = facts t (c) in omega (arith, f .slot, start-of-chunk c .pre .1 .0, start-of-chunk c .pre .1 .1)
 
-count-new-mul-word-2 : (t : ℕ) → count-new-lts.Need-mul-word-2 (calls t) (count-new-at t) count-new.Post count-new-Inv-loop count-new-μ-loop
-count-new-mul-word-2 t c = let f = facts t (c) in omega (arith, f .slot, start-of-chunk c .pre .1 .0, start-of-chunk c .pre .1 .1)
+mul-word-2 : (t : ℕ) → lts.Need-mul-word-2 (calls t) (started t) reads.Post Inv-loop μ-loop
+mul-word-2 t c = let f = facts t (c) in omega (arith, f .slot, start-of-chunk c .pre .1 .0, start-of-chunk c .pre .1 .1)
 
-count-new-shared-slice-read-word : (t : ℕ) → count-new-lts.Need-shared-slice-read-word (calls t) (count-new-at t) count-new.Post count-new-Inv-loop count-new-μ-loop
-count-new-shared-slice-read-word t c = let f = facts t (c .before) in omega (arith, f .slot, start-of-chunk (c .before) .pre .1 .0, start-of-chunk (c .before) .pre .1 .1)
+shared-slice-read-word : (t : ℕ) → lts.Need-shared-slice-read-word (calls t) (started t) reads.Post Inv-loop μ-loop
+shared-slice-read-word t c = let f = facts t (c .before) in omega (arith, f .slot, start-of-chunk (c .before) .pre .1 .0, start-of-chunk (c .before) .pre .1 .1)
 
-count-new-subtable-requires : (t : ℕ) → count-new-lts.Need-subtable-requires (calls t) (count-new-at t) count-new.Post count-new-Inv-loop count-new-μ-loop
-count-new-subtable-requires t c κs = omega arith
+subtable-requires : (t : ℕ) → lts.Need-subtable-requires (calls t) (started t) reads.Post Inv-loop μ-loop
+subtable-requires t c κs = omega arith
 
-count-new-enum-known-kind : (t : ℕ) → count-new-lts.Need-enum-known-kind (calls t) (count-new-at t) count-new.Post count-new-Inv-loop count-new-μ-loop
-count-new-enum-known-kind t c = c .match .keys1
+enum-known-kind : (t : ℕ) → lts.Need-enum-known-kind (calls t) (started t) reads.Post Inv-loop μ-loop
+enum-known-kind t c = c .match .keys1
 
-count-new-enum-told : (t : ℕ) → count-new-lts.Need-enum-told (calls t) (count-new-at t) count-new.Post count-new-Inv-loop count-new-μ-loop
-count-new-enum-told t c = c .match2 .keys1
+enum-told : (t : ℕ) → lts.Need-enum-told (calls t) (started t) reads.Post Inv-loop μ-loop
+enum-told t c = c .match2 .keys1
 
-count-new-loop-less : (t : ℕ) → count-new-lts.Need-loop-less (calls t) (count-new-at t) count-new.Post count-new-Inv-loop count-new-μ-loop
-count-new-loop-less t c = omega (arith, facts t (c .before .before .before .before) .above, facts t (c .before .before .before .before) .under)
+loop-less : (t : ℕ) → lts.Need-loop-less (calls t) (started t) reads.Post Inv-loop μ-loop
+loop-less t c = omega (arith, facts t (c .before .before .before .before) .above, facts t (c .before .before .before .before) .under)
 
-count-new-loop-again : (t : ℕ) → count-new-lts.Need-loop-again (calls t) (count-new-at t) count-new.Post count-new-Inv-loop count-new-μ-loop
-count-new-loop-again t c =
+loop-again : (t : ℕ) → lts.Need-loop-again (calls t) (started t) reads.Post Inv-loop μ-loop
+loop-again t c =
     let place = c .before .before .before .before in
     let f = facts t place in
     let a = start-of-chunk place .args in
     let here = entry-outside (a .handle) (st (a .words .now) (a .ledger .now)) (a .k) (a .level) (chunkOf t place) (place .entry-index .ensures) (c .before .before .subtable .ensures) (is-outside (c .before .before .subtable .result) (c .before .match .keys2) (c .match2 .keys2)) in
     (f .under, f .paged, f .framed, f .room, omega (arith, counted t place 0 here))
 
-count-new-count-entry-requires : (t : ℕ) → count-new-lts.Need-count-entry-requires (calls t) (count-new-at t) count-new.Post count-new-Inv-loop count-new-μ-loop
-count-new-count-entry-requires t c κs = let f = facts t (c .before .before .before .before .before) in (f .fit, record { some = f .above; within = f .within }, f .high)
+count-entry-requires : (t : ℕ) → lts.Need-count-entry-requires (calls t) (started t) reads.Post Inv-loop μ-loop
+count-entry-requires t c κs = let f = facts t (c .before .before .before .before .before) in (f .fit, record { some = f .above; within = f .within }, f .high)
 
-count-new-add-count : (t : ℕ) → count-new-lts.Need-add-count (calls t) (count-new-at t) count-new.Post count-new-Inv-loop count-new-μ-loop
-count-new-add-count t c =
+add-count : (t : ℕ) → lts.Need-add-count (calls t) (started t) reads.Post Inv-loop μ-loop
+add-count t c =
     let place = c .before .before .before .before .before .before in
     let f = facts t place in
     let a = start-of-chunk place .args in
     let here = entry-leaf (a .handle) (st (a .words .now) (a .ledger .now)) (a .k) (a .level) (chunkOf t place) (place .entry-index .ensures) (c .before .before .before .before .subtable .ensures) (c .before .enum-told .given .1) (omega (arith, f .high)) in
     omega (arith, adds t place (c .count-entry .result) (here ∙ sym (c .count-entry .ensures)))
 
-count-new-loop-less-2 : (t : ℕ) → count-new-lts.Need-loop-less-2 (calls t) (count-new-at t) count-new.Post count-new-Inv-loop count-new-μ-loop
-count-new-loop-less-2 t c = omega (arith, facts t (c .before .before .before .before .before .before) .above, facts t (c .before .before .before .before .before .before) .under)
+loop-less-2 : (t : ℕ) → lts.Need-loop-less-2 (calls t) (started t) reads.Post Inv-loop μ-loop
+loop-less-2 t c = omega (arith, facts t (c .before .before .before .before .before .before) .above, facts t (c .before .before .before .before .before .before) .under)
 
-count-new-loop-again-2 : (t : ℕ) → count-new-lts.Need-loop-again-2 (calls t) (count-new-at t) count-new.Post count-new-Inv-loop count-new-μ-loop
-count-new-loop-again-2 t c =
+loop-again-2 : (t : ℕ) → lts.Need-loop-again-2 (calls t) (started t) reads.Post Inv-loop μ-loop
+loop-again-2 t c =
     let place = c .before .before .before .before .before .before in
     let f = facts t place in
     let a = start-of-chunk place .args in
     let here = entry-leaf (a .handle) (st (a .words .now) (a .ledger .now)) (a .k) (a .level) (chunkOf t place) (place .entry-index .ensures) (c .before .before .before .before .subtable .ensures) (c .before .enum-told .given .1) (omega (arith, f .high)) in
     (f .under, f .paged, f .framed, f .room, counted t place (c .count-entry .result) (here ∙ sym (c .count-entry .ensures)))
 
-count-new-chunk-of-requires : (t : ℕ) → count-new-lts.Need-chunk-of-requires (calls t) (count-new-at t) count-new.Post count-new-Inv-loop count-new-μ-loop
-count-new-chunk-of-requires t c κs = tt
+chunk-of-requires : (t : ℕ) → lts.Need-chunk-of-requires (calls t) (started t) reads.Post Inv-loop μ-loop
+chunk-of-requires t c κs = tt
 
-count-new-rule-of-requires : (t : ℕ) → count-new-lts.Need-rule-of-requires (calls t) (count-new-at t) count-new.Post count-new-Inv-loop count-new-μ-loop
-count-new-rule-of-requires t c κs = let f = facts t (c .before .before .before .before .before .before) in subst⁻¹ (λ (m : Map). Fit m × (m .region .start .0 < m .region .end .0)) (c .chunk-of .ensures) (f .fit, f .above)
+rule-of-requires : (t : ℕ) → lts.Need-rule-of-requires (calls t) (started t) reads.Post Inv-loop μ-loop
+rule-of-requires t c κs = let f = facts t (c .before .before .before .before .before .before) in subst⁻¹ (λ (m : Map). Fit m × (m .region .start .0 < m .region .end .0)) (c .chunk-of .ensures) (f .fit, f .above)
 
-count-new-enum-told-2 : (t : ℕ) → count-new-lts.Need-enum-told-2 (calls t) (count-new-at t) count-new.Post count-new-Inv-loop count-new-μ-loop
-count-new-enum-told-2 t c = c .match3 .keys1
+enum-told-2 : (t : ℕ) → lts.Need-enum-told-2 (calls t) (started t) reads.Post Inv-loop μ-loop
+enum-told-2 t c = c .match3 .keys1
 
-count-new-loop-less-3 : (t : ℕ) → count-new-lts.Need-loop-less-3 (calls t) (count-new-at t) count-new.Post count-new-Inv-loop count-new-μ-loop
-count-new-loop-less-3 t c = omega (arith, facts t (c .before .before .before .before .before .before .before .before) .above, facts t (c .before .before .before .before .before .before .before .before) .under)
+loop-less-3 : (t : ℕ) → lts.Need-loop-less-3 (calls t) (started t) reads.Post Inv-loop μ-loop
+loop-less-3 t c = omega (arith, facts t (c .before .before .before .before .before .before .before .before) .above, facts t (c .before .before .before .before .before .before .before .before) .under)
 
-count-new-loop-again-3 : (t : ℕ) → count-new-lts.Need-loop-again-3 (calls t) (count-new-at t) count-new.Post count-new-Inv-loop count-new-μ-loop
-count-new-loop-again-3 t c =
+loop-again-3 : (t : ℕ) → lts.Need-loop-again-3 (calls t) (started t) reads.Post Inv-loop μ-loop
+loop-again-3 t c =
     let place = c .before .before .before .before .before .before .before .before in
     let f = facts t place in
     let a = start-of-chunk place .args in
     let here = entry-none (a .handle) (st (a .words .now) (a .ledger .now)) (a .k) (a .level) (chunkOf t place) (place .entry-index .ensures) (c .before .before .before .before .before .before .subtable .ensures) (ruled t (c .before) _ (c .before .rule-of .ensures)) (no-down (c .before .rule-of .result) (c .match3 .keys2)) in
     (f .under, f .paged, f .framed, f .room, omega (arith, counted t place 0 here))
 
-count-new-add-count-new : (t : ℕ) → count-new-lts.Need-add-count-new (calls t) (count-new-at t) count-new.Post count-new-Inv-loop count-new-μ-loop
-count-new-add-count-new t c = omega (arith, facts t (c .before .before .before .before .before .before .before .before .before) .high)
+add-count-new : (t : ℕ) → lts.Need-add-count-new (calls t) (started t) reads.Post Inv-loop μ-loop
+add-count-new t c = omega (arith, facts t (c .before .before .before .before .before .before .before .before .before) .high)
 
-count-new-count-new-requires : (t : ℕ) → count-new-lts.Need-count-new-requires (calls t) (count-new-at t) count-new.Post count-new-Inv-loop count-new-μ-loop
-count-new-count-new-requires t c κs =
+count-new-requires : (t : ℕ) → lts.Need-count-new-requires (calls t) (started t) reads.Post Inv-loop μ-loop
+count-new-requires t c κs =
     let f = facts t (c .before .before .before .before .before .before .before .before .before) in
     let a = start-of-chunk (c .before .before .before .before .before .before .before .before .before) .args in
     let p = start-of-chunk (c .before .before .before .before .before .before .before .before .before) .pre .1 in
     let inside = sub-below (a .handle .base .0) _ (a .level) _ _ (sym (c .before .before .before .before .before .before .before .subtable .ensures) ∙ c .before .before .before .before .before .kind .given .1) in
     (omega (arith, f .high, start-of-chunk (c .before .before .before .before .before .before .before .before .before) .pre .0), (p .0, inside, omega (arith, f .high), subst⁻¹ Fit (c .before .before .before .chunk-of .ensures) (f .fit)))
 
-count-new-add-count-2 : (t : ℕ) → count-new-lts.Need-add-count-2 (calls t) (count-new-at t) count-new.Post count-new-Inv-loop count-new-μ-loop
-count-new-add-count-2 t c =
+add-count-2 : (t : ℕ) → lts.Need-add-count-2 (calls t) (started t) reads.Post Inv-loop μ-loop
+add-count-2 t c =
     let place = chunk-of-lower c in
     let f = facts t place in
     let a = start-of-chunk place .args in
     let here = entry-table (a .handle) (st (a .words .now) (a .ledger .now)) (a .k) (a .level) (chunkOf t place) (place .entry-index .ensures) (c .before .before .before .before .before .before .before .before .subtable .ensures) (ruled t (c .before .before .before) _ (c .before .before .before .rule-of .ensures)) _ (c .before .before .before .before .before .before .kind .given .1) (c .before .enum-told2 .given .1) in
     omega (arith, adds t place (c .count-new .result) (here ∙ sym (lower t c _ (c .count-new .ensures))))
 
-count-new-loop-less-4 : (t : ℕ) → count-new-lts.Need-loop-less-4 (calls t) (count-new-at t) count-new.Post count-new-Inv-loop count-new-μ-loop
-count-new-loop-less-4 t c = omega (arith, facts t (chunk-of-lower c) .above, facts t (chunk-of-lower c) .under)
+loop-less-4 : (t : ℕ) → lts.Need-loop-less-4 (calls t) (started t) reads.Post Inv-loop μ-loop
+loop-less-4 t c = omega (arith, facts t (chunk-of-lower c) .above, facts t (chunk-of-lower c) .under)
 
-count-new-loop-again-4 : (t : ℕ) → count-new-lts.Need-loop-again-4 (calls t) (count-new-at t) count-new.Post count-new-Inv-loop count-new-μ-loop
-count-new-loop-again-4 t c =
+loop-again-4 : (t : ℕ) → lts.Need-loop-again-4 (calls t) (started t) reads.Post Inv-loop μ-loop
+loop-again-4 t c =
     let place = chunk-of-lower c in
     let f = facts t place in
     let a = start-of-chunk place .args in
     let here = entry-table (a .handle) (st (a .words .now) (a .ledger .now)) (a .k) (a .level) (chunkOf t place) (place .entry-index .ensures) (c .before .before .before .before .before .before .before .before .subtable .ensures) (ruled t (c .before .before .before) _ (c .before .before .before .rule-of .ensures)) _ (c .before .before .before .before .before .before .kind .given .1) (c .before .enum-told2 .given .1) in
     (f .under, f .paged, f .framed, f .room, counted t place (c .count-new .result) (here ∙ sym (lower t c _ (c .count-new .ensures))))
 
-count-new-returns-3 : (t : ℕ) → count-new-lts.Need-returns-3 (calls t) (count-new-at t) count-new.Post count-new-Inv-loop count-new-μ-loop
-count-new-returns-3 t c =
+returns-3 : (t : ℕ) → lts.Need-returns-3 (calls t) (started t) reads.Post Inv-loop μ-loop
+returns-3 t c =
     let at = c .before in
     let a = c .before .before .before .before .before .before .args in
     let s = (st (a .words .now) (a .ledger .now)) in
@@ -287,40 +287,40 @@ count-new-returns-3 t c =
     omega (arith, at .loop .inv .4)
 
 pub +count-new-spec : {M : Type 1} → statement M
-+count-new-spec = close μ-count-new λ t. count-new-lts.spec (calls t)
-    (count-new-at t)
-    count-new.Post
-    count-new-Inv-loop
-    count-new-μ-loop
-    (count-new-returns t)
-    (count-new-count-last-requires t)
-    (count-new-returns-2 t)
-    (count-new-loop-holds t)
-    (count-new-chunk-end-requires t)
-    (count-new-entry-index-requires t)
-    (count-new-sub-frame t)
-    (count-new-add-frame t)
-    (count-new-mul-word t)
-    (count-new-add-word t)
-    (count-new-mul-word-2 t)
-    (count-new-shared-slice-read-word t)
-    (count-new-subtable-requires t)
-    (count-new-enum-known-kind t)
-    (count-new-enum-told t)
-    (count-new-loop-less t)
-    (count-new-loop-again t)
-    (count-new-count-entry-requires t)
-    (count-new-add-count t)
-    (count-new-loop-less-2 t)
-    (count-new-loop-again-2 t)
-    (count-new-chunk-of-requires t)
-    (count-new-rule-of-requires t)
-    (count-new-enum-told-2 t)
-    (count-new-loop-less-3 t)
-    (count-new-loop-again-3 t)
-    (count-new-add-count-new t)
-    (count-new-count-new-requires t)
-    (count-new-add-count-2 t)
-    (count-new-loop-less-4 t)
-    (count-new-loop-again-4 t)
-    (count-new-returns-3 t)
++count-new-spec = close μ λ t. lts.spec (calls t)
+    (started t)
+    reads.Post
+    Inv-loop
+    μ-loop
+    (returns t)
+    (count-last-requires t)
+    (returns-2 t)
+    (loop-holds t)
+    (chunk-end-requires t)
+    (entry-index-requires t)
+    (sub-frame t)
+    (add-frame t)
+    (mul-word t)
+    (add-word t)
+    (mul-word-2 t)
+    (shared-slice-read-word t)
+    (subtable-requires t)
+    (enum-known-kind t)
+    (enum-told t)
+    (loop-less t)
+    (loop-again t)
+    (count-entry-requires t)
+    (add-count t)
+    (loop-less-2 t)
+    (loop-again-2 t)
+    (chunk-of-requires t)
+    (rule-of-requires t)
+    (enum-told-2 t)
+    (loop-less-3 t)
+    (loop-again-3 t)
+    (add-count-new t)
+    (count-new-requires t)
+    (add-count-2 t)
+    (loop-less-4 t)
+    (loop-again-4 t)
+    (returns-3 t)

@@ -27,7 +27,8 @@ no-hang : (base : ℕ) (s : St) (k : ℕ) → (Hangs base s k → ⊥) → false
 no-hang base s k n = sym (is-false (hangsb base s k) (λ t. n (hangs-to base s k t)))
 
 -- all parts but the last hold
-last-part : (base : ℕ) (s : St) (k : ℕ) (word link : ℕ) → (word ≡ link → Hangs base s k) → wordAt s (parentOf (numberAt s k)) (slotOf (numberAt s k)) ≡ word → linkOf base k ≡ link
+last-part : (base : ℕ) (s : St) (k : ℕ) (word link : ℕ) → (word ≡ link → Hangs base s k)
+    → wordAt s (parentOf (numberAt s k)) (slotOf (numberAt s k)) ≡ word → linkOf base k ≡ link
     → eqb word link ≡ hangsb base s k
 last-part base s k word link rest w l =
     same-test (eqb word link) (hangsb base s k) (λ t. hangs-of base s k (rest (eqb→eq word link t)))
@@ -68,7 +69,8 @@ sub-at c = omega arith
 returns-3 : tie.Need-returns-3
 returns-3 c =
     let a = c .before .before .before .before .before .before .args in
-    no-hang (a .handle .base .0) (st (a .words .now) (a .ledger .now)) (a .k) (λ p. omega (arith, used-in (st (a .words .now) (a .ledger .now)) _ (p .parent)))
+    no-hang (a .handle .base .0) (st (a .words .now) (a .ledger .now)) (a .k)
+    (λ p. omega (arith, used-in (st (a .words .now) (a .ledger .now)) _ (p .parent)))
 
 mul-above : tie.Need-mul-above
 mul-above c = omega arith
@@ -77,7 +79,9 @@ shared-slice-read-above : tie.Need-shared-slice-read-above
 shared-slice-read-above c = omega arith
 
 cast-above : tie.Need-cast-above
-cast-above c = let a = c .before .before .before .before .before .before .before .args in omega (arith, c .shared-slice-known4 .given ((getD (a .ledger .now) (a .k) 0 / 8 - 1) / 512))
+cast-above c =
+    let a = c .before .before .before .before .before .before .before .args in
+    omega (arith, c .shared-slice-known4 .given ((getD (a .ledger .now) (a .k) 0 / 8 - 1) / 512))
 
 returns-4 : tie.Need-returns-4
 returns-4 c =

@@ -63,7 +63,11 @@ abbrev start-of-tables-again : tie.After-loop Inv-loop μ-loop Inv-tables μ-tab
 start-of-tables-again c = c .before .before .before .before .before .before .before .before .before .before
 
 -- a run that passed: its words pass, its count is theirs and at most 128
-passed : (c : tie.After-known-told Inv-loop μ-loop Inv-tables μ-tables) → let a = start-of-passed c .args in let s = (st (a .words .now) (a .ledger .now)) in let k = table-of-passed c .tables .k in let r = c .before .before .before .before .before .before .loop .r in
+passed : (c : tie.After-known-told Inv-loop μ-loop Inv-tables μ-tables)
+    → let a = start-of-passed c .args in
+    let s = (st (a .words .now) (a .ledger .now)) in
+    let k = table-of-passed c .tables .k in
+    let r = c .before .before .before .before .before .before .loop .r in
     T (runPasses (a .handle) s k r) × (c .before .run .given .0 .0 ≡ runLinks s k r) × (c .before .run .given .0 .0 ≤ 128)
 unfolding runPasses runLinks
 passed c =
@@ -73,7 +77,9 @@ passed c =
     let r = c .before .before .before .before .before .before .loop .r in
     let size : 512 * k + 128 * r + 128 - (512 * k + 128 * r) ≡ 128 = omega arith in
     let p = run-passed (flagSet (a .handle)) (numberAt s k) (runWords s k r)
-    (c .before .before .before .scan-run .ensures ∙ ap₂ (λ (m l : ℕ). runOf m (numberAt s k) (partOf (512 * k + 128 * r) l (a .words .now))) (table-of-passed c .before .flag-set .ensures) size) _
+    (c .before .before .before .scan-run .ensures
+    ∙ ap₂ (λ (m l : ℕ). runOf m (numberAt s k) (partOf (512 * k + 128 * r) l (a .words .now)))
+    (table-of-passed c .before .flag-set .ensures) size) _
     (c .before .run .given .1) in
     let long = length-part (512 * k + 128 * r) 128 (a .words .now) (omega (arith, start-of-passed c .pre .sized)) in
     (rw (p .0) tt, p .1, omega (arith, p .1, count-below (numberAt s k) (runWords s k r)))
@@ -95,8 +101,16 @@ shared-slice-read-number c = omega arith
 
 loop-holds : tie.Need-loop-holds Inv-loop μ-loop Inv-tables μ-tables
 loop-holds c =
-    let at = c .before .before .before .before in
-    (omega arith, all-none _, (let e = sum-empty (runLinks (st (c .before .before .before .before .before .before .before .before .args .words .now) (c .before .before .before .before .before .before .before .before .args .ledger .now)) (at .tables .k)) in let q = at .tables .inv .2 in omega arith), omega arith)
+    let at = c .before .before .before .before in (
+      omega arith,
+      all-none _,
+      (let e = sum-empty
+          (runLinks (st (c .before .before .before .before .before .before .before .before .args .words .now)
+          (c .before .before .before .before .before .before .before .before .args .ledger .now))
+          (at .tables .k)) in
+          let q = at .tables .inv .2 in omega arith),
+      omega arith,
+    )
 
 mul-a : tie.Need-mul-a Inv-loop μ-loop Inv-tables μ-tables
 unfolding maxTables
@@ -142,7 +156,10 @@ enum-told c = omega arith
 
 add-links : tie.Need-add-links Inv-loop μ-loop Inv-tables μ-tables
 unfolding maxTables
-add-links c = let p = start-of-passed c .pre in let few = passed c .2 in omega (arith, p .limit, c .before .before .before .before .before .before .loop .inv .3)
+add-links c =
+    let p = start-of-passed c .pre in
+    let few = passed c .2 in
+    omega (arith, p .limit, c .before .before .before .before .before .before .loop .inv .3)
 
 add-r : tie.Need-add-r Inv-loop μ-loop Inv-tables μ-tables
 add-r c = omega arith
@@ -182,7 +199,9 @@ tables-again c =
     let known = inner .loop .inv .2 in (
       omega arith,
       all-more (at .tables .k) (tablePasses (a .handle) s) (at .tables .inv .1)
-          (table-passes (a .handle) s (at .tables .k) (sym (c .before .before .before .before .table-holds .ensures) ∙ not-false _ (c .before .before .before .if2 .left)) (rw four at (inner .loop .inv .1))),
+          (table-passes (a .handle) s (at .tables .k)
+          (sym (c .before .before .before .before .table-holds .ensures) ∙ not-false _ (c .before .before .before .if2 .left))
+          (rw four at (inner .loop .inv .1))),
       omega (arith, rw four at known),
       omega (arith, inner .loop .inv .3),
     )
@@ -193,12 +212,15 @@ returns c =
     let a = c .before .before .before .before .before .args in
     let s = (st (a .words .now) (a .ledger .now)) in
     let all : at .tables .k ≡ tables s = omega arith in
-    tables-passed (a .handle) s (at .tables .links) (rw all at (at .tables .inv .1)) (at .tables .inv .2 ∙ ap (λ (n : ℕ). sum n (tableLinks s)) all)
+    tables-passed (a .handle) s (at .tables .links) (rw all at (at .tables .inv .1))
+    (at .tables .inv .2 ∙ ap (λ (n : ℕ). sum n (tableLinks s)) all)
 
 returns-2 : tie.Need-returns-2 Inv-loop μ-loop Inv-tables μ-tables
 returns-2 c =
     let a = c .before .before .before .before .before .before .before .args in
-    tables-failed (a .handle) (st (a .words .now) (a .ledger .now)) (c .before .before .before .tables .k) (omega arith) (number-fails (a .handle) (st (a .words .now) (a .ledger .now)) (c .before .before .before .tables .k) (sym (c .before .table-holds .ensures) ∙ not-true _ (c .if2 .taken)))
+    tables-failed (a .handle) (st (a .words .now) (a .ledger .now)) (c .before .before .before .tables .k) (omega arith)
+    (number-fails (a .handle) (st (a .words .now) (a .ledger .now)) (c .before .before .before .tables .k)
+    (sym (c .before .table-holds .ensures) ∙ not-true _ (c .if2 .taken)))
 
 returns-3 : tie.Need-returns-3 Inv-loop μ-loop Inv-tables μ-tables
 unfolding runPasses
@@ -212,7 +234,8 @@ returns-3 c =
     (run-fails (a .handle) s k r (omega arith)
     (run-failed (flagSet (a .handle)) (numberAt s k) (runWords s k r)
     (c .before .before .scan-run .ensures
-    ∙ ap₂ (λ (m l : ℕ). runOf m (numberAt s k) (partOf (512 * k + 128 * r) l (a .words .now))) (table-of-failed c .before .flag-set .ensures) size)
+    ∙ ap₂ (λ (m l : ℕ). runOf m (numberAt s k) (partOf (512 * k + 128 * r) l (a .words .now)))
+    (table-of-failed c .before .flag-set .ensures) size)
     (c .enum-told .given .1)))
 
 pub scan-tables-spec : {M : Type 1} → statement M

@@ -10,7 +10,8 @@ use Rattle.entry.specs.Sub.{sub-found}
 use Rattle.entry.proofs.Tags.{no-table}
 use Rattle.pool.specs.State.{St, st}
 use Rattle.pool.specs.declared.Handle.{Handle}
-use Rattle.compact_spec.specs.Compact.{releaseEmpty, compactEntry, compactTable, entry-table, entry-outside, entry-leaf, compact-down, compact-last}
+use Rattle.compact_spec.specs.Compact.{releaseEmpty, compactEntry, compactTable, entry-table, entry-outside, entry-leaf, compact-down}
+use Rattle.compact_spec.specs.Compact.{compact-last}
 use borrow.Fn.Kinds.{In}
 use borrow.Fn.PlainCycle.{Measures, is, falls, and}
 use Rattle.compact.proofs.compact_subtables.Reads as reads
@@ -45,20 +46,26 @@ Inv-loop words₀ ledger₀ handle k level next₀ words ledger next =
 abbrev μ-loop : lts.MeasureT-loop
 μ-loop words₀ ledger₀ handle k level next₀ words ledger next = 512 - next
 
--- ways back: from where a table below is told to the loop's head and to the start; to there from the call of `release_empty` and from the loop's end
-abbrev loop-of-told : {t : ℕ} → lts.After-kind (calls t) (started t) reads.Post Inv-loop μ-loop → lts.At-loop (calls t) (started t) reads.Post Inv-loop μ-loop
+-- ways back: from where a table below is told to the loop's head and to the start; to there from the call of `release_empty` and from the
+-- loop's end
+abbrev loop-of-told : {t : ℕ} → lts.After-kind (calls t) (started t) reads.Post Inv-loop μ-loop
+    → lts.At-loop (calls t) (started t) reads.Post Inv-loop μ-loop
 loop-of-told c = c .before .before .before .before .before
 
-abbrev start-of-told : {t : ℕ} → lts.After-kind (calls t) (started t) reads.Post Inv-loop μ-loop → lts.Start (calls t) (started t) reads.Post Inv-loop μ-loop
+abbrev start-of-told : {t : ℕ} → lts.After-kind (calls t) (started t) reads.Post Inv-loop μ-loop
+    → lts.Start (calls t) (started t) reads.Post Inv-loop μ-loop
 start-of-told c = loop-of-told c .before .before .before .before
 
-abbrev told-of-release : {t : ℕ} → lts.After-release-empty-arg2 (calls t) (started t) reads.Post Inv-loop μ-loop → lts.After-kind (calls t) (started t) reads.Post Inv-loop μ-loop
+abbrev told-of-release : {t : ℕ} → lts.After-release-empty-arg2 (calls t) (started t) reads.Post Inv-loop μ-loop
+    → lts.After-kind (calls t) (started t) reads.Post Inv-loop μ-loop
 told-of-release c = c .before .before .before .before .before .before .before .before .before .before
 
-abbrev called-of-again-2 : {t : ℕ} → lts.After-slice-known7 (calls t) (started t) reads.Post Inv-loop μ-loop → lts.After-compact-subtables (calls t) (started t) reads.Post Inv-loop μ-loop
+abbrev called-of-again-2 : {t : ℕ} → lts.After-slice-known7 (calls t) (started t) reads.Post Inv-loop μ-loop
+    → lts.After-compact-subtables (calls t) (started t) reads.Post Inv-loop μ-loop
 called-of-again-2 c = c .before .before .before .before .before .before .before .before .before .before .before
 
-abbrev told-of-again-2 : {t : ℕ} → lts.After-slice-known7 (calls t) (started t) reads.Post Inv-loop μ-loop → lts.After-kind (calls t) (started t) reads.Post Inv-loop μ-loop
+abbrev told-of-again-2 : {t : ℕ} → lts.After-slice-known7 (calls t) (started t) reads.Post Inv-loop μ-loop
+    → lts.After-kind (calls t) (started t) reads.Post Inv-loop μ-loop
 told-of-again-2 c = called-of-again-2 c .before .before .before .before
 
 -- one slot fewer is left
@@ -106,7 +113,8 @@ loop-again t c =
       omega arith,
       at .loop .inv .1,
       at .loop .inv .2,
-      iter-step (compactEntry (below (a .level) (a .handle)) (a .handle) (a .k) (a .level)) (at .loop .next) (st (a .words .now) (a .ledger .now)) (at .loop .inv .3)
+      iter-step (compactEntry (below (a .level) (a .handle)) (a .handle) (a .k) (a .level)) (at .loop .next)
+          (st (a .words .now) (a .ledger .now)) (at .loop .inv .3)
           (⊎-elim (λ e. entry-outside (below (a .level) (a .handle)) (a .handle) (a .k) (a .level) (at .loop .next) s (sub .ensures) e)
           (λ e. entry-leaf (below (a .level) (a .handle)) (a .handle) (a .k) (a .level) (at .loop .next) s (sub .ensures) e)
           (no-table (sub .result) (c .match .keys2))),
@@ -152,10 +160,12 @@ loop-again-2 t c =
       omega (arith, told .before .before .before .before .loop-test .taken),
       c .before .before .before .before .release-empty .kept .0 ∙ called .compact-subtables .kept .0 ∙ at .loop .inv .1,
       c .before .before .before .before .release-empty .kept .1 .0 ∙ called .compact-subtables .kept .1 .0 ∙ at .loop .inv .2,
-      iter-step (compactEntry (below (a .level) (a .handle)) (a .handle) (a .k) (a .level)) (at .loop .next) (st (a .words .now) (a .ledger .now)) (at .loop .inv .3)
+      iter-step (compactEntry (below (a .level) (a .handle)) (a .handle) (a .k) (a .level)) (at .loop .next)
+          (st (a .words .now) (a .ledger .now)) (at .loop .inv .3)
           (c .before .before .before .before .release-empty .ensures
           ∙ ap (releaseEmpty (a .k) (at .loop .next) j) (called .compact-subtables .ensures)
-          ∙ entry-table (below (a .level) (a .handle)) (a .handle) (a .k) (a .level) (at .loop .next) s (told .before .before .subtable .ensures) j (told .kind .given .1)),
+          ∙ entry-table (below (a .level) (a .handle)) (a .handle) (a .k) (a .level) (at .loop .next) s
+          (told .before .before .subtable .ensures) j (told .kind .given .1)),
     )
 
 same-length : (t : ℕ) → lts.Need-same-length (calls t) (started t) reads.Post Inv-loop μ-loop

@@ -16,7 +16,8 @@ use Rattle.compact.proofs.compact_subtables.Reads as compact-subtables-
 use Rattle.pool_ledger.proofs.count_used.Reads as count-used-reads
 use Rattle.pool_handle.proofs.is_shaped.Reads as is-shaped-reads
 
--- ways back: to the start from where the shape is known, and from where the pool is sound or not; from the count to where the shape is known
+-- ways back: to the start from where the shape is known, and from where the pool is sound or not; from the count to where the shape is
+-- known
 abbrev start-of-shaped : tie.Else1 → tie.Start
 start-of-shaped c = c .before .before .before .before .before .before
 
@@ -67,7 +68,8 @@ same-length-4 c = omega arith
 returns-2 : tie.Need-returns-2
 returns-2 c =
     let a = start-of-unsound c .args in
-    call-unsound (a .handle) (st (a .words .now) (a .ledger .now)) (good (c .before .before .before .before)) (sym (c .before .is-sound .ensures) ∙ not-true _ (c .if2 .taken))
+    call-unsound (a .handle) (st (a .words .now) (a .ledger .now)) (good (c .before .before .before .before))
+    (sym (c .before .is-sound .ensures) ∙ not-true _ (c .if2 .taken))
 
 compact-subtables-requires : tie.Need-compact-subtables-requires
 compact-subtables-requires c κs =

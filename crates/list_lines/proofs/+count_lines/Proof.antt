@@ -11,7 +11,8 @@ use Rattle.entry.proofs.Tags.{no-table}
 use Rattle.entry.specs.declared.Sub.the-variants.{Table, Outside, Leaf}
 use Rattle.region.specs.Chunks.{chunksOf}
 use Rattle.region.specs.declared.ChunkedIterator.{ChunkedIterator}
-use Rattle.list_lines.specs.Lines.{Line, each, linesFrom, linesAt, lines-table, lines-other, lines-each, lines-pages, next-chunk, next-none, each-none, count-step}
+use Rattle.list_lines.specs.Lines.{Line, each, linesFrom, linesAt, lines-table, lines-other, lines-each, lines-pages, next-chunk}
+use Rattle.list_lines.specs.Lines.{next-none, each-none, count-step}
 use Prim.Native.Nat.{ℕ, _<_}
 use borrow.Fn.Kinds.{In}
 use borrow.Fn.PlainCycle.{Measures, is, falls, and}
@@ -38,22 +39,39 @@ fewer t =
     and 1 kinds.ps (falls 1 kinds.ps _<_ μ t) reads.Pre
 
 abbrev calls : ℕ → lts.Claims
-calls t = (count-pages-reads.Asked, count-pages-reads.Learnt, split-reads.Asked, split-reads.Learnt, next-reads.Asked, next-reads.Learnt, get-entry-reads.Asked, get-entry-reads.Learnt, subtable-reads.Asked, subtable-reads.Learnt, fewer t, reads.Post)
+calls t = (
+  count-pages-reads.Asked,
+  count-pages-reads.Learnt,
+  split-reads.Asked,
+  split-reads.Learnt,
+  next-reads.Asked,
+  next-reads.Learnt,
+  get-entry-reads.Asked,
+  get-entry-reads.Learnt,
+  subtable-reads.Asked,
+  subtable-reads.Learnt,
+  fewer t,
+  reads.Post,
+)
 
 abbrev Inv-loop : lts.InvT-loop
 Inv-loop words tables handle k level count₀ rest₀ count rest =
-    count + length (each (linesAt (handle .base .0) tables words k level) (chunksOf rest)) ≡ length (each (linesAt (handle .base .0) tables words k level) (chunksOf rest₀))
+    count + length (each (linesAt (handle .base .0) tables words k level) (chunksOf rest))
+    ≡ length (each (linesAt (handle .base .0) tables words k level) (chunksOf rest₀))
 
 abbrev μ-loop : lts.MeasureT-loop
 μ-loop words tables handle k level count₀ rest₀ count rest = length (chunksOf rest)
 
 -- all the lines, by the chunks at entry
 all : {t : ℕ} (c : lts.After-split (calls t) (started t) reads.Post Inv-loop μ-loop) → let a = c .before .before .before .args in
-    length (linesFrom (a .handle .base .0) (a .tables) (a .words .now) (3 - a .level) (a .k) (a .region)) ≡ length (each (linesAt (a .handle .base .0) (a .tables) (a .words .now) (a .k) (a .level)) (chunksOf (c .split .result)))
+    length (linesFrom (a .handle .base .0) (a .tables) (a .words .now) (3 - a .level) (a .k) (a .region))
+    ≡ length (each (linesAt (a .handle .base .0) (a .tables) (a .words .now) (a .k) (a .level)) (chunksOf (c .split .result)))
 all c =
     let a = c .before .before .before .args in
     ap length (lines-each (a .handle .base .0) (a .tables) (a .words .now) (a .k) (a .level) (a .region) (omega arith))
-    ∙ ap (λ (it : ChunkedIterator). length (each (linesAt (a .handle .base .0) (a .tables) (a .words .now) (a .k) (a .level)) (chunksOf it))) (sym (c .split .ensures))
+    ∙ ap (λ (it : ChunkedIterator). length
+    (each (linesAt (a .handle .base .0) (a .tables) (a .words .now) (a .k) (a .level)) (chunksOf it)))
+    (sym (c .split .ensures))
 
 -- no more lines than a count can say
 few : {t : ℕ} (c : lts.After-split (calls t) (started t) reads.Post Inv-loop μ-loop) → let a = c .before .before .before .args in
@@ -74,27 +92,51 @@ split-of-asked c = c .before .before .before .before .before .before .before
 -- the lines counted, n of the chunk, and those of the chunks after it are all
 abbrev Sum : {t : ℕ} → Asked t → ℕ → Type 0
 Sum c n = let a = start-of-asked c .args in let f = linesAt (a .handle .base .0) (a .tables) (a .words .now) (a .k) (a .level) in
-    c .before .before .before .before .before .before .loop .count + n + length (each f (chunksOf (c .before .before .before .next2 .given .0 .1 .0))) ≡ length (each f (chunksOf (split-of-asked c .split .result)))
+    c .before .before .before .before .before .before .loop .count + n
+    + length (each f (chunksOf (c .before .before .before .next2 .given .0 .1 .0)))
+    ≡ length (each f (chunksOf (split-of-asked c .split .result)))
 
 regroup : (a n x : ℕ) {r s : ℕ} → r ≡ n + x → a + r ≡ s → a + n + x ≡ s
 regroup a n x e q = omega arith
 
-sum : {t : ℕ} (c : Asked t) (ls : List Line) → let a = start-of-asked c .args in linesAt (a .handle .base .0) (a .tables) (a .words .now) (a .k) (a .level) (c .before .before .before .next2 .given .0 .0) ≡ ls → Sum c (length ls)
+sum : {t : ℕ} (c : Asked t) (ls : List Line)
+    → let a = start-of-asked c .args in
+    linesAt (a .handle .base .0) (a .tables) (a .words .now) (a .k) (a .level) (c .before .before .before .next2 .given .0 .0) ≡ ls
+    → Sum c (length ls)
 sum c ls lines =
     let a = start-of-asked c .args in
-    let cut = next-chunk (c .before .before .before .before .before .before .loop .rest) _ _ (c .before .before .before .before .before .next .ensures) (c .before .before .before .next2 .given .1) in
-    regroup _ _ _ (count-step (linesAt (a .handle .base .0) (a .tables) (a .words .now) (a .k) (a .level)) ls cut lines) (c .before .before .before .before .before .before .loop .inv)
+    let cut = next-chunk (c .before .before .before .before .before .before .loop .rest) _ _
+    (c .before .before .before .before .before .next .ensures) (c .before .before .before .next2 .given .1) in
+    regroup _ _ _ (count-step (linesAt (a .handle .base .0) (a .tables) (a .words .now) (a .k) (a .level)) ls cut lines)
+    (c .before .before .before .before .before .before .loop .inv)
 
 one : {t : ℕ} (c : Asked t) → (c .subtable .result ≡ Outside) ⊎ (c .subtable .result ≡ Leaf) → Sum c 1
-one c e = let a = start-of-asked c .args in sum c _ (lines-other (a .handle .base .0) (a .tables) (a .words .now) (a .k) (a .level) _ (c .before .get-entry .ensures) (c .subtable .ensures) e)
+one c e =
+    let a = start-of-asked c .args in
+    sum c _
+    (lines-other (a .handle .base .0) (a .tables) (a .words .now) (a .k) (a .level) _ (c .before .get-entry .ensures)
+    (c .subtable .ensures) e)
 
 below : {t : ℕ} (c : Asked t) (j : ℕ) → c .subtable .result ≡ Table j
-    → let a = start-of-asked c .args in Sum c (length (linesFrom (a .handle .base .0) (a .tables) (a .words .now) (3 - (a .level + 1)) j (c .before .before .before .next2 .given .0 .0)))
-below c j e = let a = start-of-asked c .args in sum c _ (lines-table (a .handle .base .0) (a .tables) (a .words .now) (a .k) (a .level) _ (c .before .get-entry .ensures) (c .subtable .ensures) j e)
+    → let a = start-of-asked c .args in
+    Sum c
+    (length (linesFrom (a .handle .base .0) (a .tables) (a .words .now) (3 - (a .level + 1)) j
+    (c .before .before .before .next2 .given .0 .0)))
+below c j e =
+    let a = start-of-asked c .args in
+    sum c _
+    (lines-table (a .handle .base .0) (a .tables) (a .words .now) (a .k) (a .level) _ (c .before .get-entry .ensures)
+    (c .subtable .ensures) j e)
 
 -- one chunk less is left
-less : {t : ℕ} (c : Asked t) → length (chunksOf (c .before .before .before .next2 .given .0 .1 .0)) < length (chunksOf (c .before .before .before .before .before .before .loop .rest))
-less c = let cut = ap length (next-chunk (c .before .before .before .before .before .before .loop .rest) _ _ (c .before .before .before .before .before .next .ensures) (c .before .before .before .next2 .given .1)) in omega (arith, cut)
+less : {t : ℕ} (c : Asked t)
+    → length (chunksOf (c .before .before .before .next2 .given .0 .1 .0))
+    < length (chunksOf (c .before .before .before .before .before .before .loop .rest))
+less c =
+    let cut = ap length
+    (next-chunk (c .before .before .before .before .before .before .loop .rest) _ _
+    (c .before .before .before .before .before .next .ensures) (c .before .before .before .next2 .given .1)) in
+    omega (arith, cut)
 
 count-pages-requires : (t : ℕ) → lts.Need-count-pages-requires (calls t) (started t) reads.Post Inv-loop μ-loop
 count-pages-requires t c κs = omega arith
@@ -102,7 +144,8 @@ count-pages-requires t c κs = omega arith
 returns : (t : ℕ) → lts.Need-returns (calls t) (started t) reads.Post Inv-loop μ-loop
 returns t c =
     let a = c .before .before .before .args in
-    c .count-pages .ensures ∙ lines-pages (a .handle .base .0) (a .tables) (a .words .now) (a .k) (a .level) (a .region) (c .before .if1 .taken)
+    c .count-pages .ensures
+    ∙ lines-pages (a .handle .base .0) (a .tables) (a .words .now) (a .k) (a .level) (a .region) (c .before .if1 .taken)
 
 split-requires : (t : ℕ) → lts.Need-split-requires (calls t) (started t) reads.Post Inv-loop μ-loop
 split-requires t c κs = omega arith
@@ -156,11 +199,20 @@ count-lines-requires t c κs =
     let s = c .before .before .before in
     let p = start-of-asked s .pre in
     let table = c .before .kind .given .1 in
-    let found = sub-found _ _ _ _ _ (sym (s .subtable .ensures) ∙ table) in
-    (omega (arith, found .high, p .0), (p .1 .0, found .below, omega (arith, found .high), omega (arith, below s _ table, few (split-of-asked s))))
+    let found = sub-found _ _ _ _ _ (sym (s .subtable .ensures) ∙ table) in (
+      omega (arith, found .high, p .0),
+      (p .1 .0, found .below, omega (arith, found .high), omega (arith, below s _ table, few (split-of-asked s))),
+    )
 
 add-count-2 : (t : ℕ) → lts.Need-add-count-2 (calls t) (started t) reads.Post Inv-loop μ-loop
-add-count-2 t c = omega (arith, below (c .before .before .before .before) _ (c .before .before .kind .given .1), few (split-of-asked (c .before .before .before .before)), c .count-lines .ensures)
+add-count-2 t c =
+    omega (
+      arith,
+      below (c .before .before .before .before) _ (c .before .before .kind .given .1),
+      few
+          (split-of-asked (c .before .before .before .before)),
+      c .count-lines .ensures,
+    )
 
 loop-less-2 : (t : ℕ) → lts.Need-loop-less-2 (calls t) (started t) reads.Post Inv-loop μ-loop
 loop-less-2 t c = less (c .before .before .before .before)

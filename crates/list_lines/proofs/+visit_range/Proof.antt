@@ -11,7 +11,8 @@ use Rattle.entry.proofs.Tags.{no-table}
 use Rattle.entry.specs.declared.Sub.the-variants.{Table, Outside, Leaf}
 use Rattle.region.specs.Chunks.{chunksOf}
 use Rattle.region.specs.declared.ChunkedIterator.{ChunkedIterator}
-use Rattle.list_lines.specs.Lines.{Line, line, each, numbers, linesFrom, linesAt, lines-table, lines-other, lines-each, next-chunk, next-none, each-none, count-step, write-step, write-done, written, writeLines, Written}
+use Rattle.list_lines.specs.Lines.{Line, line, each, numbers, linesFrom, linesAt, lines-table, lines-other, lines-each, next-chunk}
+use Rattle.list_lines.specs.Lines.{next-none, each-none, count-step, write-step, write-done, written, writeLines, Written}
 use Prim.Native.Nat.{ℕ, _<_}
 use borrow.Fn.Kinds.{In}
 use borrow.Fn.PlainCycle.{Measures, is, falls, and}
@@ -38,11 +39,25 @@ fewer t =
     and 2 kinds.ps (falls 2 kinds.ps _<_ μ t) reads.Pre
 
 abbrev calls : ℕ → lts.Claims
-calls t = (split-reads.Asked, split-reads.Learnt, next-reads.Asked, next-reads.Learnt, get-entry-reads.Asked, get-entry-reads.Learnt, subtable-reads.Asked, subtable-reads.Learnt, put-line-reads.Asked, put-line-reads.Learnt, fewer t, reads.Post)
+calls t = (
+  split-reads.Asked,
+  split-reads.Learnt,
+  next-reads.Asked,
+  next-reads.Learnt,
+  get-entry-reads.Asked,
+  get-entry-reads.Learnt,
+  subtable-reads.Asked,
+  subtable-reads.Learnt,
+  put-line-reads.Asked,
+  put-line-reads.Learnt,
+  fewer t,
+  reads.Post,
+)
 
 abbrev Inv-loop : lts.InvT-loop
 Inv-loop words tables handle k level list₀ from to₀ rest₀ list to rest =
-    (to + 4 * length (each (linesAt (handle .base .0) tables words k level) (chunksOf rest)) ≡ from + 4 * length (each (linesAt (handle .base .0) tables words k level) (chunksOf rest₀)))
+    (to + 4 * length (each (linesAt (handle .base .0) tables words k level) (chunksOf rest))
+    ≡ from + 4 * length (each (linesAt (handle .base .0) tables words k level) (chunksOf rest₀)))
     × (length list ≡ length list₀)
     × (putPart to (numbers (each (linesAt (handle .base .0) tables words k level) (chunksOf rest))) list
     ≡ putPart from (numbers (each (linesAt (handle .base .0) tables words k level) (chunksOf rest₀))) list₀)
@@ -52,11 +67,13 @@ abbrev μ-loop : lts.MeasureT-loop
 
 -- all the lines, by the chunks at entry
 all : {t : ℕ} (c : lts.After-split (calls t) (started t) reads.Post Inv-loop μ-loop) → let a = c .before .before .before .args in
-    linesFrom (a .handle .base .0) (a .tables) (a .words .now) (3 - a .level) (a .k) (a .region) ≡ each (linesAt (a .handle .base .0) (a .tables) (a .words .now) (a .k) (a .level)) (chunksOf (c .split .result))
+    linesFrom (a .handle .base .0) (a .tables) (a .words .now) (3 - a .level) (a .k) (a .region)
+    ≡ each (linesAt (a .handle .base .0) (a .tables) (a .words .now) (a .k) (a .level)) (chunksOf (c .split .result))
 all c =
     let a = c .before .before .before .args in
     lines-each (a .handle .base .0) (a .tables) (a .words .now) (a .k) (a .level) (a .region) (omega arith)
-    ∙ ap (λ (it : ChunkedIterator). each (linesAt (a .handle .base .0) (a .tables) (a .words .now) (a .k) (a .level)) (chunksOf it)) (sym (c .split .ensures))
+    ∙ ap (λ (it : ChunkedIterator). each (linesAt (a .handle .base .0) (a .tables) (a .words .now) (a .k) (a .level)) (chunksOf it))
+    (sym (c .split .ensures))
 
 -- a chunk, once its entry is known
 abbrev Asked : ℕ → Type 0
@@ -70,24 +87,47 @@ abbrev loop-of-asked : {t : ℕ} → Asked t → lts.At-loop (calls t) (started 
 loop-of-asked c = c .before .before .before .before .before .before
 
 -- the chunk, and those after it
-cut : {t : ℕ} (c : Asked t) → chunksOf (loop-of-asked c .loop .rest) ≡ c .before .before .before .next2 .given .0 .0 ∷ chunksOf (c .before .before .before .next2 .given .0 .1 .0)
-cut c = next-chunk (loop-of-asked c .loop .rest) _ _ (c .before .before .before .before .before .next .ensures) (c .before .before .before .next2 .given .1)
+cut : {t : ℕ} (c : Asked t)
+    → chunksOf (loop-of-asked c .loop .rest)
+    ≡ c .before .before .before .next2 .given .0 .0 ∷ chunksOf (c .before .before .before .next2 .given .0 .1 .0)
+cut c =
+    next-chunk (loop-of-asked c .loop .rest) _ _ (c .before .before .before .before .before .next .ensures)
+    (c .before .before .before .next2 .given .1)
 
 one : {t : ℕ} (c : Asked t) → (c .subtable .result ≡ Outside) ⊎ (c .subtable .result ≡ Leaf)
-    → let a = start-of-asked c .args in linesAt (a .handle .base .0) (a .tables) (a .words .now) (a .k) (a .level) (c .before .before .before .next2 .given .0 .0) ≡ line (c .before .before .before .next2 .given .0 .0) (c .before .get-entry .result) (a .level) ∷ []
-one c e = let a = start-of-asked c .args in lines-other (a .handle .base .0) (a .tables) (a .words .now) (a .k) (a .level) _ (c .before .get-entry .ensures) (c .subtable .ensures) e
+    → let a = start-of-asked c .args in
+    linesAt (a .handle .base .0) (a .tables) (a .words .now) (a .k) (a .level) (c .before .before .before .next2 .given .0 .0)
+    ≡ line (c .before .before .before .next2 .given .0 .0) (c .before .get-entry .result) (a .level) ∷ []
+one c e =
+    let a = start-of-asked c .args in
+    lines-other (a .handle .base .0) (a .tables) (a .words .now) (a .k) (a .level) _ (c .before .get-entry .ensures)
+    (c .subtable .ensures) e
 
 below : {t : ℕ} (c : Asked t) (j : ℕ) → c .subtable .result ≡ Table j
-    → let a = start-of-asked c .args in linesAt (a .handle .base .0) (a .tables) (a .words .now) (a .k) (a .level) (c .before .before .before .next2 .given .0 .0) ≡ linesFrom (a .handle .base .0) (a .tables) (a .words .now) (3 - (a .level + 1)) j (c .before .before .before .next2 .given .0 .0)
-below c j e = let a = start-of-asked c .args in lines-table (a .handle .base .0) (a .tables) (a .words .now) (a .k) (a .level) _ (c .before .get-entry .ensures) (c .subtable .ensures) j e
+    → let a = start-of-asked c .args in
+    linesAt (a .handle .base .0) (a .tables) (a .words .now) (a .k) (a .level) (c .before .before .before .next2 .given .0 .0)
+    ≡ linesFrom (a .handle .base .0) (a .tables) (a .words .now) (3 - (a .level + 1)) j (c .before .before .before .next2 .given .0 .0)
+below c j e =
+    let a = start-of-asked c .args in
+    lines-table (a .handle .base .0) (a .tables) (a .words .now) (a .k) (a .level) _ (c .before .get-entry .ensures)
+    (c .subtable .ensures) j e
 
-step : {t : ℕ} (c : Asked t) {ls : List Line} → let a = start-of-asked c .args in let f = linesAt (a .handle .base .0) (a .tables) (a .words .now) (a .k) (a .level) in f (c .before .before .before .next2 .given .0 .0) ≡ ls
-    → length (each f (chunksOf (loop-of-asked c .loop .rest))) ≡ length ls + length (each f (chunksOf (c .before .before .before .next2 .given .0 .1 .0)))
-step c {ls} lines = let a = start-of-asked c .args in count-step (linesAt (a .handle .base .0) (a .tables) (a .words .now) (a .k) (a .level)) ls (cut c) lines
+step : {t : ℕ} (c : Asked t) {ls : List Line}
+    → let a = start-of-asked c .args in
+    let f = linesAt (a .handle .base .0) (a .tables) (a .words .now) (a .k) (a .level) in
+    f (c .before .before .before .next2 .given .0 .0) ≡ ls
+    → length (each f (chunksOf (loop-of-asked c .loop .rest)))
+    ≡ length ls + length (each f (chunksOf (c .before .before .before .next2 .given .0 .1 .0)))
+step c {ls} lines =
+    let a = start-of-asked c .args in
+    count-step (linesAt (a .handle .base .0) (a .tables) (a .words .now) (a .k) (a .level)) ls (cut c) lines
 
 -- room for the lines that remain
 room : {t : ℕ} (c : Asked t) → let a = start-of-asked c .args in
-    loop-of-asked c .loop .to + 4 * length (each (linesAt (a .handle .base .0) (a .tables) (a .words .now) (a .k) (a .level)) (chunksOf (loop-of-asked c .loop .rest))) ≤ length (loop-of-asked c .loop .list)
+    loop-of-asked c .loop .to
+    + 4
+    * length (each (linesAt (a .handle .base .0) (a .tables) (a .words .now) (a .k) (a .level)) (chunksOf (loop-of-asked c .loop .rest)))
+    ≤ length (loop-of-asked c .loop .list)
 room c =
     let inv = loop-of-asked c .loop .inv in
     omega (arith, inv .0, inv .1, ap length (all (loop-of-asked c .before)), start-of-asked c .pre .1 .3)
@@ -139,7 +179,14 @@ put-line-requires t c κs =
 add-to : (t : ℕ) → lts.Need-add-to (calls t) (started t) reads.Post Inv-loop μ-loop
 add-to t c =
     let s = c .before .before .before .before .before in
-    omega (arith, step s (one s (no-table _ (c .before .before .before .before .match2 .keys2))), room s, loop-of-asked s .loop .inv .1, start-of-asked s .good .1 .1 .1 .1 .1 .1 .0 .0)
+    omega (
+      arith,
+      step s
+          (one s (no-table _ (c .before .before .before .before .match2 .keys2))),
+      room s,
+      loop-of-asked s .loop .inv .1,
+      start-of-asked s .good .1 .1 .1 .1 .1 .1 .0 .0,
+    )
 
 loop-less : (t : ℕ) → lts.Need-loop-less (calls t) (started t) reads.Post Inv-loop μ-loop
 loop-less t c = let e = ap length (cut (c .before .before .before .before .before)) in omega (arith, e)
@@ -149,8 +196,14 @@ loop-again t c =
     let s = c .before .before .before .before .before in
     let at = loop-of-asked s .loop in
     let a = start-of-asked s .args in
-    let lines = one s (no-table _ (c .before .before .before .before .match2 .keys2)) in
-    (omega (arith, at .inv .0, step s lines), omega arith, write-step (linesAt (a .handle .base .0) (a .tables) (a .words .now) (a .k) (a .level)) _ (cut s) lines (at .to) (at .list) (room s) refl (c .before .before .put-line .ensures) ∙ at .inv .2)
+    let lines = one s (no-table _ (c .before .before .before .before .match2 .keys2)) in (
+      omega (arith, at .inv .0, step s lines),
+      omega arith,
+      write-step (linesAt (a .handle .base .0) (a .tables) (a .words .now) (a .k) (a .level)) _ (cut s) lines (at .to) (at .list) (room s)
+          refl
+          (c .before .before .put-line .ensures)
+          ∙ at .inv .2,
+    )
 
 add-visit-range : (t : ℕ) → lts.Need-add-visit-range (calls t) (started t) reads.Post Inv-loop μ-loop
 add-visit-range t c =
@@ -176,8 +229,13 @@ loop-again-2 t c =
     let a = start-of-asked s .args in
     let lines = below s _ (c .before .before .before .before .before .kind .given .1) in
     let to = ap (λ (x : Written). x .to) (c .before .before .visit-range .ensures) in
-    let list = ap (λ (x : Written). x .list) (c .before .before .visit-range .ensures) in
-    (omega (arith, at .inv .0, step s lines, to), omega arith, write-step (linesAt (a .handle .base .0) (a .tables) (a .words .now) (a .k) (a .level)) _ (cut s) lines (at .to) (at .list) (room s) to list ∙ at .inv .2)
+    let list = ap (λ (x : Written). x .list) (c .before .before .visit-range .ensures) in (
+      omega (arith, at .inv .0, step s lines, to),
+      omega arith,
+      write-step (linesAt (a .handle .base .0) (a .tables) (a .words .now) (a .k) (a .level)) _ (cut s) lines (at .to) (at .list) (room s)
+          to list
+          ∙ at .inv .2,
+    )
 
 pub +visit-range-spec : {M : Type 1} → statement M
 +visit-range-spec = close μ λ t. lts.spec (calls t)

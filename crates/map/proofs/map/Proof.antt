@@ -19,7 +19,8 @@ use Rattle.map_room.proofs.map_sound.Reads as map-sound-reads
 use Rattle.pool_handle.proofs.is_shaped.Reads as is-shaped-reads
 use Rattle.region.proofs.MemoryRegion.new.Reads as new-reads
 
--- ways back: to the start from where the shape is known, from the call of `map_sound` and from the returns; from the last return to where the map is asked for
+-- ways back: to the start from where the shape is known, from the call of `map_sound` and from the returns; from the last return to where
+-- the map is asked for
 abbrev start-of-shaped : tie.Else1 → tie.Start
 start-of-shaped c = c .before .before .before .before .before .before
 
@@ -49,7 +50,10 @@ same-length-2 : tie.Need-same-length-2
 same-length-2 c = refl
 
 returns : tie.Need-returns
-returns c = let a = c .before .before .before .before .before .before .args in call-misshaped (a .handle) (a .start .0) (a .end .0) (a .frame .0) (a .flags) (a .constraints .0) (st (a .words .now) (a .ledger .now)) (sym (c .before .is-shaped .ensures) ∙ not-true _ (c .if1 .taken))
+returns c =
+    let a = c .before .before .before .before .before .before .args in
+    call-misshaped (a .handle) (a .start .0) (a .end .0) (a .frame .0) (a .flags) (a .constraints .0) (st (a .words .now) (a .ledger .now))
+    (sym (c .before .is-shaped .ensures) ∙ not-true _ (c .if1 .taken))
 
 new-requires : tie.Need-new-requires
 new-requires c κs = tt
@@ -64,7 +68,17 @@ enum-told : tie.Need-enum-told
 enum-told c = c .match .keys2
 
 map-sound-requires : tie.Need-map-sound-requires
-map-sound-requires c κs = let a = start-of-sound c .args in let e = asked-is (a .start .0) (a .end .0) (a .frame .0) (a .flags) (a .constraints .0) (c .before .before .before .before .before .before .new .ensures) in (shaped-says (a .handle) (st (a .words .now) (a .ledger .now)) (rw (good (c .before .before .before .before .before .before .before)) tt), subst Fit (sym e) (asked-fit (a .handle) (a .start .0) (a .end .0) (a .frame .0) (a .flags) (a .constraints .0) (omega arith) (ap (λ (m : Map). verifyMap (a .handle) (a .end .0) m) (sym e) ∙ sym (c .before .before .before .before .verify-map .ensures) ∙ c .before .before .enum-told .given .1)))
+map-sound-requires c κs =
+    let a = start-of-sound c .args in
+    let e = asked-is (a .start .0) (a .end .0) (a .frame .0) (a .flags) (a .constraints .0)
+    (c .before .before .before .before .before .before .new .ensures) in (
+      shaped-says (a .handle) (st (a .words .now) (a .ledger .now))
+          (rw (good (c .before .before .before .before .before .before .before)) tt),
+      subst Fit (sym e)
+          (asked-fit (a .handle) (a .start .0) (a .end .0) (a .frame .0) (a .flags) (a .constraints .0) (omega arith)
+          (ap (λ (m : Map). verifyMap (a .handle) (a .end .0) m) (sym e) ∙ sym (c .before .before .before .before .verify-map .ensures)
+          ∙ c .before .before .enum-told .given .1)),
+    )
 
 same-length-3 : tie.Need-same-length-3
 same-length-3 c = refl
@@ -73,7 +87,15 @@ same-length-4 : tie.Need-same-length-4
 same-length-4 c = refl
 
 returns-2 : tie.Need-returns-2
-returns-2 c = let a = start-of-returns-2 c .args in call-refused (a .handle) (a .start .0) (a .end .0) (a .frame .0) (a .flags) (a .constraints .0) (st (a .words .now) (a .ledger .now)) (good (c .before .before .before .before .before .before)) (c .before .before .before .verify-map .ensures ∙ ap (λ (m : Map). verifyMap (a .handle) (a .end .0) m) (asked-is (a .start .0) (a .end .0) (a .frame .0) (a .flags) (a .constraints .0) (c .before .before .before .before .before .new .ensures))) _ (c .before .outcome .given .1)
+returns-2 c =
+    let a = start-of-returns-2 c .args in
+    call-refused (a .handle) (a .start .0) (a .end .0) (a .frame .0) (a .flags) (a .constraints .0) (st (a .words .now) (a .ledger .now))
+    (good (c .before .before .before .before .before .before))
+    (c .before .before .before .verify-map .ensures
+    ∙ ap (λ (m : Map). verifyMap (a .handle) (a .end .0) m)
+    (asked-is (a .start .0) (a .end .0) (a .frame .0) (a .flags) (a .constraints .0)
+    (c .before .before .before .before .before .new .ensures))) _
+    (c .before .outcome .given .1)
 
 same-length-5 : tie.Need-same-length-5
 same-length-5 c = search needs
@@ -82,7 +104,15 @@ same-length-6 : tie.Need-same-length-6
 same-length-6 c = search needs
 
 returns-3 : tie.Need-returns-3
-returns-3 c = let a = start-of-returns-3 c .args in let e = asked-is (a .start .0) (a .end .0) (a .frame .0) (a .flags) (a .constraints .0) (asked-of-returns-3 c .new .ensures) in c .before .before .before .before .map-sound .ensures ∙ ap (λ (m : Map). mapSound (a .handle) m (st (a .words .now) (a .ledger .now))) e ∙ call-asked (a .handle) (a .start .0) (a .end .0) (a .frame .0) (a .flags) (a .constraints .0) (st (a .words .now) (a .ledger .now)) (good (asked-of-returns-3 c .before)) (c .before .before .before .before .before .before .before .before .before .verify-map .ensures ∙ ap (λ (m : Map). verifyMap (a .handle) (a .end .0) m) e) (c .before .before .before .before .before .before .before .enum-told .given .1)
+returns-3 c =
+    let a = start-of-returns-3 c .args in
+    let e = asked-is (a .start .0) (a .end .0) (a .frame .0) (a .flags) (a .constraints .0) (asked-of-returns-3 c .new .ensures) in
+    c .before .before .before .before .map-sound .ensures ∙ ap (λ (m : Map). mapSound (a .handle) m (st (a .words .now) (a .ledger .now))) e
+    ∙ call-asked (a .handle) (a .start .0) (a .end .0) (a .frame .0) (a .flags) (a .constraints .0) (st (a .words .now) (a .ledger .now))
+    (good (asked-of-returns-3 c .before))
+    (c .before .before .before .before .before .before .before .before .before .verify-map .ensures
+    ∙ ap (λ (m : Map). verifyMap (a .handle) (a .end .0) m) e)
+    (c .before .before .before .before .before .before .before .enum-told .given .1)
 
 pub map-spec : {M : Type 1} → statement M
 map-spec =

@@ -48,12 +48,30 @@ fewer t =
     reads.Pre
 
 abbrev calls : ℕ → lts.Claims
-calls t = (count-last-reads.Asked, count-last-reads.Learnt, chunk-end-reads.Asked, chunk-end-reads.Learnt, entry-index-reads.Asked, entry-index-reads.Learnt, subtable-reads.Asked, subtable-reads.Learnt, count-entry-reads.Asked, count-entry-reads.Learnt, chunk-of-reads.Asked, chunk-of-reads.Learnt, rule-of-reads.Asked, rule-of-reads.Learnt, fewer t, reads.Post)
+calls t = (
+  count-last-reads.Asked,
+  count-last-reads.Learnt,
+  chunk-end-reads.Asked,
+  chunk-end-reads.Learnt,
+  entry-index-reads.Asked,
+  entry-index-reads.Learnt,
+  subtable-reads.Asked,
+  subtable-reads.Learnt,
+  count-entry-reads.Asked,
+  count-entry-reads.Learnt,
+  chunk-of-reads.Asked,
+  chunk-of-reads.Learnt,
+  rule-of-reads.Asked,
+  rule-of-reads.Learnt,
+  fewer t,
+  reads.Post,
+)
 
 abbrev Inv-loop : lts.InvT-loop
 Inv-loop words ledger handle k level map end at₀ frame₀ count₀ at frame count =
     (at ≤ map .region .end .0) × (at % 4096 ≡ 0) × (frame % 4096 ≡ 0) × (frame + (map .region .end .0 - at) ≤ 2 ^ 48)
-    × (count + sumChunks level (countAt handle (st words ledger) k level) (chunkMap map (region at (map .region .end .0)) frame) ≡ sumChunks level (countAt handle (st words ledger) k level) map)
+    × (count + sumChunks level (countAt handle (st words ledger) k level) (chunkMap map (region at (map .region .end .0)) frame)
+    ≡ sumChunks level (countAt handle (st words ledger) k level) map)
 
 abbrev μ-loop : lts.MeasureT-loop
 μ-loop words ledger handle k level map end at₀ frame₀ count₀ at frame count = map .region .end .0 - at
@@ -71,12 +89,15 @@ chunk-of-lower c = c .before .before .before .before .before .before .before .be
 
 -- the chunk's own map, and what remains after it
 abbrev chunkOf : (t : ℕ) → Place t → Map
-chunkOf t c = chunkMap (start-of-chunk c .args .map) (region (c .before .before .before .loop .at) (c .before .chunk-end .result)) (c .before .before .before .loop .frame)
+chunkOf t c =
+    chunkMap (start-of-chunk c .args .map) (region (c .before .before .before .loop .at) (c .before .chunk-end .result))
+    (c .before .before .before .loop .frame)
 
 abbrev leftOf : (t : ℕ) → Place t → Map
 leftOf t c =
     let m = start-of-chunk c .args .map in
-    chunkMap m (region (c .before .chunk-end .result) (m .region .end .0)) (c .before .before .before .loop .frame + (c .before .chunk-end .result - c .before .before .before .loop .at))
+    chunkMap m (region (c .before .chunk-end .result) (m .region .end .0))
+    (c .before .before .before .loop .frame + (c .before .chunk-end .result - c .before .before .before .loop .at))
 
 -- what one chunk counts
 abbrev counts : (t : ℕ) → Place t → Map → ℕ
@@ -92,7 +113,9 @@ record Facts (t : ℕ) (c : Place t) : Type 0 where
   room : leftOf t c .frame .0 + (leftOf t c .region .end .0 - leftOf t c .region .start .0) ≤ 2 ^ 48
   slot : c .entry-index .result < 512
   fit : Fit (chunkOf t c)
-  next : c .before .before .before .loop .count + (counts t c (chunkOf t c) + sumChunks (start-of-chunk c .args .level) (counts t c) (leftOf t c)) ≡ sumChunks (start-of-chunk c .args .level) (counts t c) (start-of-chunk c .args .map)
+  next : c .before .before .before .loop .count
+      + (counts t c (chunkOf t c) + sumChunks (start-of-chunk c .args .level) (counts t c) (leftOf t c))
+      ≡ sumChunks (start-of-chunk c .args .level) (counts t c) (start-of-chunk c .args .map)
   most : sumChunks (start-of-chunk c .args .level) (counts t c) (start-of-chunk c .args .map) ≤ 3 * 2 ^ 48
 
 facts : (t : ℕ) (c : Place t) → Facts t c
@@ -116,21 +139,28 @@ facts t c =
       under = omega (arith, fits .1);
       paged = ap (λ (x : ℕ). x % 4096) stop ∙ chunk-paged (a .level) (at .loop .at) (a .map .region .end .0) (p .3 .to);
       framed = ap (λ (x : ℕ). (at .loop .frame + (x - at .loop .at)) % 4096) stop
-          ∙ rest-paged (a .level) (at .loop .at) (a .map .region .end .0) (at .loop .frame) (a .map) (p .3) low (inv .1) (p .3 .to) (inv .2) (inv .3);
+          ∙ rest-paged (a .level) (at .loop .at) (a .map .region .end .0) (at .loop .frame) (a .map) (p .3) low (inv .1) (p .3 .to) (inv .2)
+          (inv .3);
       room = omega (arith, fits .0, fits .1, inv .3);
       slot = omega (arith, c .entry-index .ensures);
       fit = subst⁻¹ (λ (x : ℕ). Fit (chunkMap (a .map) (region (at .loop .at) x) (at .loop .frame))) stop
-          (chunk-fit (a .level) (at .loop .at) (a .map .region .end .0) (at .loop .frame) (a .map) (p .3) low (inv .1) (p .3 .to) (inv .2) (inv .3));
+          (chunk-fit (a .level) (at .loop .at) (a .map .region .end .0) (at .loop .frame) (a .map) (p .3) low (inv .1) (p .3 .to) (inv .2)
+          (inv .3));
       next =
-          ap (λ (x : ℕ). at .loop .count + (f (chunkMap (a .map) (region (at .loop .at) x) (at .loop .frame)) + sumChunks (a .level) f (chunkMap (a .map) (region x (a .map .region .end .0)) (at .loop .frame + (x - at .loop .at))))) stop
-          ∙ ap (λ (x : ℕ). at .loop .count + x) (sym (sum-first (a .level) f (chunkMap (a .map) (region (at .loop .at) (a .map .region .end .0)) (at .loop .frame)) low))
+          ap (λ (x : ℕ). at .loop .count
+          + (f (chunkMap (a .map) (region (at .loop .at) x) (at .loop .frame))
+          + sumChunks (a .level) f
+          (chunkMap (a .map) (region x (a .map .region .end .0)) (at .loop .frame + (x - at .loop .at))))) stop
+          ∙ ap (λ (x : ℕ). at .loop .count + x)
+          (sym (sum-first (a .level) f (chunkMap (a .map) (region (at .loop .at) (a .map .region .end .0)) (at .loop .frame)) low))
           ∙ inv .4;
       most = omega (arith, count-fit (a .handle) s (a .k) (a .level) (a .map) (omega arith), p .3 .some, p .3 .room);
     }
 
 -- the chunk's part, where it is what the code adds: the sum that is left after it
 counted : (t : ℕ) (c : Place t) (n : ℕ) → counts t c (chunkOf t c) ≡ n
-    → c .before .before .before .loop .count + n + sumChunks (start-of-chunk c .args .level) (counts t c) (leftOf t c) ≡ sumChunks (start-of-chunk c .args .level) (counts t c) (start-of-chunk c .args .map)
+    → c .before .before .before .loop .count + n + sumChunks (start-of-chunk c .args .level) (counts t c) (leftOf t c)
+    ≡ sumChunks (start-of-chunk c .args .level) (counts t c) (start-of-chunk c .args .map)
 counted t c n e = omega (arith, facts t c .next)
 
 adds : (t : ℕ) (c : Place t) (n : ℕ) → counts t c (chunkOf t c) ≡ n → c .before .before .before .loop .count + n < 2 ^ 64
@@ -138,16 +168,45 @@ adds t c n e = let f = facts t c in omega (arith, f .next, f .most)
 
 -- the rule of the chunk, and what the tables below it need
 ruled : (t : ℕ) (c : lts.After-rule-of (calls t) (started t) reads.Post Inv-loop μ-loop) (w : ℕ)
-    → c .rule-of .result ≡ ruleOf (start-of-chunk (c .before .before .before .before .before .before .before) .args .level) (c .before .chunk-of .result) w → c .rule-of .result ≡ ruleOf (start-of-chunk (c .before .before .before .before .before .before .before) .args .level) (chunkOf t (c .before .before .before .before .before .before .before)) w
-ruled t c w e = e ∙ ap (λ (m : Map). ruleOf (start-of-chunk (c .before .before .before .before .before .before .before) .args .level) m w) (c .before .chunk-of .ensures)
+    → let place = c .before .before .before .before .before .before .before in let level = start-of-chunk place .args .level in
+    c .rule-of .result ≡ ruleOf level (c .before .chunk-of .result) w → c .rule-of .result ≡ ruleOf level (chunkOf t place) w
+ruled t c w e =
+    let level = start-of-chunk (c .before .before .before .before .before .before .before) .args .level in
+    e ∙ ap (λ (m : Map). ruleOf level m w) (c .before .chunk-of .ensures)
 
 lower : (t : ℕ) (c : lts.After-count-new (calls t) (started t) reads.Post Inv-loop μ-loop) (j : ℕ)
     → let a = start-of-chunk (chunk-of-lower c) .args in let s = st (a .words .now) (a .ledger .now) in
-    c .count-new .result ≡ closed (3 - (a .level + 1)) (a .handle) s j (c .before .before .before .before .chunk-of .result) → c .count-new .result ≡ closed (3 - (a .level + 1)) (a .handle) s j (chunkOf t (chunk-of-lower c))
-lower t c j e = let a = start-of-chunk (chunk-of-lower c) .args in e ∙ ap (λ (m : Map). closed (3 - (a .level + 1)) (a .handle) (st (a .words .now) (a .ledger .now)) j m) (c .before .before .before .before .chunk-of .ensures)
+    c .count-new .result ≡ closed (3 - (a .level + 1)) (a .handle) s j (c .before .before .before .before .chunk-of .result)
+    → c .count-new .result ≡ closed (3 - (a .level + 1)) (a .handle) s j (chunkOf t (chunk-of-lower c))
+lower t c j e =
+    let a = start-of-chunk (chunk-of-lower c) .args in
+    let s = st (a .words .now) (a .ledger .now) in
+    e ∙ ap (λ (m : Map). closed (3 - (a .level + 1)) (a .handle) s j m) (c .before .before .before .before .chunk-of .ensures)
+
+-- what the chunk counts where its entry is a leaf, and where it is a table
+leaf-here : (t : ℕ) (c : lts.After-count-entry (calls t) (started t) reads.Post Inv-loop μ-loop)
+    → let place = c .before .before .before .before .before .before in counts t place (chunkOf t place) ≡ c .count-entry .result
+leaf-here t c =
+    let place = c .before .before .before .before .before .before in
+    let a = start-of-chunk place .args in
+    entry-leaf (a .handle) (st (a .words .now) (a .ledger .now)) (a .k) (a .level) (chunkOf t place) (place .entry-index .ensures)
+    (c .before .before .before .before .subtable .ensures) (c .before .enum-told .given .1) (omega (arith, facts t place .high))
+    ∙ sym (c .count-entry .ensures)
+
+table-here : (t : ℕ) (c : lts.After-count-new (calls t) (started t) reads.Post Inv-loop μ-loop)
+    → let place = chunk-of-lower c in counts t place (chunkOf t place) ≡ c .count-new .result
+table-here t c =
+    let place = chunk-of-lower c in
+    let a = start-of-chunk place .args in
+    let rule = c .before .before .before in
+    entry-table (a .handle) (st (a .words .now) (a .ledger .now)) (a .k) (a .level) (chunkOf t place) (place .entry-index .ensures)
+    (c .before .before .before .before .before .before .before .before .subtable .ensures) (ruled t rule _ (rule .rule-of .ensures)) _ (c .before .before .before .before .before .before .kind .given .1) (c .before .enum-told2 .given .1)
+    ∙ sym (lower t c _ (c .count-new .ensures))
 
 returns : (t : ℕ) → lts.Need-returns (calls t) (started t) reads.Post Inv-loop μ-loop
-returns t c = let a = c .before .before .before .args in closed-done (a .handle) (st (a .words .now) (a .ledger .now)) (a .k) (a .level) (a .map) (omega arith)
+returns t c =
+    let a = c .before .before .before .args in
+    closed-done (a .handle) (st (a .words .now) (a .ledger .now)) (a .k) (a .level) (a .map) (omega arith)
 
 count-last-requires : (t : ℕ) → lts.Need-count-last-requires (calls t) (started t) reads.Post Inv-loop μ-loop
 count-last-requires t c κs = let p = c .before .before .before .before .pre .1 in (p .0, p .1, p .3)
@@ -155,7 +214,8 @@ count-last-requires t c κs = let p = c .before .before .before .before .pre .1 
 returns-2 : (t : ℕ) → lts.Need-returns-2 (calls t) (started t) reads.Post Inv-loop μ-loop
 returns-2 t c =
     let a = c .before .before .before .before .before .args in
-    c .count-last .ensures ∙ ap (λ (l : ℕ). closed (3 - l) (a .handle) (st (a .words .now) (a .ledger .now)) (a .k) (a .map)) (sym (c .before .if2 .taken))
+    c .count-last .ensures
+    ∙ ap (λ (l : ℕ). closed (3 - l) (a .handle) (st (a .words .now) (a .ledger .now)) (a .k) (a .map)) (sym (c .before .if2 .taken))
 
 loop-holds : (t : ℕ) → lts.Need-loop-holds (calls t) (started t) reads.Post Inv-loop μ-loop
 loop-holds t c = let p = c .before .before .before .before .pre .1 in (p .3 .some, p .3 .from, p .3 .frame, p .3 .room, omega arith)
@@ -182,7 +242,8 @@ mul-word-2 : (t : ℕ) → lts.Need-mul-word-2 (calls t) (started t) reads.Post 
 mul-word-2 t c = let f = facts t (c) in omega (arith, f .slot, start-of-chunk c .pre .1 .0, start-of-chunk c .pre .1 .1)
 
 shared-slice-read-word : (t : ℕ) → lts.Need-shared-slice-read-word (calls t) (started t) reads.Post Inv-loop μ-loop
-shared-slice-read-word t c = let f = facts t (c .before) in omega (arith, f .slot, start-of-chunk (c .before) .pre .1 .0, start-of-chunk (c .before) .pre .1 .1)
+shared-slice-read-word t c =
+    let f = facts t (c .before) in omega (arith, f .slot, start-of-chunk (c .before) .pre .1 .0, start-of-chunk (c .before) .pre .1 .1)
 
 subtable-requires : (t : ℕ) → lts.Need-subtable-requires (calls t) (started t) reads.Post Inv-loop μ-loop
 subtable-requires t c κs = omega arith
@@ -201,49 +262,63 @@ loop-again t c =
     let place = c .before .before .before .before in
     let f = facts t place in
     let a = start-of-chunk place .args in
-    let here = entry-outside (a .handle) (st (a .words .now) (a .ledger .now)) (a .k) (a .level) (chunkOf t place) (place .entry-index .ensures) (c .before .before .subtable .ensures) (is-outside (c .before .before .subtable .result) (c .before .match .keys2) (c .match2 .keys2)) in
+    let sub = c .before .before .subtable in
+    let outside = is-outside (sub .result) (c .before .match .keys2) (c .match2 .keys2) in
+    let here = entry-outside (a .handle) (st (a .words .now) (a .ledger .now)) (a .k) (a .level) (chunkOf t place)
+    (place .entry-index .ensures) (sub .ensures) outside in
     (f .under, f .paged, f .framed, f .room, omega (arith, counted t place 0 here))
 
 count-entry-requires : (t : ℕ) → lts.Need-count-entry-requires (calls t) (started t) reads.Post Inv-loop μ-loop
-count-entry-requires t c κs = let f = facts t (c .before .before .before .before .before) in (f .fit, record { some = f .above; within = f .within }, f .high)
+count-entry-requires t c κs =
+    let f = facts t (c .before .before .before .before .before) in (f .fit, record { some = f .above; within = f .within }, f .high)
 
 add-count : (t : ℕ) → lts.Need-add-count (calls t) (started t) reads.Post Inv-loop μ-loop
-add-count t c =
-    let place = c .before .before .before .before .before .before in
-    let f = facts t place in
-    let a = start-of-chunk place .args in
-    let here = entry-leaf (a .handle) (st (a .words .now) (a .ledger .now)) (a .k) (a .level) (chunkOf t place) (place .entry-index .ensures) (c .before .before .before .before .subtable .ensures) (c .before .enum-told .given .1) (omega (arith, f .high)) in
-    omega (arith, adds t place (c .count-entry .result) (here ∙ sym (c .count-entry .ensures)))
+add-count t c = omega (arith, adds t (c .before .before .before .before .before .before) (c .count-entry .result) (leaf-here t c))
 
 loop-less-2 : (t : ℕ) → lts.Need-loop-less-2 (calls t) (started t) reads.Post Inv-loop μ-loop
-loop-less-2 t c = omega (arith, facts t (c .before .before .before .before .before .before) .above, facts t (c .before .before .before .before .before .before) .under)
+loop-less-2 t c =
+    omega (
+      arith,
+      facts t (c .before .before .before .before .before .before) .above,
+      facts t
+          (c .before .before .before .before .before .before) .under,
+    )
 
 loop-again-2 : (t : ℕ) → lts.Need-loop-again-2 (calls t) (started t) reads.Post Inv-loop μ-loop
 loop-again-2 t c =
     let place = c .before .before .before .before .before .before in
     let f = facts t place in
-    let a = start-of-chunk place .args in
-    let here = entry-leaf (a .handle) (st (a .words .now) (a .ledger .now)) (a .k) (a .level) (chunkOf t place) (place .entry-index .ensures) (c .before .before .before .before .subtable .ensures) (c .before .enum-told .given .1) (omega (arith, f .high)) in
-    (f .under, f .paged, f .framed, f .room, counted t place (c .count-entry .result) (here ∙ sym (c .count-entry .ensures)))
+    (f .under, f .paged, f .framed, f .room, counted t place (c .count-entry .result) (leaf-here t c))
 
 chunk-of-requires : (t : ℕ) → lts.Need-chunk-of-requires (calls t) (started t) reads.Post Inv-loop μ-loop
 chunk-of-requires t c κs = tt
 
 rule-of-requires : (t : ℕ) → lts.Need-rule-of-requires (calls t) (started t) reads.Post Inv-loop μ-loop
-rule-of-requires t c κs = let f = facts t (c .before .before .before .before .before .before) in subst⁻¹ (λ (m : Map). Fit m × (m .region .start .0 < m .region .end .0)) (c .chunk-of .ensures) (f .fit, f .above)
+rule-of-requires t c κs =
+    let f = facts t (c .before .before .before .before .before .before) in
+    subst⁻¹ (λ (m : Map). Fit m × (m .region .start .0 < m .region .end .0)) (c .chunk-of .ensures) (f .fit, f .above)
 
 enum-told-2 : (t : ℕ) → lts.Need-enum-told-2 (calls t) (started t) reads.Post Inv-loop μ-loop
 enum-told-2 t c = c .match3 .keys1
 
 loop-less-3 : (t : ℕ) → lts.Need-loop-less-3 (calls t) (started t) reads.Post Inv-loop μ-loop
-loop-less-3 t c = omega (arith, facts t (c .before .before .before .before .before .before .before .before) .above, facts t (c .before .before .before .before .before .before .before .before) .under)
+loop-less-3 t c =
+    omega (
+      arith,
+      facts t (c .before .before .before .before .before .before .before .before) .above,
+      facts t
+          (c .before .before .before .before .before .before .before .before) .under,
+    )
 
 loop-again-3 : (t : ℕ) → lts.Need-loop-again-3 (calls t) (started t) reads.Post Inv-loop μ-loop
 loop-again-3 t c =
     let place = c .before .before .before .before .before .before .before .before in
     let f = facts t place in
     let a = start-of-chunk place .args in
-    let here = entry-none (a .handle) (st (a .words .now) (a .ledger .now)) (a .k) (a .level) (chunkOf t place) (place .entry-index .ensures) (c .before .before .before .before .before .before .subtable .ensures) (ruled t (c .before) _ (c .before .rule-of .ensures)) (no-down (c .before .rule-of .result) (c .match3 .keys2)) in
+    let rule = c .before in
+    let none = no-down (rule .rule-of .result) (c .match3 .keys2) in
+    let here = entry-none (a .handle) (st (a .words .now) (a .ledger .now)) (a .k) (a .level) (chunkOf t place)
+    (place .entry-index .ensures) (c .before .before .before .before .before .before .subtable .ensures) (ruled t rule _ (rule .rule-of .ensures)) none in
     (f .under, f .paged, f .framed, f .room, omega (arith, counted t place 0 here))
 
 add-count-new : (t : ℕ) → lts.Need-add-count-new (calls t) (started t) reads.Post Inv-loop μ-loop
@@ -254,16 +329,15 @@ count-new-requires t c κs =
     let f = facts t (c .before .before .before .before .before .before .before .before .before) in
     let a = start-of-chunk (c .before .before .before .before .before .before .before .before .before) .args in
     let p = start-of-chunk (c .before .before .before .before .before .before .before .before .before) .pre .1 in
-    let inside = sub-below (a .handle .base .0) _ (a .level) _ _ (sym (c .before .before .before .before .before .before .before .subtable .ensures) ∙ c .before .before .before .before .before .kind .given .1) in
-    (omega (arith, f .high, start-of-chunk (c .before .before .before .before .before .before .before .before .before) .pre .0), (p .0, inside, omega (arith, f .high), subst⁻¹ Fit (c .before .before .before .chunk-of .ensures) (f .fit)))
+    let inside = sub-below (a .handle .base .0) _ (a .level) _ _
+    (sym (c .before .before .before .before .before .before .before .subtable .ensures)
+    ∙ c .before .before .before .before .before .kind .given .1) in (
+      omega (arith, f .high, start-of-chunk (c .before .before .before .before .before .before .before .before .before) .pre .0),
+      (p .0, inside, omega (arith, f .high), subst⁻¹ Fit (c .before .before .before .chunk-of .ensures) (f .fit)),
+    )
 
 add-count-2 : (t : ℕ) → lts.Need-add-count-2 (calls t) (started t) reads.Post Inv-loop μ-loop
-add-count-2 t c =
-    let place = chunk-of-lower c in
-    let f = facts t place in
-    let a = start-of-chunk place .args in
-    let here = entry-table (a .handle) (st (a .words .now) (a .ledger .now)) (a .k) (a .level) (chunkOf t place) (place .entry-index .ensures) (c .before .before .before .before .before .before .before .before .subtable .ensures) (ruled t (c .before .before .before) _ (c .before .before .before .rule-of .ensures)) _ (c .before .before .before .before .before .before .kind .given .1) (c .before .enum-told2 .given .1) in
-    omega (arith, adds t place (c .count-new .result) (here ∙ sym (lower t c _ (c .count-new .ensures))))
+add-count-2 t c = omega (arith, adds t (chunk-of-lower c) (c .count-new .result) (table-here t c))
 
 loop-less-4 : (t : ℕ) → lts.Need-loop-less-4 (calls t) (started t) reads.Post Inv-loop μ-loop
 loop-less-4 t c = omega (arith, facts t (chunk-of-lower c) .above, facts t (chunk-of-lower c) .under)
@@ -272,9 +346,7 @@ loop-again-4 : (t : ℕ) → lts.Need-loop-again-4 (calls t) (started t) reads.P
 loop-again-4 t c =
     let place = chunk-of-lower c in
     let f = facts t place in
-    let a = start-of-chunk place .args in
-    let here = entry-table (a .handle) (st (a .words .now) (a .ledger .now)) (a .k) (a .level) (chunkOf t place) (place .entry-index .ensures) (c .before .before .before .before .before .before .before .before .subtable .ensures) (ruled t (c .before .before .before) _ (c .before .before .before .rule-of .ensures)) _ (c .before .before .before .before .before .before .kind .given .1) (c .before .enum-told2 .given .1) in
-    (f .under, f .paged, f .framed, f .room, counted t place (c .count-new .result) (here ∙ sym (lower t c _ (c .count-new .ensures))))
+    (f .under, f .paged, f .framed, f .room, counted t place (c .count-new .result) (table-here t c))
 
 returns-3 : (t : ℕ) → lts.Need-returns-3 (calls t) (started t) reads.Post Inv-loop μ-loop
 returns-3 t c =

@@ -38,7 +38,20 @@ fewer t =
     and 0 kinds.ps (falls 0 kinds.ps _<_ μ t) reads.Pre
 
 abbrev calls : ℕ → lts.Claims
-calls t = (rule-of-reads.Asked, rule-of-reads.Learnt, chunk-end-reads.Asked, chunk-end-reads.Learnt, chunk-of-reads.Asked, chunk-of-reads.Learnt, part-of-reads.Asked, part-of-reads.Learnt, fewer t, reads.Post, count-rest-reads.Asked, count-rest-reads.Learnt)
+calls t = (
+  rule-of-reads.Asked,
+  rule-of-reads.Learnt,
+  chunk-end-reads.Asked,
+  chunk-end-reads.Learnt,
+  chunk-of-reads.Asked,
+  chunk-of-reads.Learnt,
+  part-of-reads.Asked,
+  part-of-reads.Learnt,
+  fewer t,
+  reads.Post,
+  count-rest-reads.Asked,
+  count-rest-reads.Learnt,
+)
 
 -- after the call that finds where the first chunk below ends
 abbrev Place : ℕ → Type 0
@@ -54,7 +67,8 @@ firstOf t c = let m = start-of-chunk c .args .map in chunkMap m (region (m .regi
 
 -- where it ends, and that its map fits
 record Facts (t : ℕ) (c : Place t) : Type 0 where
-  fits : (start-of-chunk c .args .map .region .start .0 < c .chunk-end .result) × (c .chunk-end .result ≤ start-of-chunk c .args .map .region .end .0)
+  fits : (start-of-chunk c .args .map .region .start .0 < c .chunk-end .result)
+      × (c .chunk-end .result ≤ start-of-chunk c .args .map .region .end .0)
   fit : Fit (firstOf t c)
   length : start-of-chunk c .args .map .region .end .0 - start-of-chunk c .args .map .region .start .0 ≤ 2 ^ 48
   high : start-of-chunk c .args .level < 2
@@ -68,36 +82,55 @@ facts t c =
     let cut = chunk-fits (a .level + 1) (a .map .region .start .0) (a .map .region .end .0) (p .1) in
     record {
       fits = (omega (arith, cut .0), omega (arith, cut .1));
-      fit = subst⁻¹ (λ (x : ℕ). Fit (chunkMap (a .map) (region (a .map .region .start .0) x) (a .map .frame .0))) stop (first-fit (a .level + 1) (a .map) (p .0) (p .1));
+      fit =
+          subst⁻¹ (λ (x : ℕ). Fit (chunkMap (a .map) (region (a .map .region .start .0) x) (a .map .frame .0))) stop
+          (first-fit (a .level + 1) (a .map) (p .0) (p .1));
       length = length-fits (a .level + 1) (a .map) (p .0) (p .1);
       high = omega arith;
     }
 
 -- what the call one level down answers
 below : (t : ℕ) (c : lts.After-count-leaf (calls t) (started t) reads.Post)
-    → c .count-leaf .result ≡ closedLeaf (3 - (c .before .before .before .before .before .before .before .before .before .args .level + 1)) (firstOf t (c .before .before .before .before)) (c .before .part-of .result)
-below t c = c .count-leaf .ensures ∙ ap (λ (m : Map). closedLeaf (3 - (c .before .before .before .before .before .before .before .before .before .args .level + 1)) m (c .before .part-of .result)) (c .before .before .before .chunk-of .ensures)
+    → c .count-leaf .result
+    ≡ closedLeaf (3 - (c .before .before .before .before .before .before .before .before .before .args .level + 1))
+    (firstOf t (c .before .before .before .before)) (c .before .part-of .result)
+below t c =
+    c .count-leaf .ensures
+    ∙ ap (λ (m : Map). closedLeaf (3 - (c .before .before .before .before .before .before .before .before .before .args .level + 1)) m
+    (c .before .part-of .result))
+    (c .before .before .before .chunk-of .ensures)
 
 deeper : (t : ℕ) (c : lts.After-count-leaf (calls t) (started t) reads.Post)
     → let a = c .before .before .before .before .before .before .before .before .before .args in
-    c .count-leaf .result ≡ closedLeaf (3 - (a .level + 1)) (firstChunk (a .level + 1) (a .map)) (childWord (a .level) (a .word) (a .map .region .start .0))
+    c .count-leaf .result
+    ≡ closedLeaf (3 - (a .level + 1)) (firstChunk (a .level + 1) (a .map)) (childWord (a .level) (a .word) (a .map .region .start .0))
 deeper t c =
     let a = c .before .before .before .before .before .before .before .before .before .args in
     below t c
-    ∙ ap₂ (λ (x w : ℕ). closedLeaf (3 - (a .level + 1)) (chunkMap (a .map) (region (a .map .region .start .0) x) (a .map .frame .0)) w) (c .before .before .before .before .chunk-end .ensures) (c .before .part-of .ensures)
+    ∙ ap₂ (λ (x w : ℕ). closedLeaf (3 - (a .level + 1)) (chunkMap (a .map) (region (a .map .region .start .0) x) (a .map .frame .0)) w)
+    (c .before .before .before .before .chunk-end .ensures) (c .before .part-of .ensures)
 
 deeper-fits : (t : ℕ) (c : lts.After-count-leaf (calls t) (started t) reads.Post) → c .count-leaf .result ≤ 3 * 2 ^ 48
 deeper-fits t c =
     let f = facts t (c .before .before .before .before) in
-    let most = leaf-fit (c .before .before .before .before .before .before .before .before .before .args .level + 1) (firstOf t (c .before .before .before .before)) (c .before .part-of .result) (f .fits .0) in
+    let most = leaf-fit (c .before .before .before .before .before .before .before .before .before .args .level + 1)
+    (firstOf t (c .before .before .before .before)) (c .before .part-of .result) (f .fits .0) in
     omega (arith, below t c, f .fits .0, f .fits .1, f .length)
 
 -- what remains, and its count
 abbrev restOf : (t : ℕ) → Place t → Map
-restOf t c = let m = start-of-chunk c .args .map in chunkMap m (region (c .chunk-end .result) (m .region .end .0)) (m .frame .0 + (c .chunk-end .result - m .region .start .0))
+restOf t c =
+    let m = start-of-chunk c .args .map in
+    chunkMap m (region (c .chunk-end .result) (m .region .end .0)) (m .frame .0 + (c .chunk-end .result - m .region .start .0))
 
-rested : (t : ℕ) (c : lts.After-count-rest (calls t) (started t) reads.Post) → c .count-rest .result ≡ rests (3 - (start-of-chunk (c .before .before .before .before .before) .args .level + 1)) (restOf t (c .before .before .before .before .before))
-rested t c = c .count-rest .ensures ∙ ap (rests (3 - (start-of-chunk (c .before .before .before .before .before) .args .level + 1))) (c .before .before .before .chunk-of2 .ensures)
+rested : (t : ℕ) (c : lts.After-count-rest (calls t) (started t) reads.Post)
+    → c .count-rest .result
+    ≡ rests (3 - (start-of-chunk (c .before .before .before .before .before) .args .level + 1))
+    (restOf t (c .before .before .before .before .before))
+rested t c =
+    c .count-rest .ensures
+    ∙ ap (rests (3 - (start-of-chunk (c .before .before .before .before .before) .args .level + 1)))
+    (c .before .before .before .chunk-of2 .ensures)
 
 rule-of-requires : (t : ℕ) → lts.Need-rule-of-requires (calls t) (started t) reads.Post
 rule-of-requires t c κs = c .pre .1
@@ -106,10 +139,16 @@ enum-told : (t : ℕ) → lts.Need-enum-told (calls t) (started t) reads.Post
 enum-told t c = c .match .keys1
 
 returns : (t : ℕ) → lts.Need-returns (calls t) (started t) reads.Post
-returns t c = let a = c .before .before .args in leaf-none (a .level) (a .map) (a .word) (c .before .rule-of .ensures) (no-down (c .before .rule-of .result) (c .match .keys2))
+returns t c =
+    let a = c .before .before .args in
+    leaf-none (a .level) (a .map) (a .word) (c .before .rule-of .ensures) (no-down (c .before .rule-of .result) (c .match .keys2))
 
 returns-2 : (t : ℕ) → lts.Need-returns-2 (calls t) (started t) reads.Post
-returns-2 t c = let a = c .before .before .before .before .args in leaf-low (a .level) (a .map) (a .word) (c .before .before .before .rule-of .ensures) (c .before .enum-told .given .1) (down-high (a .level) (a .map) (a .word) (c .before .before .before .rule-of .ensures) (c .before .enum-told .given .1)) (omega arith)
+returns-2 t c =
+    let a = c .before .before .before .before .args in
+    leaf-low (a .level) (a .map) (a .word) (c .before .before .before .rule-of .ensures) (c .before .enum-told .given .1)
+    (down-high (a .level) (a .map) (a .word) (c .before .before .before .rule-of .ensures) (c .before .enum-told .given .1))
+    (omega arith)
 
 add-chunk-end : (t : ℕ) → lts.Need-add-chunk-end (calls t) (started t) reads.Post
 add-chunk-end t c = omega arith
@@ -136,8 +175,10 @@ add-count-leaf : (t : ℕ) → lts.Need-add-count-leaf (calls t) (started t) rea
 add-count-leaf t c = omega (arith, facts t (c .before .before .before) .high)
 
 count-leaf-requires : (t : ℕ) → lts.Need-count-leaf-requires (calls t) (started t) reads.Post
-count-leaf-requires t c κs = let f = facts t (c .before .before .before) in
-    (omega (arith, f .high, c .before .before .before .before .before .before .before .before .pre .0), subst⁻¹ (λ (m : Map). Fit m × (m .region .start .0 < m .region .end .0)) (c .before .before .chunk-of .ensures) (f .fit, f .fits .0))
+count-leaf-requires t c κs = let f = facts t (c .before .before .before) in (
+  omega (arith, f .high, c .before .before .before .before .before .before .before .before .pre .0),
+  subst⁻¹ (λ (m : Map). Fit m × (m .region .start .0 < m .region .end .0)) (c .before .before .chunk-of .ensures) (f .fit, f .fits .0),
+)
 
 add-result-2 : (t : ℕ) → lts.Need-add-result-2 (calls t) (started t) reads.Post
 add-result-2 t c = omega (arith, deeper-fits t c)
@@ -147,21 +188,36 @@ add-count-rest t c = omega (arith, facts t (c .before .before .before .before) .
 
 count-rest-requires : (t : ℕ) → lts.Need-count-rest-requires (calls t) (started t) reads.Post
 count-rest-requires t c κs = let f = facts t (c .before .before .before .before) in
-    let length : restOf t (c .before .before .before .before) .region .end .0 - restOf t (c .before .before .before .before) .region .start .0 ≤ 2 ^ 48 = omega (arith, f .fits .0, f .length) in
+    let length : restOf t (c .before .before .before .before) .region .end .0
+    - restOf t (c .before .before .before .before) .region .start .0
+    ≤ 2 ^ 48 =
+    omega (arith, f .fits .0, f .length) in
     subst⁻¹ (λ (m : Map). m .region .end .0 - m .region .start .0 ≤ 2 ^ 48) (c .before .before .chunk-of2 .ensures) length
 
 add-result-3 : (t : ℕ) → lts.Need-add-result-3 (calls t) (started t) reads.Post
 add-result-3 t c =
     let f = facts t (c .before .before .before .before .before) in
-    omega (arith, deeper-fits t (c .before), rested t c, rests-fit (start-of-chunk (c .before .before .before .before .before) .args .level + 1) (restOf t (c .before .before .before .before .before)), f .fits .0, f .length)
+    omega (
+      arith,
+      deeper-fits t (c .before),
+      rested t c,
+      rests-fit (start-of-chunk (c .before .before .before .before .before) .args .level + 1)
+          (restOf t (c .before .before .before .before .before)),
+      f .fits .0,
+      f .length,
+    )
 
 returns-3 : (t : ℕ) → lts.Need-returns-3 (calls t) (started t) reads.Post
 returns-3 t c =
     let a = start-of-chunk (c .before .before .before .before .before) .args in
     let high = facts t (c .before .before .before .before .before) .high in
-    let rest = rested t c ∙ ap (λ (x : ℕ). rests (3 - (a .level + 1)) (chunkMap (a .map) (region x (a .map .region .end .0)) (a .map .frame .0 + (x - a .map .region .start .0)))) (c .before .before .before .before .before .chunk-end .ensures) in
+    let rest = rested t c
+    ∙ ap (λ (x : ℕ). rests (3 - (a .level + 1))
+    (chunkMap (a .map) (region x (a .map .region .end .0)) (a .map .frame .0 + (x - a .map .region .start .0))))
+    (c .before .before .before .before .before .chunk-end .ensures) in
     ap₂ (λ (x y : ℕ). 1 + x + y) (deeper t (c .before)) rest
-    ∙ leaf-down (a .level) (a .map) (a .word) (c .before .before .before .before .before .before .before .before .before .rule-of .ensures) (c .before .before .before .before .before .before .before .enum-told .given .1) (omega (arith, high))
+    ∙ leaf-down (a .level) (a .map) (a .word) (c .before .before .before .before .before .before .before .before .before .rule-of .ensures)
+    (c .before .before .before .before .before .before .before .enum-told .given .1) (omega (arith, high))
 
 pub +count-leaf-spec : {M : Type 1} → statement M
 +count-leaf-spec = close μ λ t. lts.spec (calls t)

@@ -31,13 +31,20 @@ returns : tie.Need-returns
 returns c =
     let a = c .before .before .before .before .args in
     let sub = c .before .subtable in
-    ⊎-elim (λ e. drop-outside (a .handle) (a .level) (a .word) (st (a .words .now) (a .ledger .now)) (sub .ensures) e) (λ e. drop-leaf (a .handle) (a .level) (a .word) (st (a .words .now) (a .ledger .now)) (sub .ensures) e) (no-table (sub .result) (c .match .keys2))
+    ⊎-elim (λ e. drop-outside (a .handle) (a .level) (a .word) (st (a .words .now) (a .ledger .now)) (sub .ensures) e)
+    (λ e. drop-leaf (a .handle) (a .level) (a .word) (st (a .words .now) (a .ledger .now)) (sub .ensures) e)
+    (no-table (sub .result) (c .match .keys2))
 
 add-free : tie.Need-add-free
 add-free c = search needs
 
 free-requires : tie.Need-free-requires
-free-requires c κs = (omega arith, sub-below _ _ _ _ _ (sym (c .before .before .before .before .before .subtable .ensures) ∙ c .before .before .before .kind .given .1), omega arith)
+free-requires c κs = (
+  omega arith,
+  sub-below _ _ _ _ _
+      (sym (c .before .before .before .before .before .subtable .ensures) ∙ c .before .before .before .kind .given .1),
+  omega arith,
+)
 
 same-length : tie.Need-same-length
 same-length c = search needs
@@ -48,7 +55,9 @@ same-length-2 c = search needs
 returns-2 : tie.Need-returns-2
 returns-2 c =
     let a = start-of-returns-2 c .args in
-    c .before .before .before .before .free .ensures ∙ drop-table (a .handle) (a .level) (a .word) (st (a .words .now) (a .ledger .now)) (subtable-of-returns-2 c .subtable .ensures) _ (c .before .before .before .before .before .before .before .before .kind .given .1)
+    c .before .before .before .before .free .ensures
+    ∙ drop-table (a .handle) (a .level) (a .word) (st (a .words .now) (a .ledger .now)) (subtable-of-returns-2 c .subtable .ensures) _
+    (c .before .before .before .before .before .before .before .before .kind .given .1)
 
 pub drop-entry-spec : {M : Type 1} → statement M
 drop-entry-spec =

@@ -45,13 +45,31 @@ fewer t =
     and 2 kinds.ps (falls 2 kinds.ps _<_ μ t) reads.Pre
 
 abbrev calls : ℕ → lts.Claims
-calls t = (chunk-end-reads.Asked, chunk-end-reads.Learnt, entry-index-reads.Asked, entry-index-reads.Learnt, chunk-of-reads.Asked, chunk-of-reads.Learnt, rule-of-reads.Asked, rule-of-reads.Learnt, put-entry-reads.Asked, put-entry-reads.Learnt, descend-reads.Asked, descend-reads.Learnt, fewer t, reads.Post, ledger-changed-reads.Asked, ledger-changed-reads.Learnt)
+calls t = (
+  chunk-end-reads.Asked,
+  chunk-end-reads.Learnt,
+  entry-index-reads.Asked,
+  entry-index-reads.Learnt,
+  chunk-of-reads.Asked,
+  chunk-of-reads.Learnt,
+  rule-of-reads.Asked,
+  rule-of-reads.Learnt,
+  put-entry-reads.Asked,
+  put-entry-reads.Learnt,
+  descend-reads.Asked,
+  descend-reads.Learnt,
+  fewer t,
+  reads.Post,
+  ledger-changed-reads.Asked,
+  ledger-changed-reads.Learnt,
+)
 
 abbrev Inv-loop : lts.InvT-loop
 Inv-loop words₀ ledger₀ handle k level map end at₀ frame₀ changed₀ words ledger at frame changed =
     (at ≤ map .region .end .0) × (at % 4096 ≡ 0) × (frame % 4096 ≡ 0) × (frame + (map .region .end .0 - at) ≤ 2 ^ 48)
     × (length words ≡ length words₀) × (length ledger ≡ length ledger₀)
-    × (eachChunk level (mapStep handle k level) (chunkMap map (region at (map .region .end .0)) frame) (st words ledger) ≡ eachChunk level (mapStep handle k level) map (st words₀ ledger₀))
+    × (eachChunk level (mapStep handle k level) (chunkMap map (region at (map .region .end .0)) frame) (st words ledger)
+    ≡ eachChunk level (mapStep handle k level) map (st words₀ ledger₀))
     × (changed ≡ false → ledger ≡ ledger₀)
 
 abbrev μ-loop : lts.MeasureT-loop
@@ -61,7 +79,8 @@ abbrev μ-loop : lts.MeasureT-loop
 abbrev Place : ℕ → Type 0
 Place t = lts.After-chunk-of (calls t) (started t) reads.Post Inv-loop μ-loop
 
--- ways back: from a chunk to the loop's head and to the start; to the chunk, to where its rule is told (it leads down) and to the call of `descend`, from the ends of the loop's three ways (`again`) and from the call of the function itself
+-- ways back: from a chunk to the loop's head and to the start; to the chunk, to where its rule is told (it leads down) and to the call of
+-- `descend`, from the ends of the loop's three ways (`again`) and from the call of the function itself
 abbrev loop-of-chunk : {t : ℕ} → Place t → lts.At-loop (calls t) (started t) reads.Post Inv-loop μ-loop
 loop-of-chunk c = c .before .before .before .before
 
@@ -74,16 +93,21 @@ chunk-of-again c = c .before .before .before .before .before .before .before .be
 abbrev chunk-of-told : {t : ℕ} → lts.After-enum-told (calls t) (started t) reads.Post Inv-loop μ-loop → Place t
 chunk-of-told c = c .before .before .before .before
 
-abbrev told-of-again-2 : {t : ℕ} → lts.After-enum-told2 (calls t) (started t) reads.Post Inv-loop μ-loop → lts.After-enum-told (calls t) (started t) reads.Post Inv-loop μ-loop
+abbrev told-of-again-2 : {t : ℕ} → lts.After-enum-told2 (calls t) (started t) reads.Post Inv-loop μ-loop
+    → lts.After-enum-told (calls t) (started t) reads.Post Inv-loop μ-loop
 told-of-again-2 c = c .before .before .before .before .before .before .before .before .before
 
-abbrev told-of-call : {t : ℕ} → lts.After-map-range-arg2 (calls t) (started t) reads.Post Inv-loop μ-loop → lts.After-enum-told (calls t) (started t) reads.Post Inv-loop μ-loop
+abbrev told-of-call : {t : ℕ} → lts.After-map-range-arg2 (calls t) (started t) reads.Post Inv-loop μ-loop
+    → lts.After-enum-told (calls t) (started t) reads.Post Inv-loop μ-loop
 told-of-call c = c .before .before .before .before .before .before .before .before .before .before .before .before
 
-abbrev descend-of-again-3 : {t : ℕ} → lts.After-ledger-changed (calls t) (started t) reads.Post Inv-loop μ-loop → lts.After-descend (calls t) (started t) reads.Post Inv-loop μ-loop
-descend-of-again-3 c = c .before .before .before .before .before .before .before .before .before .before .before .before .before .before .before
+abbrev descend-of-again-3 : {t : ℕ} → lts.After-ledger-changed (calls t) (started t) reads.Post Inv-loop μ-loop
+    → lts.After-descend (calls t) (started t) reads.Post Inv-loop μ-loop
+descend-of-again-3 c =
+    c .before .before .before .before .before .before .before .before .before .before .before .before .before .before .before
 
-abbrev told-of-again-3 : {t : ℕ} → lts.After-ledger-changed (calls t) (started t) reads.Post Inv-loop μ-loop → lts.After-enum-told (calls t) (started t) reads.Post Inv-loop μ-loop
+abbrev told-of-again-3 : {t : ℕ} → lts.After-ledger-changed (calls t) (started t) reads.Post Inv-loop μ-loop
+    → lts.After-enum-told (calls t) (started t) reads.Post Inv-loop μ-loop
 told-of-again-3 c = descend-of-again-3 c .before .before .before
 
 -- the chunk's own map, and what remains after it
@@ -93,7 +117,8 @@ chunkOf t c = c .chunk-of .result
 abbrev leftOf : (t : ℕ) → Place t → Map
 leftOf t c =
     let m = start-of-chunk c .args .map in
-    chunkMap m (region (c .before .before .chunk-end .result) (m .region .end .0)) (loop-of-chunk c .loop .frame + (c .before .before .chunk-end .result - loop-of-chunk c .loop .at))
+    chunkMap m (region (c .before .before .chunk-end .result) (m .region .end .0))
+    (loop-of-chunk c .loop .frame + (c .before .before .chunk-end .result - loop-of-chunk c .loop .at))
 
 record Facts (t : ℕ) (c : Place t) : Type 0 where
   above : loop-of-chunk c .loop .at < c .before .before .chunk-end .result
@@ -123,14 +148,16 @@ facts t c =
     let stop = c .before .before .chunk-end .ensures in
     let chunk = c .chunk-of .ensures in
     let fits = chunk-fits (a .level) (at .loop .at) (a .map .region .end .0) low in
-    let part = chunk-fit (a .level) (at .loop .at) (a .map .region .end .0) (at .loop .frame) (a .map) (p .3) low (inv .1) (p .3 .to) (inv .2) (inv .3) in
+    let part = chunk-fit (a .level) (at .loop .at) (a .map .region .end .0) (at .loop .frame) (a .map) (p .3) low (inv .1) (p .3 .to)
+    (inv .2) (inv .3) in
     let above : at .loop .at < c .before .before .chunk-end .result = omega (arith, fits .0) in
     record {
       above = above;
       under = omega (arith, fits .1);
       paged = ap (λ (x : ℕ). x % 4096) stop ∙ chunk-paged (a .level) (at .loop .at) (a .map .region .end .0) (p .3 .to);
       framed = ap (λ (x : ℕ). (at .loop .frame + (x - at .loop .at)) % 4096) stop
-          ∙ rest-paged (a .level) (at .loop .at) (a .map .region .end .0) (at .loop .frame) (a .map) (p .3) low (inv .1) (p .3 .to) (inv .2) (inv .3);
+          ∙ rest-paged (a .level) (at .loop .at) (a .map .region .end .0) (at .loop .frame) (a .map) (p .3) low (inv .1) (p .3 .to) (inv .2)
+          (inv .3);
       room = omega (arith, fits .0, fits .1, inv .3);
       slot = omega (arith, c .before .entry-index .ensures);
       index = c .before .entry-index .ensures ∙ ap (λ (m : Map). entryIndex (a .level) (m .region .start .0)) (sym chunk);
@@ -140,8 +167,11 @@ facts t c =
       next =
           ap (λ (m : Map). let f = mapStep (a .handle) (a .k) (a .level) in eachChunk (a .level) f (leftOf t c) (f m s)) chunk
           ∙ ap (λ (x : ℕ). let f = mapStep (a .handle) (a .k) (a .level) in
-          eachChunk (a .level) f (chunkMap (a .map) (region x (a .map .region .end .0)) (at .loop .frame + (x - at .loop .at))) (f (chunkMap (a .map) (region (at .loop .at) x) (at .loop .frame)) s)) stop
-          ∙ sym (each-step (a .level) (mapStep (a .handle) (a .k) (a .level)) (a .map) (at .loop .at) (a .map .region .end .0) (at .loop .frame) s low) ∙ inv .6;
+          eachChunk (a .level) f (chunkMap (a .map) (region x (a .map .region .end .0)) (at .loop .frame + (x - at .loop .at)))
+          (f (chunkMap (a .map) (region (at .loop .at) x) (at .loop .frame)) s)) stop
+          ∙ sym (each-step (a .level) (mapStep (a .handle) (a .k) (a .level)) (a .map) (at .loop .at) (a .map .region .end .0)
+          (at .loop .frame) s low)
+          ∙ inv .6;
     }
 
 loop-holds : (t : ℕ) → lts.Need-loop-holds (calls t) (started t) reads.Post Inv-loop μ-loop
@@ -209,15 +239,24 @@ loop-again t c =
       f .room,
       put .kept .0 ∙ at .loop .inv .4,
       put .kept .1 .0 ∙ at .loop .inv .5,
-      ap (eachChunk (a .level) (mapStep (a .handle) (a .k) (a .level)) (leftOf t place)) (put .ensures .0 ∙ chunk-here (a .handle) (a .k) (a .level) (chunkOf t place) (st (at .loop .words) (at .loop .ledger)) (f .index) (r .ensures) (no-down (r .result) (c .before .before .before .before .before .before .before .match .keys2))) ∙ f .next,
+      ap (eachChunk (a .level) (mapStep (a .handle) (a .k) (a .level)) (leftOf t place))
+          (put .ensures .0
+          ∙ chunk-here (a .handle) (a .k) (a .level) (chunkOf t place) (st (at .loop .words) (at .loop .ledger)) (f .index) (r .ensures)
+          (no-down (r .result) (c .before .before .before .before .before .before .before .match .keys2)))
+          ∙ f .next,
       λ e. let q = put .ensures .1 e in q .1 ∙ at .loop .inv .7 (q .0),
     )
 
 descend-requires : (t : ℕ) → lts.Need-descend-requires (calls t) (started t) reads.Post Inv-loop μ-loop
 descend-requires t c κs =
     let place = c .before .before .before .before .before .before in
-    let f = facts t place in
-    (f .shape, down-high (start-of-chunk place .args .level) (chunkOf t place) _ (c .before .before .before .before .rule-of .ensures) (c .before .before .enum-told .given .1), omega (arith, loop-of-chunk place .loop .inv .5, start-of-chunk place .pre .1 .1), f .slot)
+    let f = facts t place in (
+      f .shape,
+      down-high (start-of-chunk place .args .level) (chunkOf t place) _ (c .before .before .before .before .rule-of .ensures)
+          (c .before .before .enum-told .given .1),
+      omega (arith, loop-of-chunk place .loop .inv .5, start-of-chunk place .pre .1 .1),
+      f .slot,
+    )
 
 enum-known-under : (t : ℕ) → lts.Need-enum-known-under (calls t) (started t) reads.Post Inv-loop μ-loop
 enum-known-under t c = c .match2 .keys1
@@ -241,12 +280,24 @@ loop-again-2 t c =
       f .room,
       c .before .before .before .before .before .before .descend .kept .0 ∙ at .loop .inv .4,
       c .before .before .before .before .before .before .descend .kept .1 .0 ∙ at .loop .inv .5,
-      ap (eachChunk (a .level) (mapStep (a .handle) (a .k) (a .level)) (leftOf t place)) (chunk-none (a .handle) (a .k) (a .level) (chunkOf t place) s (f .index) (told-of-again-2 c .before .before .rule-of .ensures) (told-of-again-2 c .enum-told .given .1) (c .before .before .before .before .before .before .descend .ensures) (c .enum-told2 .given .1)) ∙ f .next,
-      λ e. ap (λ (x : St). x .ledger) (below-nothing (a .handle) (a .k) (a .level) (place .before .entry-index .result) s (c .before .before .before .before .before .before .descend .ensures) (c .enum-told2 .given .1)) ∙ at .loop .inv .7 e,
+      ap (eachChunk (a .level) (mapStep (a .handle) (a .k) (a .level)) (leftOf t place))
+          (chunk-none (a .handle) (a .k) (a .level) (chunkOf t place) s (f .index) (told-of-again-2 c .before .before .rule-of .ensures)
+          (told-of-again-2 c .enum-told .given .1) (c .before .before .before .before .before .before .descend .ensures)
+          (c .enum-told2 .given .1))
+          ∙ f .next,
+      λ e. ap (λ (x : St). x .ledger)
+          (below-nothing (a .handle) (a .k) (a .level) (place .before .entry-index .result) s
+          (c .before .before .before .before .before .before .descend .ensures) (c .enum-told2 .given .1))
+          ∙ at .loop .inv .7 e,
     )
 
 add-map-range : (t : ℕ) → lts.Need-add-map-range (calls t) (started t) reads.Post Inv-loop μ-loop
-add-map-range t c = omega (arith, down-high (start-of-chunk (chunk-of-told (told-of-call c)) .args .level) (chunkOf t (chunk-of-told (told-of-call c))) _ (told-of-call c .before .before .rule-of .ensures) (told-of-call c .enum-told .given .1))
+add-map-range t c =
+    omega (
+      arith,
+      down-high (start-of-chunk (chunk-of-told (told-of-call c)) .args .level) (chunkOf t (chunk-of-told (told-of-call c))) _
+          (told-of-call c .before .before .rule-of .ensures) (told-of-call c .enum-told .given .1),
+    )
 
 map-range-requires : (t : ℕ) → lts.Need-map-range-requires (calls t) (started t) reads.Post Inv-loop μ-loop
 map-range-requires t c κs =
@@ -256,10 +307,18 @@ map-range-requires t c κs =
     let at = loop-of-chunk place in
     let under = c .before .before .before .before .before .before .before .before .before in
     let s = st (at .loop .words) (at .loop .ledger) in
-    let high = down-high (a .level) (chunkOf t place) _ (told-of-call c .before .before .rule-of .ensures) (told-of-call c .enum-told .given .1) in
-    let found = below-inside (a .handle) (a .k) (a .level) (place .before .entry-index .result) s _ (under .descend .ensures) (c .before .before .before .under .given .1) in (
+    let high = down-high (a .level) (chunkOf t place) _ (told-of-call c .before .before .rule-of .ensures)
+    (told-of-call c .enum-told .given .1) in
+    let found = below-inside (a .handle) (a .k) (a .level) (place .before .entry-index .result) s _ (under .descend .ensures)
+    (c .before .before .before .under .given .1) in (
       omega (arith, high, start-of-chunk place .pre .0),
-      (shaped-keep (a .handle) s (st (under .descend .last .0) (under .descend .last .1 .0)) (f .shape) (under .descend .kept .0) (under .descend .kept .1 .0), omega (arith, found, under .descend .kept .1 .0), omega (arith, high), f .fit),
+      (
+        shaped-keep (a .handle) s (st (under .descend .last .0) (under .descend .last .1 .0)) (f .shape) (under .descend .kept .0)
+            (under .descend .kept .1 .0),
+        omega (arith, found, under .descend .kept .1 .0),
+        omega (arith, high),
+        f .fit,
+      ),
     )
 
 ledger-changed-requires : (t : ℕ) → lts.Need-ledger-changed-requires (calls t) (started t) reads.Post Inv-loop μ-loop
@@ -286,9 +345,16 @@ loop-again-3 t c =
       f .room,
       lower .kept .0 ∙ under .kept .0 ∙ at .loop .inv .4,
       lower .kept .1 .0 ∙ under .kept .1 .0 ∙ at .loop .inv .5,
-      ap (eachChunk (a .level) (mapStep (a .handle) (a .k) (a .level)) (leftOf t place)) (lower .ensures .0 ∙ chunk-into (a .handle) (a .k) (a .level) (chunkOf t place) s (f .index) r down (under .ensures) _ (c .before .before .before .before .before .before .before .before .before .under .given .1) high) ∙ f .next,
+      ap (eachChunk (a .level) (mapStep (a .handle) (a .k) (a .level)) (leftOf t place))
+          (lower .ensures .0
+          ∙ chunk-into (a .handle) (a .k) (a .level) (chunkOf t place) s (f .index) r down (under .ensures) _
+          (c .before .before .before .before .before .before .before .before .before .under .given .1) high)
+          ∙ f .next,
       λ e. let q = c .ledger-changed .ensures e in
-          lower .ensures .1 (q .2) ∙ ap (λ (x : St). x .ledger) (below-kept (a .handle) (a .k) (a .level) (place .before .entry-index .result) s (under .ensures) high (q .1)) ∙ at .loop .inv .7 (q .0),
+          lower .ensures .1 (q .2)
+          ∙ ap (λ (x : St). x .ledger)
+          (below-kept (a .handle) (a .k) (a .level) (place .before .entry-index .result) s (under .ensures) high (q .1))
+          ∙ at .loop .inv .7 (q .0),
     )
 
 same-length : (t : ℕ) → lts.Need-same-length (calls t) (started t) reads.Post Inv-loop μ-loop
@@ -301,9 +367,11 @@ returns : (t : ℕ) → lts.Need-returns (calls t) (started t) reads.Post Inv-lo
 returns t c =
     let at = c .before in
     let a = c .before .before .before .before .args in (
-      sym (each-done (a .level) (mapStep (a .handle) (a .k) (a .level)) (a .map) (at .loop .at) (a .map .region .end .0) (at .loop .frame) (st (at .loop .words) (at .loop .ledger)) (omega arith))
+      sym (each-done (a .level) (mapStep (a .handle) (a .k) (a .level)) (a .map) (at .loop .at) (a .map .region .end .0) (at .loop .frame)
+          (st (at .loop .words) (at .loop .ledger)) (omega arith))
           ∙ at .loop .inv .6
-          ∙ map-open (a .handle) (a .k) (a .level) (a .map) (st (a .words .now) (a .ledger .now)) (c .before .before .before .before .pre .1 .2),
+          ∙ map-open (a .handle) (a .k) (a .level) (a .map) (st (a .words .now) (a .ledger .now))
+          (c .before .before .before .before .pre .1 .2),
       at .loop .inv .7,
     )
 

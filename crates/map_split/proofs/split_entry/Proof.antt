@@ -41,7 +41,8 @@ top-below : (level w : ℕ) → down (addressOf w) (sizeAt level) < 2 ^ 48
 top-below level w = omega (arith, size-room level (addressOf w) (address-below w), size-low level)
 
 -- the last word of the new table fits
-last-fits : (level w : ℕ) → level < 3 → Plain (flagsOf w) → leafWord (level + 1) (down (addressOf w) (sizeAt level)) (flagsOf w) + 511 * sizeAt (level + 1) < 2 ^ 64
+last-fits : (level w : ℕ) → level < 3 → Plain (flagsOf w)
+    → leafWord (level + 1) (down (addressOf w) (sizeAt level)) (flagsOf w) + 511 * sizeAt (level + 1) < 2 ^ 64
 last-fits level w low plain =
     let top = down (addressOf w) (sizeAt level) in
     let room = size-room level (addressOf w) (address-below w) in
@@ -55,18 +56,30 @@ abbrev word : tie.After-granularity-at-level → ℕ
 word c = let a = c .before .before .before .before .before .before .args in getD (a .words .now) (512 * a .k + a .i) 0
 
 -- its address, cleared below the entry's size by masks
-cleared : (c : tie.After-granularity-at-level) → bitAnd (bitAnd (word c) 0xFFFF_FFFF_F000) (2 ^ 64 - 1 - (c .granularity-at-level .result - 1)) ≡ down (addressOf (word c)) (sizeAt (c .before .before .before .before .before .before .args .level))
+cleared : (c : tie.After-granularity-at-level)
+    → bitAnd (bitAnd (word c) 0xFFFF_FFFF_F000) (2 ^ 64 - 1 - (c .granularity-at-level .result - 1))
+    ≡ down (addressOf (word c)) (sizeAt (c .before .before .before .before .before .before .args .level))
 cleared c =
     let a = c .before .before .before .before .before .before .args in
-    ap₂ (λ (x g : ℕ). bitAnd x (2 ^ 64 - 1 - (g - 1))) (mask-address (word c)) (c .granularity-at-level .ensures) ∙ size-down (a .level) (addressOf (word c)) (wide (word c))
+    ap₂ (λ (x g : ℕ). bitAnd x (2 ^ 64 - 1 - (g - 1))) (mask-address (word c)) (c .granularity-at-level .ensures)
+    ∙ size-down (a .level) (addressOf (word c)) (wide (word c))
 
 -- its flags
 plain : (c : tie.After-granularity-at-level) → Plain (flagsOf (word c))
-plain c = let a = c .before .before .before .before .before .before .args in flags-plain (word c) (c .before .before .before .slice-known3 .given (512 * a .k + a .i) .fits) (omega (arith, c .before .if1 .left, c .before .before .before .before .before .before .pre .4))
+plain c =
+    let a = c .before .before .before .before .before .before .args in
+    flags-plain (word c) (c .before .before .before .slice-known3 .given (512 * a .k + a .i) .fits)
+    (omega (arith, c .before .if1 .left, c .before .before .before .before .before .before .pre .4))
 
 -- the new table's first word
-first : (c : tie.After-leaf-word) → let w = word (c .before) in let level = c .before .before .before .before .before .before .before .args .level in c .leaf-word .result ≡ leafWord (level + 1) (down (addressOf w) (sizeAt level)) (flagsOf w)
-first c = c .leaf-word .ensures ∙ ap₂ (leafWord (c .before .before .before .before .before .before .before .args .level + 1)) (cleared (c .before)) (c .before .before .before .flags .ensures)
+first : (c : tie.After-leaf-word)
+    → let w = word (c .before) in
+    let level = c .before .before .before .before .before .before .before .args .level in
+    c .leaf-word .result ≡ leafWord (level + 1) (down (addressOf w) (sizeAt level)) (flagsOf w)
+first c =
+    c .leaf-word .ensures
+    ∙ ap₂ (leafWord (c .before .before .before .before .before .before .before .args .level + 1)) (cleared (c .before))
+    (c .before .before .before .flags .ensures)
 
 mul-word : tie.Need-mul-word
 mul-word c = omega arith
@@ -87,7 +100,8 @@ add-take-table : tie.Need-add-take-table
 add-take-table c = omega arith
 
 take-table-requires : tie.Need-take-table-requires
-take-table-requires c κs = let p = c .before .before .before .before .before .before .before .pre in (p .0, up _ (p .1), p .2, p .3, omega arith)
+take-table-requires c κs =
+    let p = c .before .before .before .before .before .before .before .pre in (p .0, up _ (p .1), p .2, p .3, omega arith)
 
 same-length : tie.Need-same-length
 same-length c = c .before .before .before .before .take-table .kept .0
@@ -101,7 +115,9 @@ returns c =
     let s = (st (a .words .now) (a .ledger .now)) in
     let w = wordAt s (a .k) (a .i) in
     c .before .before .before .before .take-table .ensures
-    ∙ split-is (a .handle) (a .k) (a .level) (a .i) s _ (ap (λ (f : ℕ). rising 512 f 0) (c .before .before .before .before .before .before .before .before .flags .ensures) ∙ fill-hole (a .level) w (c .before .before .before .before .before .before .before .if1 .taken))
+    ∙ split-is (a .handle) (a .k) (a .level) (a .i) s _
+    (ap (λ (f : ℕ). rising 512 f 0) (c .before .before .before .before .before .before .before .before .flags .ensures)
+    ∙ fill-hole (a .level) w (c .before .before .before .before .before .before .before .if1 .taken))
 
 granularity-at-level-requires : tie.Need-granularity-at-level-requires
 granularity-at-level-requires c κs = tt
@@ -115,8 +131,13 @@ add-leaf-word c = omega arith
 leaf-word-requires : tie.Need-leaf-word-requires
 leaf-word-requires c κs =
     let a = c .before .before .before .before .before .before .args in
-    let at = cleared c in
-    (ap (λ (x : ℕ). x % 4096) at ∙ down-paged (a .level) (addressOf (word c)), subst⁻¹ (λ (x : ℕ). x < 2 ^ 48) at (top-below (a .level) (word c)), subst⁻¹ Plain (c .before .before .flags .ensures) (plain c))
+    let at = cleared c in (
+      ap (λ (x : ℕ). x % 4096) at
+          ∙ down-paged (a .level) (addressOf (word c)),
+      subst⁻¹ (λ (x : ℕ). x < 2 ^ 48) at (top-below (a .level) (word c)),
+      subst⁻¹ Plain
+          (c .before .before .flags .ensures) (plain c),
+    )
 
 add-granularity-at-level : tie.Need-add-granularity-at-level
 add-granularity-at-level c = omega arith
@@ -132,7 +153,8 @@ take-table-requires-2 c κs =
     let p = start-of-take c .pre in
     let level = start-of-take c .args .level in
     let g = c .before .before .before .before in
-    let fits = subst⁻¹ (λ (n : ℕ). n < 2 ^ 64) (ap₂ (λ (x s : ℕ). x + 511 * s) (first (c .before .before .before)) (c .before .before .granularity-at-level2 .ensures)) (last-fits level (word g) (p .1) (plain g)) in
+    let last = ap₂ (λ (x s : ℕ). x + 511 * s) (first (c .before .before .before)) (c .before .before .granularity-at-level2 .ensures) in
+    let fits = subst⁻¹ (λ (n : ℕ). n < 2 ^ 64) last (last-fits level (word g) (p .1) (plain g)) in
     (p .0, up level (p .1), p .2, p .3, fits)
 
 same-length-3 : tie.Need-same-length-3
@@ -145,9 +167,11 @@ returns-2 : tie.Need-returns-2
 returns-2 c =
     let a = start-of-returns-2 c .args in
     let s = (st (a .words .now) (a .ledger .now)) in
-    let w = word (c .before .before .before .before .before .before .before .before .before) in
+    let sized = c .before .before .before .before .before .before .before in
+    let g = sized .before .before in
+    let filled = ap₂ (rising 512) (first (sized .before)) (sized .granularity-at-level2 .ensures) in
     c .before .before .before .before .take-table2 .ensures
-    ∙ split-is (a .handle) (a .k) (a .level) (a .i) s _ (ap₂ (rising 512) (first (c .before .before .before .before .before .before .before .before)) (c .before .before .before .before .before .before .before .granularity-at-level2 .ensures) ∙ fill-leaf (a .level) w (c .before .before .before .before .before .before .before .before .before .before .if1 .left))
+    ∙ split-is (a .handle) (a .k) (a .level) (a .i) s _ (filled ∙ fill-leaf (a .level) (word g) (g .before .if1 .left))
 
 pub split-entry-spec : {M : Type 1} → statement M
 split-entry-spec =

@@ -31,7 +31,12 @@ same-length-3 : tie.Need-same-length-3
 same-length-3 c = c .before .before .before .before .before .before .before .before .before .modify-range .kept .1 .1 .1 .1 .1 .1 .0
 
 returns : tie.Need-returns
-returns c = let a = start-of-count (c .before .before) .args in done-live (a .handle) (a .edit) (st (a .words .now) (a .ledger .now)) (a .list .now) (c .before .before .before .before .before .before .before .before .before .modify-range .ensures) (c .if1 .taken) (c .before .count-used .ensures)
+returns c =
+    let a = start-of-count (c .before .before) .args in
+    done-live (a .handle) (a .edit) (st (a .words .now) (a .ledger .now)) (a .list .now)
+    (c .before .before .before .before .before .before .before .before .before .modify-range .ensures)
+    (c .if1 .taken)
+    (c .before .count-used .ensures)
 
 same-length-4 : tie.Need-same-length-4
 same-length-4 c = c .before .before .before .before .before .before .before .before .before .modify-range .kept .0
@@ -43,7 +48,12 @@ same-length-6 : tie.Need-same-length-6
 same-length-6 c = c .before .before .before .before .before .before .before .before .before .modify-range .kept .1 .1 .1 .1 .1 .1 .0
 
 returns-2 : tie.Need-returns-2
-returns-2 c = let a = start-of-count (c .before .before) .args in done-still (a .handle) (a .edit) (st (a .words .now) (a .ledger .now)) (a .list .now) (c .before .before .before .before .before .before .before .before .before .modify-range .ensures) (c .if1 .left) (c .before .count-used .ensures)
+returns-2 c =
+    let a = start-of-count (c .before .before) .args in
+    done-still (a .handle) (a .edit) (st (a .words .now) (a .ledger .now)) (a .list .now)
+    (c .before .before .before .before .before .before .before .before .before .modify-range .ensures)
+    (c .if1 .left)
+    (c .before .count-used .ensures)
 
 pub edit-tables-spec : {M : Type 1} → statement M
 edit-tables-spec =

@@ -21,7 +21,8 @@ use Rattle.address_slot.proofs.entry_index.Reads as entry-index-reads
 abbrev Inv-loop : tie.InvT-loop
 Inv-loop words₀ k level edit list₀ before end at₀ count₀ words list at count =
     (length words ≡ length words₀) × (length list ≡ length list₀)
-    × (eachChunk level (ownChunk k level edit) (region at (edit .region .end .0)) (noted words list count) ≡ eachChunk level (ownChunk k level edit) (edit .region) (noted words₀ list₀ before))
+    × (eachChunk level (ownChunk k level edit) (region at (edit .region .end .0)) (noted words list count)
+    ≡ eachChunk level (ownChunk k level edit) (edit .region) (noted words₀ list₀ before))
 
 abbrev μ-loop : tie.MeasureT-loop
 μ-loop words₀ k level edit list₀ before end at₀ count₀ words list at count = edit .region .end .0 - at
@@ -44,7 +45,9 @@ record Facts (c : Place) : Type 0 where
   index : c .before .entry-index .result ≡ entryIndex (start-of-chunk c .args .level) (loop-of-chunk c .loop .at)
   room : 512 * start-of-chunk c .args .k + 512 ≤ length (loop-of-chunk c .loop .words)
   next : let a = start-of-chunk c .args in let f = ownChunk (a .k) (a .level) (a .edit) in
-      eachChunk (a .level) f (region (c .before .before .chunk-end .result) (a .edit .region .end .0)) (f (region (loop-of-chunk c .loop .at) (c .before .before .chunk-end .result)) (noted (loop-of-chunk c .loop .words) (loop-of-chunk c .loop .list) (loop-of-chunk c .loop .count)))
+      eachChunk (a .level) f (region (c .before .before .chunk-end .result) (a .edit .region .end .0))
+      (f (region (loop-of-chunk c .loop .at) (c .before .before .chunk-end .result))
+      (noted (loop-of-chunk c .loop .words) (loop-of-chunk c .loop .list) (loop-of-chunk c .loop .count)))
       ≡ eachChunk (a .level) f (a .edit .region) (noted (a .words .now) (a .list .now) (a .before))
 
 facts : (c : Place) → Facts c
@@ -107,8 +110,14 @@ loop-again c =
     let at = loop-of-chunk place in
     let a = start-of-chunk place .args in
     let n = noted (at .loop .words) (at .loop .list) (at .loop .count) in
-    let same = own-same (a .k) (a .level) (a .edit) (region (at .loop .at) (place .before .before .chunk-end .result)) n (f .index) (c .before .edit-word .ensures) (c .if1 .taken) in
-    (at .loop .inv .0, at .loop .inv .1, ap (eachChunk (a .level) (ownChunk (a .k) (a .level) (a .edit)) (region (place .before .before .chunk-end .result) (a .edit .region .end .0))) same ∙ f .next)
+    let same = own-same (a .k) (a .level) (a .edit) (region (at .loop .at) (place .before .before .chunk-end .result)) n (f .index)
+    (c .before .edit-word .ensures) (c .if1 .taken) in (
+      at .loop .inv .0,
+      at .loop .inv .1,
+      ap (eachChunk (a .level) (ownChunk (a .k) (a .level) (a .edit))
+          (region (place .before .before .chunk-end .result) (a .edit .region .end .0))) same
+          ∙ f .next,
+    )
 
 mul-words : tie.Need-mul-words Inv-loop μ-loop
 mul-words c = let f = facts (c .before .before .before) in omega (arith, f .slot, f .room)
@@ -135,10 +144,14 @@ loop-again-2 c =
     let at = loop-of-chunk place in
     let a = start-of-chunk place .args in
     let n = noted (at .loop .words) (at .loop .list) (at .loop .count) in
-    let changed = own-changed (a .k) (a .level) (a .edit) (region (at .loop .at) (place .before .before .chunk-end .result)) n (f .index) (c .before .before .before .before .before .edit-word .ensures) (c .before .before .before .before .if1 .left) (place .tlbi-address .ensures) (c .before .before .put-number .ensures) in (
+    let changed = own-changed (a .k) (a .level) (a .edit) (region (at .loop .at) (place .before .before .chunk-end .result)) n (f .index)
+    (c .before .before .before .before .before .edit-word .ensures) (c .before .before .before .before .if1 .left)
+    (place .tlbi-address .ensures) (c .before .before .put-number .ensures) in (
       length-set (at .loop .words) _ _ ∙ at .loop .inv .0,
       c .before .before .put-number .kept .1 .0 ∙ at .loop .inv .1,
-      ap (eachChunk (a .level) (ownChunk (a .k) (a .level) (a .edit)) (region (place .before .before .chunk-end .result) (a .edit .region .end .0))) changed ∙ f .next,
+      ap (eachChunk (a .level) (ownChunk (a .k) (a .level) (a .edit))
+          (region (place .before .before .chunk-end .result) (a .edit .region .end .0))) changed
+          ∙ f .next,
     )
 
 same-length : tie.Need-same-length Inv-loop μ-loop
@@ -151,7 +164,8 @@ returns : tie.Need-returns Inv-loop μ-loop
 returns c =
     let at = c .before in
     let a = c .before .before .before .before .args in
-    sym (each-done (a .level) (ownChunk (a .k) (a .level) (a .edit)) (at .loop .at) (a .edit .region .end .0) (noted (at .loop .words) (at .loop .list) (at .loop .count)) (omega arith))
+    sym (each-done (a .level) (ownChunk (a .k) (a .level) (a .edit)) (at .loop .at) (a .edit .region .end .0)
+    (noted (at .loop .words) (at .loop .list) (at .loop .count)) (omega arith))
     ∙ at .loop .inv .2
     ∙ own-all (a .k) (a .level) (a .edit) (noted (a .words .now) (a .list .now) (a .before))
 

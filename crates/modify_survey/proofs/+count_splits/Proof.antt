@@ -39,7 +39,8 @@ calls t = (is-block-reads.Asked, is-block-reads.Learnt, chunk-end-reads.Asked, c
 abbrev Inv-loop : lts.InvT-loop
 Inv-loop level end at₀ count₀ at count =
     (end - at ≤ 2 ^ 48) × (count + (end - at) * 3 ≤ 1 + 2 ^ 48 * 3)
-    × (eachChunk (level + 1) (adding (splitsIn (3 - (level + 1)))) (region at end) count ≡ eachChunk (level + 1) (adding (splitsIn (3 - (level + 1)))) (region at₀ end) 1)
+    × (eachChunk (level + 1) (adding (splitsIn (3 - (level + 1)))) (region at end) count
+    ≡ eachChunk (level + 1) (adding (splitsIn (3 - (level + 1)))) (region at₀ end) 1)
 
 abbrev μ-loop : lts.MeasureT-loop
 μ-loop level end at₀ count₀ at count = end - at
@@ -53,7 +54,8 @@ record Facts (t : ℕ) (c : Place t) : Type 0 where
   above : c .before .before .loop .at < c .chunk-end .result
   under : c .chunk-end .result ≤ c .before .before .before .before .before .before .args .region .end .0
   next : let a = c .before .before .before .before .before .before .args in let f = adding (splitsIn (3 - (a .level + 1))) in
-      eachChunk (a .level + 1) f (region (c .chunk-end .result) (a .region .end .0)) (f (region (c .before .before .loop .at) (c .chunk-end .result)) (c .before .before .loop .count))
+      eachChunk (a .level + 1) f (region (c .chunk-end .result) (a .region .end .0))
+      (f (region (c .before .before .loop .at) (c .chunk-end .result)) (c .before .before .loop .count))
       ≡ eachChunk (a .level + 1) f (a .region) 1
 
 facts : (t : ℕ) (c : Place t) → Facts t c
@@ -80,7 +82,9 @@ is-block-requires : (t : ℕ) → lts.Need-is-block-requires (calls t) (started 
 is-block-requires t c κs = tt
 
 returns-2 : (t : ℕ) → lts.Need-returns-2 (calls t) (started t) reads.Post Inv-loop μ-loop
-returns-2 t c = let a = c .before .before .before .args in splits-whole (a .level) (a .region) (omega arith) (sym (c .before .is-block .ensures) ∙ c .if2 .taken)
+returns-2 t c =
+    let a = c .before .before .before .args in
+    splits-whole (a .level) (a .region) (omega arith) (sym (c .before .is-block .ensures) ∙ c .if2 .taken)
 
 loop-holds : (t : ℕ) → lts.Need-loop-holds (calls t) (started t) reads.Post Inv-loop μ-loop
 loop-holds t c = let p = c .before .before .before .pre .1 in (p, omega arith, refl)
@@ -95,12 +99,17 @@ add-count-splits : (t : ℕ) → lts.Need-add-count-splits (calls t) (started t)
 add-count-splits t c = omega (arith, facts t c .high)
 
 count-splits-requires : (t : ℕ) → lts.Need-count-splits-requires (calls t) (started t) reads.Post Inv-loop μ-loop
-count-splits-requires t c κs = let f = facts t c in (omega (arith, f .high, c .before .before .before .before .before .before .pre .0), omega (arith, f .under, c .before .before .loop .inv .0))
+count-splits-requires t c κs =
+    let f = facts t c in (
+      omega (arith, f .high, c .before .before .before .before .before .before .pre .0),
+      omega (arith, f .under, c .before .before .loop .inv .0),
+    )
 
 add-count : (t : ℕ) → lts.Need-add-count (calls t) (started t) reads.Post Inv-loop μ-loop
 add-count t c =
     let f = facts t (c .before) in
-    let most = splits-most (c .before .before .before .before .before .before .before .args .level + 1) (region (c .before .before .before .loop .at) (c .before .chunk-end .result)) (f .above) in
+    let most = splits-most (c .before .before .before .before .before .before .before .args .level + 1)
+    (region (c .before .before .before .loop .at) (c .before .chunk-end .result)) (f .above) in
     omega (arith, c .count-splits .ensures, most, f .above, f .under, c .before .before .before .loop .inv .1)
 
 loop-less : (t : ℕ) → lts.Need-loop-less (calls t) (started t) reads.Post Inv-loop μ-loop
@@ -115,14 +124,17 @@ loop-again t c =
     let step = adding-is (splitsIn (3 - (a .level + 1))) r (c .before .before .before .loop .count) (c .count-splits .ensures) in (
       omega (arith, f .above, c .before .before .before .loop .inv .0),
       omega (arith, c .count-splits .ensures, most, f .above, f .under, c .before .before .before .loop .inv .1),
-      ap (eachChunk (a .level + 1) (adding (splitsIn (3 - (a .level + 1)))) (region (c .before .chunk-end .result) (a .region .end .0))) step ∙ f .next,
+      ap (eachChunk (a .level + 1) (adding (splitsIn (3 - (a .level + 1))))
+          (region (c .before .chunk-end .result) (a .region .end .0))) step
+          ∙ f .next,
     )
 
 returns-3 : (t : ℕ) → lts.Need-returns-3 (calls t) (started t) reads.Post Inv-loop μ-loop
 returns-3 t c =
     let at = c .before in
     let a = c .before .before .before .before .before .args in
-    sym (each-done (a .level + 1) (adding (splitsIn (3 - (a .level + 1)))) (at .loop .at) (a .region .end .0) (at .loop .count) (omega arith))
+    sym (each-done (a .level + 1) (adding (splitsIn (3 - (a .level + 1)))) (at .loop .at) (a .region .end .0) (at .loop .count)
+    (omega arith))
     ∙ at .loop .inv .2
     ∙ splits-part (a .level) (a .region) (omega arith) (sym (c .before .before .before .is-block .ensures) ∙ c .before .before .if2 .left)
 

@@ -43,12 +43,26 @@ fewer t =
     reads.Pre
 
 abbrev calls : ℕ → lts.Claims
-calls t = (chunk-end-reads.Asked, chunk-end-reads.Learnt, entry-index-reads.Asked, entry-index-reads.Learnt, chunk-edit-reads.Asked, chunk-edit-reads.Learnt, subtable-reads.Asked, subtable-reads.Learnt, survey-entry-reads.Asked, survey-entry-reads.Learnt, fewer t, reads.Post)
+calls t = (
+  chunk-end-reads.Asked,
+  chunk-end-reads.Learnt,
+  entry-index-reads.Asked,
+  entry-index-reads.Learnt,
+  chunk-edit-reads.Asked,
+  chunk-edit-reads.Learnt,
+  subtable-reads.Asked,
+  subtable-reads.Learnt,
+  survey-entry-reads.Asked,
+  survey-entry-reads.Learnt,
+  fewer t,
+  reads.Post,
+)
 
 abbrev Inv-loop : lts.InvT-loop
 Inv-loop words ledger handle k level edit end at₀ seen₀ at seen =
     Room (region at (edit .region .end .0)) seen
-    × (eachChunk level (surveyStep handle (st words ledger) k level edit) (region at (edit .region .end .0)) seen ≡ eachChunk level (surveyStep handle (st words ledger) k level edit) (edit .region) seen₀)
+    × (eachChunk level (surveyStep handle (st words ledger) k level edit) (region at (edit .region .end .0)) seen
+    ≡ eachChunk level (surveyStep handle (st words ledger) k level edit) (edit .region) seen₀)
 
 abbrev μ-loop : lts.MeasureT-loop
 μ-loop words ledger handle k level edit end at₀ seen₀ at seen = edit .region .end .0 - at
@@ -63,7 +77,10 @@ start-of-chunk c = c .before .before .before .before .before .before
 
 -- what is done with one chunk
 abbrev stepOf : (t : ℕ) → Place t → Survey → Survey
-stepOf t c v = let a = start-of-chunk c .args in surveyStep (a .handle) (st (a .words .now) (a .ledger .now)) (a .k) (a .level) (a .edit) (region (c .before .before .before .loop .at) (c .before .chunk-end .result)) v
+stepOf t c v =
+    let a = start-of-chunk c .args in
+    surveyStep (a .handle) (st (a .words .now) (a .ledger .now)) (a .k) (a .level) (a .edit)
+    (region (c .before .before .before .loop .at) (c .before .chunk-end .result)) v
 
 record Facts (t : ℕ) (c : Place t) : Type 0 where
   above : c .before .before .before .loop .at < c .before .chunk-end .result
@@ -71,8 +88,11 @@ record Facts (t : ℕ) (c : Place t) : Type 0 where
   slot : c .entry-index .result < 512
   index : c .entry-index .result ≡ entryIndex (start-of-chunk c .args .level) (c .before .before .before .loop .at)
   room : Room (region (c .before .before .before .loop .at) (c .before .chunk-end .result)) (c .before .before .before .loop .seen)
-  next : let a = start-of-chunk c .args in let f = surveyStep (a .handle) (st (a .words .now) (a .ledger .now)) (a .k) (a .level) (a .edit) in
-      eachChunk (a .level) f (region (c .before .chunk-end .result) (a .edit .region .end .0)) (stepOf t c (c .before .before .before .loop .seen)) ≡ eachChunk (a .level) f (a .edit .region) (a .before)
+  next : let a = start-of-chunk c .args in
+      let f = surveyStep (a .handle) (st (a .words .now) (a .ledger .now)) (a .k) (a .level) (a .edit) in
+      eachChunk (a .level) f (region (c .before .chunk-end .result) (a .edit .region .end .0))
+      (stepOf t c (c .before .before .before .loop .seen))
+      ≡ eachChunk (a .level) f (a .edit .region) (a .before)
 
 facts : (t : ℕ) (c : Place t) → Facts t c
 unfolding entryIndex
@@ -89,21 +109,30 @@ facts t c =
       under = omega (arith, fits .1);
       slot = omega (arith, c .entry-index .ensures);
       index = c .entry-index .ensures;
-      room = room-chunk (at .loop .at) (c .before .chunk-end .result) (a .edit .region .end .0) (omega (arith, fits .0)) (omega (arith, fits .1)) (at .loop .seen) (inv .0);
+      room =
+          room-chunk (at .loop .at) (c .before .chunk-end .result) (a .edit .region .end .0) (omega (arith, fits .0))
+          (omega (arith, fits .1)) (at .loop .seen) (inv .0);
       next =
           ap (λ (x : ℕ). eachChunk (a .level) f (region x (a .edit .region .end .0)) (f (region (at .loop .at) x) (at .loop .seen))) stop
           ∙ sym (each-step (a .level) f (at .loop .at) (a .edit .region .end .0) (at .loop .seen) low) ∙ inv .1;
     }
 
 -- the invariant after the chunk, where the step and what it adds are known
-again : (t : ℕ) (c : Place t) (x : Survey) → Adds (region (c .before .before .before .loop .at) (c .before .chunk-end .result)) (c .before .before .before .loop .seen) x → x ≡ stepOf t c (c .before .before .before .loop .seen)
+again : (t : ℕ) (c : Place t) (x : Survey)
+    → Adds (region (c .before .before .before .loop .at) (c .before .chunk-end .result)) (c .before .before .before .loop .seen) x
+    → x ≡ stepOf t c (c .before .before .before .loop .seen)
     → let a = start-of-chunk c .args in let f = surveyStep (a .handle) (st (a .words .now) (a .ledger .now)) (a .k) (a .level) (a .edit) in
-    Room (region (c .before .chunk-end .result) (a .edit .region .end .0)) x × (eachChunk (a .level) f (region (c .before .chunk-end .result) (a .edit .region .end .0)) x ≡ eachChunk (a .level) f (a .edit .region) (a .before))
+    Room (region (c .before .chunk-end .result) (a .edit .region .end .0)) x
+    × (eachChunk (a .level) f (region (c .before .chunk-end .result) (a .edit .region .end .0)) x
+    ≡ eachChunk (a .level) f (a .edit .region) (a .before))
 again t c x adds e =
     let a = start-of-chunk c .args in
     let f = facts t c in (
-      room-after (c .before .before .before .loop .at) (c .before .chunk-end .result) (a .edit .region .end .0) (f .above) (f .under) (c .before .before .before .loop .seen) (c .before .before .before .loop .inv .0) x adds,
-      ap (eachChunk (a .level) (surveyStep (a .handle) (st (a .words .now) (a .ledger .now)) (a .k) (a .level) (a .edit)) (region (c .before .chunk-end .result) (a .edit .region .end .0))) e ∙ f .next,
+      room-after (c .before .before .before .loop .at) (c .before .chunk-end .result) (a .edit .region .end .0) (f .above) (f .under)
+          (c .before .before .before .loop .seen) (c .before .before .before .loop .inv .0) x adds,
+      ap (eachChunk (a .level) (surveyStep (a .handle) (st (a .words .now) (a .ledger .now)) (a .k) (a .level) (a .edit))
+          (region (c .before .chunk-end .result) (a .edit .region .end .0))) e
+          ∙ f .next,
     )
 
 loop-holds : (t : ℕ) → lts.Need-loop-holds (calls t) (started t) reads.Post Inv-loop μ-loop
@@ -128,7 +157,8 @@ mul-word-2 : (t : ℕ) → lts.Need-mul-word-2 (calls t) (started t) reads.Post 
 mul-word-2 t c = let p = start-of-chunk (c .before) .pre .1 in omega (arith, facts t (c .before) .slot, p .0, p .1)
 
 shared-slice-read-word : (t : ℕ) → lts.Need-shared-slice-read-word (calls t) (started t) reads.Post Inv-loop μ-loop
-shared-slice-read-word t c = let p = start-of-chunk (c .before .before) .pre .1 in omega (arith, facts t (c .before .before) .slot, p .0, p .1)
+shared-slice-read-word t c =
+    let p = start-of-chunk (c .before .before) .pre .1 in omega (arith, facts t (c .before .before) .slot, p .0, p .1)
 
 subtable-requires : (t : ℕ) → lts.Need-subtable-requires (calls t) (started t) reads.Post Inv-loop μ-loop
 subtable-requires t c κs = tt
@@ -144,16 +174,22 @@ loop-less t c = let f = facts t (c .before .before .before .before .before) in o
 
 loop-again : (t : ℕ) → lts.Need-loop-again (calls t) (started t) reads.Post Inv-loop μ-loop
 loop-again t c =
-    let a = start-of-chunk (c .before .before .before .before .before) .args in
-    let f = facts t (c .before .before .before .before .before) in
+    let place = c .before .before .before .before .before in
+    let a = start-of-chunk place .args in
+    let f = facts t place in
     let s = st (a .words .now) (a .ledger .now) in
-    let r = region (c .before .before .before .before .before .before .before .before .loop .at) (c .before .before .before .before .before .before .chunk-end .result) in
-    again t (c .before .before .before .before .before) (c .before .before .before .before .before .before .before .before .loop .seen) (same-adds r (c .before .before .before .before .before .before .before .before .loop .seen)) (step-outside (a .handle) s (a .k) (a .level) (a .edit) r (c .before .before .before .before .before .before .before .before .loop .seen) (f .index) (c .before .before .subtable .ensures) (is-outside _ (c .before .match .keys2) (c .match2 .keys2)))
+    let seen = place .before .before .before .loop .seen in
+    let r = region (place .before .before .before .loop .at) (place .before .chunk-end .result) in
+    let outside = is-outside _ (c .before .match .keys2) (c .match2 .keys2) in
+    again t place seen (same-adds r seen)
+    (step-outside (a .handle) s (a .k) (a .level) (a .edit) r seen (f .index) (c .before .before .subtable .ensures) outside)
 
 survey-entry-requires : (t : ℕ) → lts.Need-survey-entry-requires (calls t) (started t) reads.Post Inv-loop μ-loop
 survey-entry-requires t c κs =
-    let f = facts t (c .before .before .before .before .before .before) in
-    subst⁻¹ (λ (e : Edit). (e .region .start .0 < e .region .end .0) × Room (e .region) (c .before .before .before .before .before .before .before .before .before .loop .seen)) (c .before .before .before .before .before .chunk-edit .ensures) (f .above, f .room)
+    let place = c .before .before .before .before .before .before in
+    let f = facts t place in
+    subst⁻¹ (λ (e : Edit). (e .region .start .0 < e .region .end .0) × Room (e .region) (place .before .before .before .loop .seen))
+    (c .before .before .before .before .before .chunk-edit .ensures) (f .above, f .room)
 
 loop-less-2 : (t : ℕ) → lts.Need-loop-less-2 (calls t) (started t) reads.Post Inv-loop μ-loop
 loop-less-2 t c = let f = facts t (c .before .before .before .before .before .before .before) in omega (arith, f .above, f .under)
@@ -166,9 +202,13 @@ loop-again-2 t c =
     let s = st (a .words .now) (a .ledger .now) in
     let seen = place .before .before .before .loop .seen in
     let r = region (place .before .before .before .loop .at) (place .before .chunk-end .result) in
-    let done = c .survey-entry .ensures ∙ ap (λ (e : Edit). surveyEntry (a .handle) (a .level) e (wordAt s (a .k) (place .entry-index .result)) seen) (c .before .before .before .before .before .before .chunk-edit .ensures) in
+    let w = wordAt s (a .k) (place .entry-index .result) in
+    let edit = c .before .before .before .before .before .before .chunk-edit .ensures in
+    let done = c .survey-entry .ensures ∙ ap (λ (e : Edit). surveyEntry (a .handle) (a .level) e w seen) edit in
     let adds = subst⁻¹ (Adds r seen) done (entry-adds (a .handle) (a .level) (chunkEdit (a .edit) r) _ seen (f .above)) in
-    again t place _ adds (done ∙ step-entry (a .handle) s (a .k) (a .level) (a .edit) r seen (f .index) (c .before .before .before .before .subtable .ensures) (c .before .enum-told .given .1))
+    let sub = c .before .before .before .before .subtable .ensures in
+    let leaf = c .before .enum-told .given .1 in
+    again t place _ adds (done ∙ step-entry (a .handle) s (a .k) (a .level) (a .edit) r seen (f .index) sub leaf)
 
 add-survey-range : (t : ℕ) → lts.Need-add-survey-range (calls t) (started t) reads.Post Inv-loop μ-loop
 add-survey-range t c =
@@ -177,9 +217,11 @@ add-survey-range t c =
 
 survey-range-requires : (t : ℕ) → lts.Need-survey-range-requires (calls t) (started t) reads.Post Inv-loop μ-loop
 survey-range-requires t c κs =
-    let p = start-of-chunk (c .before .before .before .before .before .before) .pre in
+    let place = c .before .before .before .before .before .before in
+    let p = start-of-chunk place .pre in
     let found = sub-found _ _ _ _ _ (sym (c .before .before .before .subtable .ensures) ∙ c .before .kind .given .1) in
-    let room = subst⁻¹ (λ (e : Edit). Room (e .region) (c .before .before .before .before .before .before .before .before .before .loop .seen)) (c .before .before .before .before .before .chunk-edit .ensures) (facts t (c .before .before .before .before .before .before) .room) in
+    let edit = c .before .before .before .before .before .chunk-edit .ensures in
+    let room = subst⁻¹ (λ (e : Edit). Room (e .region) (place .before .before .before .loop .seen)) edit (facts t place .room) in
     (omega (arith, found .high, p .0), (p .1 .0, found .below, omega (arith, found .high), room))
 
 loop-less-3 : (t : ℕ) → lts.Need-loop-less-3 (calls t) (started t) reads.Post Inv-loop μ-loop
@@ -193,18 +235,22 @@ loop-again-3 t c =
     let s = st (a .words .now) (a .ledger .now) in
     let seen = place .before .before .before .loop .seen in
     let r = region (place .before .before .before .loop .at) (place .before .chunk-end .result) in
+    let sub = c .before .before .before .before .subtable .ensures in
+    let table = c .before .before .kind .given .1 in
     let j = c .before .before .kind .given .0 .0 in
-    let found = sub-found _ _ _ _ _ (sym (c .before .before .before .before .subtable .ensures) ∙ c .before .before .kind .given .1) in
-    let done = c .survey-range .ensures ∙ ap (λ (e : Edit). surveyRange (3 - (a .level + 1)) (a .handle) s j e seen) (c .before .before .before .before .before .before .chunk-edit .ensures) in
+    let found = sub-found _ _ _ _ _ (sym sub ∙ table) in
+    let edit = c .before .before .before .before .before .before .chunk-edit .ensures in
+    let done = c .survey-range .ensures ∙ ap (λ (e : Edit). surveyRange (3 - (a .level + 1)) (a .handle) s j e seen) edit in
     let adds = subst⁻¹ (Adds r seen) done (range-adds (3 - (a .level + 1)) (a .handle) s j (chunkEdit (a .edit) r) seen) in
-    again t place _ adds (done ∙ step-table (a .handle) s (a .k) (a .level) (a .edit) r seen (f .index) (c .before .before .before .before .subtable .ensures) j (c .before .before .kind .given .1) (found .high))
+    again t place _ adds (done ∙ step-table (a .handle) s (a .k) (a .level) (a .edit) r seen (f .index) sub j table (found .high))
 
 returns : (t : ℕ) → lts.Need-returns (calls t) (started t) reads.Post Inv-loop μ-loop
 returns t c =
     let at = c .before in
     let a = c .before .before .before .before .args in
     let s = st (a .words .now) (a .ledger .now) in
-    sym (each-done (a .level) (surveyStep (a .handle) s (a .k) (a .level) (a .edit)) (at .loop .at) (a .edit .region .end .0) (at .loop .seen) (omega arith))
+    sym (each-done (a .level) (surveyStep (a .handle) s (a .k) (a .level) (a .edit)) (at .loop .at) (a .edit .region .end .0)
+    (at .loop .seen) (omega arith))
     ∙ at .loop .inv .1
     ∙ survey-open (a .handle) s (a .k) (a .level) (a .edit) (a .before) (c .before .before .before .before .pre .1 .2)
 

@@ -47,16 +47,20 @@ abbrev μ-loop : lts.MeasureT-loop
 μ-loop words₀ ledger₀ handle k level i₀ words ledger i = 512 - i
 
 -- ways back: from where a table below is told to the loop's head and to the start; to the start from the returns
-abbrev loop-of-told : {t : ℕ} → lts.After-kind (calls t) (started t) reads.Post Inv-loop μ-loop → lts.At-loop (calls t) (started t) reads.Post Inv-loop μ-loop
+abbrev loop-of-told : {t : ℕ} → lts.After-kind (calls t) (started t) reads.Post Inv-loop μ-loop
+    → lts.At-loop (calls t) (started t) reads.Post Inv-loop μ-loop
 loop-of-told c = c .before .before .before .before .before
 
-abbrev start-of-told : {t : ℕ} → lts.After-kind (calls t) (started t) reads.Post Inv-loop μ-loop → lts.Start (calls t) (started t) reads.Post Inv-loop μ-loop
+abbrev start-of-told : {t : ℕ} → lts.After-kind (calls t) (started t) reads.Post Inv-loop μ-loop
+    → lts.Start (calls t) (started t) reads.Post Inv-loop μ-loop
 start-of-told c = loop-of-told c .before .before .before .before
 
-abbrev start-of-returns : {t : ℕ} → lts.After-slice-known4 (calls t) (started t) reads.Post Inv-loop μ-loop → lts.Start (calls t) (started t) reads.Post Inv-loop μ-loop
+abbrev start-of-returns : {t : ℕ} → lts.After-slice-known4 (calls t) (started t) reads.Post Inv-loop μ-loop
+    → lts.Start (calls t) (started t) reads.Post Inv-loop μ-loop
 start-of-returns c = c .before .before .before .before .before .before .before .before .before .before
 
-abbrev start-of-returns-2 : {t : ℕ} → lts.After-slice-known9 (calls t) (started t) reads.Post Inv-loop μ-loop → lts.Start (calls t) (started t) reads.Post Inv-loop μ-loop
+abbrev start-of-returns-2 : {t : ℕ} → lts.After-slice-known9 (calls t) (started t) reads.Post Inv-loop μ-loop
+    → lts.Start (calls t) (started t) reads.Post Inv-loop μ-loop
 start-of-returns-2 c = c .before .before .before .before .before .before .before .before .before .before .before .before
 
 clear-table-requires : (t : ℕ) → lts.Need-clear-table-requires (calls t) (started t) reads.Post Inv-loop μ-loop
@@ -71,7 +75,8 @@ same-length-2 t c = c .before .before .before .before .clear-table .kept .1 .0
 returns : (t : ℕ) → lts.Need-returns (calls t) (started t) reads.Post Inv-loop μ-loop
 returns t c =
     let a = start-of-returns c .args in
-    c .before .before .before .before .clear-table .ensures ∙ free-last (a .handle) (a .k) (a .level) (st (a .words .now) (a .ledger .now)) (omega arith)
+    c .before .before .before .before .clear-table .ensures
+    ∙ free-last (a .handle) (a .k) (a .level) (st (a .words .now) (a .ledger .now)) (omega arith)
 
 loop-holds : (t : ℕ) → lts.Need-loop-holds (calls t) (started t) reads.Post Inv-loop μ-loop
 loop-holds t c = (omega arith, refl, refl, iter-none _ _)
@@ -109,7 +114,8 @@ loop-again t c =
       omega arith,
       at .loop .inv .1,
       at .loop .inv .2,
-      iter-step (freeSlot (below (a .level) (a .handle)) (a .handle) (a .k) (a .level)) (at .loop .i) (st (a .words .now) (a .ledger .now)) (at .loop .inv .3)
+      iter-step (freeSlot (below (a .level) (a .handle)) (a .handle) (a .k) (a .level)) (at .loop .i) (st (a .words .now) (a .ledger .now))
+          (at .loop .inv .3)
           (⊎-elim (λ e. slot-outside (below (a .level) (a .handle)) (a .handle) (a .k) (a .level) (at .loop .i) s (sub .ensures) e)
           (λ e. slot-leaf (below (a .level) (a .handle)) (a .handle) (a .k) (a .level) (at .loop .i) s (sub .ensures) e)
           (no-table (sub .result) (c .match .keys2))),
@@ -139,21 +145,32 @@ loop-again-2 t c =
       omega (arith, called .before .before .before .before .before .before .before .before .loop-test .taken),
       called .free .kept .0 ∙ at .loop .inv .1,
       called .free .kept .1 .0 ∙ at .loop .inv .2,
-      iter-step (freeSlot (below (a .level) (a .handle)) (a .handle) (a .k) (a .level)) (at .loop .i) (st (a .words .now) (a .ledger .now)) (at .loop .inv .3)
-          (called .free .ensures ∙ slot-table (below (a .level) (a .handle)) (a .handle) (a .k) (a .level) (at .loop .i) s (called .before .before .before .before .before .before .subtable .ensures) _ (c .before .before .before .before .before .before .before .before .kind .given .1)),
+      iter-step (freeSlot (below (a .level) (a .handle)) (a .handle) (a .k) (a .level)) (at .loop .i) (st (a .words .now) (a .ledger .now))
+          (at .loop .inv .3)
+          (called .free .ensures
+          ∙ slot-table (below (a .level) (a .handle)) (a .handle) (a .k) (a .level) (at .loop .i) s
+          (called .before .before .before .before .before .before .subtable .ensures) _
+          (c .before .before .before .before .before .before .before .before .kind .given .1)),
     )
 
 clear-table-requires-2 : (t : ℕ) → lts.Need-clear-table-requires-2 (calls t) (started t) reads.Post Inv-loop μ-loop
 clear-table-requires-2 t c κs =
     let inv = c .before .before .before .loop .inv in
-    let p = c .before .before .before .before .before .before .before .pre .1 in
-    (inv .1 ∙ p .0 ∙ ap (λ (n : ℕ). 512 * n) (sym (inv .2)), subst⁻¹ (λ (n : ℕ). c .before .before .before .before .before .before .before .args .k < n) (inv .2) (p .1))
+    let p = c .before .before .before .before .before .before .before .pre .1 in (
+      inv .1 ∙ p .0
+          ∙ ap (λ (n : ℕ). 512 * n) (sym (inv .2)),
+      subst⁻¹ (λ (n : ℕ). c .before .before .before .before .before .before .before .args .k < n) (inv .2) (p .1),
+    )
 
 same-length-3 : (t : ℕ) → lts.Need-same-length-3 (calls t) (started t) reads.Post Inv-loop μ-loop
-same-length-3 t c = c .before .before .before .before .clear-table2 .kept .0 ∙ c .before .before .before .before .before .before .before .before .loop .inv .1
+same-length-3 t c =
+    c .before .before .before .before .clear-table2 .kept .0
+    ∙ c .before .before .before .before .before .before .before .before .loop .inv .1
 
 same-length-4 : (t : ℕ) → lts.Need-same-length-4 (calls t) (started t) reads.Post Inv-loop μ-loop
-same-length-4 t c = c .before .before .before .before .clear-table2 .kept .1 .0 ∙ c .before .before .before .before .before .before .before .before .loop .inv .2
+same-length-4 t c =
+    c .before .before .before .before .clear-table2 .kept .1 .0
+    ∙ c .before .before .before .before .before .before .before .before .loop .inv .2
 
 returns-2 : (t : ℕ) → lts.Need-returns-2 (calls t) (started t) reads.Post Inv-loop μ-loop
 returns-2 t c =

@@ -33,7 +33,8 @@ start-of-linked c = start-of-filled (c .before)
 
 -- the table that was found
 lowest : (c : tie.After-known-told) → LowestFree (start-of-known c .args .ledger .now) (c .before .free .given .0 .0)
-lowest c = lowest-found (start-of-known c .args .ledger .now) _ (sym (c .before .before .before .lowest-free .ensures) ∙ c .before .free .given .1)
+lowest c =
+    lowest-found (start-of-known c .args .ledger .now) _ (sym (c .before .before .before .lowest-free .ensures) ∙ c .before .free .given .1)
 
 -- the parts of the new table's number fit
 record Fits (p level i : ℕ) : Type 0 where
@@ -63,7 +64,8 @@ same-length c = omega arith
 returns : tie.Need-returns
 returns c =
     let a = c .before .before .before .before .before .before .args in
-    take-none (a .handle) (a .p) (a .level) (a .i) (rising 512 (a .first) (a .step)) (st (a .words .now) (a .ledger .now)) (c .before .before .lowest-free .ensures) (c .enum-told .given .1)
+    take-none (a .handle) (a .p) (a .level) (a .i) (rising 512 (a .first) (a .step)) (st (a .words .now) (a .ledger .now))
+    (c .before .before .lowest-free .ensures) (c .enum-told .given .1)
 
 mul-a : tie.Need-mul-a
 mul-a c = omega (arith, lowest c .inside)
@@ -145,10 +147,14 @@ returns-2 c =
     let inside = lowest told .inside in
     let part = c .before .before .before .fill in
     let all = rising 512 (a .first) (a .step) in
-    let linked : c .link .result ≡ linkOf (a .handle .base .0) j = c .link .ensures ∙ link-fits (a .handle .base .0) j (shape .paged) (omega (arith, shape .ended)) in
-    let filled = ap (putMid (512 * j) (512 * j + 512 - 512 * j) (a .words .now)) (part .ensures) ∙ table-part j (a .words .now) all (length-rising 512 (a .first) (a .step)) in
-    ap₂ (λ (w : List ℕ) (x : ℕ). taken (At j) (st (set w (512 * a .p + a .i) x) (set (a .ledger .now) j (4 + a .level + 8 * (512 * a .p + a .i + 1))))) filled linked
-    ∙ take-some (a .handle) (a .p) (a .level) (a .i) all (st (a .words .now) (a .ledger .now)) j (told .before .before .before .lowest-free .ensures) (told .before .free .given .1)
+    let linked : c .link .result ≡ linkOf (a .handle .base .0) j =
+    c .link .ensures ∙ link-fits (a .handle .base .0) j (shape .paged) (omega (arith, shape .ended)) in
+    let filled = ap (putMid (512 * j) (512 * j + 512 - 512 * j) (a .words .now)) (part .ensures)
+    ∙ table-part j (a .words .now) all (length-rising 512 (a .first) (a .step)) in
+    ap₂ (λ (w : List ℕ) (x : ℕ). taken (At j)
+    (st (set w (512 * a .p + a .i) x) (set (a .ledger .now) j (4 + a .level + 8 * (512 * a .p + a .i + 1))))) filled linked
+    ∙ take-some (a .handle) (a .p) (a .level) (a .i) all (st (a .words .now) (a .ledger .now)) j
+    (told .before .before .before .lowest-free .ensures) (told .before .free .given .1)
 
 pub take-table-spec : {M : Type 1} → statement M
 take-table-spec =

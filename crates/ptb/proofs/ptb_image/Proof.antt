@@ -27,7 +27,12 @@ same-length : tie.Need-same-length
 same-length c = omega arith
 
 returns : tie.Need-returns
-returns c = let a = start-of-returns c .args in image-told (a .base) (a .level) (a .range) (st (a .words .now) (a .ledger .now)) (a .table) (a .page .now) (a .answer .now) (c .before .before .before .before .before .before .handle-of .ensures) (c .before .before .before .before .page-image .ensures) (c .answer-outcome .ensures)
+returns c =
+    let a = start-of-returns c .args in
+    image-told (a .base) (a .level) (a .range) (st (a .words .now) (a .ledger .now)) (a .table) (a .page .now) (a .answer .now)
+    (c .before .before .before .before .before .before .handle-of .ensures)
+    (c .before .before .before .before .page-image .ensures)
+    (c .answer-outcome .ensures)
 
 pub ptb-image-spec : {M : Type 1} → statement M
 ptb-image-spec =

@@ -27,7 +27,12 @@ same-length : tie.Need-same-length
 same-length c = omega arith
 
 returns : tie.Need-returns
-returns c = let a = start-of-returns c .args in list-told (a .base) (a .level) (a .range) (st (a .words .now) (a .ledger .now)) (a .start) (a .end) (a .lines .now) (a .answer .now) (c .before .before .before .before .before .before .handle-of .ensures) (c .before .before .before .before .list .ensures) (c .answer-listed .ensures)
+returns c =
+    let a = start-of-returns c .args in
+    list-told (a .base) (a .level) (a .range) (st (a .words .now) (a .ledger .now)) (a .start) (a .end) (a .lines .now) (a .answer .now)
+    (c .before .before .before .before .before .before .handle-of .ensures)
+    (c .before .before .before .before .list .ensures)
+    (c .answer-listed .ensures)
 
 pub ptb-list-spec : {M : Type 1} → statement M
 ptb-list-spec =

@@ -30,7 +30,12 @@ same-length-2 : tie.Need-same-length-2
 same-length-2 c = omega arith
 
 returns : tie.Need-returns
-returns c = let a = start-of-returns c .args in make-told (a .base) (a .level) (a .range) (st (a .words .now) (a .ledger .now)) (a .answer .now) (c .before .before .before .before .before .before .before .before .before .handle-of .ensures) (c .before .before .before .before .before .before .make .ensures) (c .answer-outcome .ensures)
+returns c =
+    let a = start-of-returns c .args in
+    make-told (a .base) (a .level) (a .range) (st (a .words .now) (a .ledger .now)) (a .answer .now)
+    (c .before .before .before .before .before .before .before .before .before .handle-of .ensures)
+    (c .before .before .before .before .before .before .make .ensures)
+    (c .answer-outcome .ensures)
 
 pub ptb-make-spec : {M : Type 1} → statement M
 ptb-make-spec =

@@ -30,7 +30,13 @@ same-length-2 : tie.Need-same-length-2
 same-length-2 c = omega arith
 
 returns : tie.Need-returns
-returns c = let a = start-of-returns c .args in map-told (a .base) (a .level) (a .range) (a .start) (a .end) (a .frame) (a .flags) (a .constraints) (st (a .words .now) (a .ledger .now)) (a .answer .now) (c .before .before .before .before .before .before .before .before .before .handle-of .ensures) (c .before .before .before .before .before .before .map .ensures) (c .answer-counted .ensures)
+returns c =
+    let a = start-of-returns c .args in
+    map-told (a .base) (a .level) (a .range) (a .start) (a .end) (a .frame) (a .flags) (a .constraints)
+    (st (a .words .now) (a .ledger .now)) (a .answer .now)
+    (c .before .before .before .before .before .before .before .before .before .handle-of .ensures)
+    (c .before .before .before .before .before .before .map .ensures)
+    (c .answer-counted .ensures)
 
 pub ptb-map-spec : {M : Type 1} → statement M
 ptb-map-spec =

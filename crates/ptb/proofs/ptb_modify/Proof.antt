@@ -37,7 +37,11 @@ same-length-3 c = c .before .before .before .before .before .before .before .bef
 returns : tie.Need-returns
 returns c =
     let a = start-of-returns c .args in
-    modify-told (a .base) (a .level) (a .range) (a .start) (a .end) (a .set) (a .clear) (a .live) (st (a .words .now) (a .ledger .now)) (a .list .now) (a .answer .now) (handle-of-returns c .handle-of .ensures) (c .before .before .before .before .before .before .before .before .modify .ensures) (c .answer-modified .ensures)
+    modify-told (a .base) (a .level) (a .range) (a .start) (a .end) (a .set) (a .clear) (a .live)
+    (st (a .words .now) (a .ledger .now)) (a .list .now) (a .answer .now)
+    (handle-of-returns c .handle-of .ensures)
+    (c .before .before .before .before .before .before .before .before .modify .ensures)
+    (c .answer-modified .ensures)
 
 pub ptb-modify-spec : {M : Type 1} → statement M
 ptb-modify-spec =

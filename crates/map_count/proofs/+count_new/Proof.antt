@@ -200,7 +200,10 @@ table-here t c =
     let a = start-of-chunk place .args in
     let rule = c .before .before .before in
     entry-table (a .handle) (st (a .words .now) (a .ledger .now)) (a .k) (a .level) (chunkOf t place) (place .entry-index .ensures)
-    (c .before .before .before .before .before .before .before .before .subtable .ensures) (ruled t rule _ (rule .rule-of .ensures)) _ (c .before .before .before .before .before .before .kind .given .1) (c .before .enum-told2 .given .1)
+    (c .before .before .before .before .before .before .before .before .subtable .ensures)
+    (ruled t rule _ (rule .rule-of .ensures)) _
+    (c .before .before .before .before .before .before .kind .given .1)
+    (c .before .enum-told2 .given .1)
     ∙ sym (lower t c _ (c .count-new .ensures))
 
 returns : (t : ℕ) → lts.Need-returns (calls t) (started t) reads.Post Inv-loop μ-loop
@@ -317,8 +320,9 @@ loop-again-3 t c =
     let a = start-of-chunk place .args in
     let rule = c .before in
     let none = no-down (rule .rule-of .result) (c .match3 .keys2) in
+    let sub = c .before .before .before .before .before .before .subtable .ensures in
     let here = entry-none (a .handle) (st (a .words .now) (a .ledger .now)) (a .k) (a .level) (chunkOf t place)
-    (place .entry-index .ensures) (c .before .before .before .before .before .before .subtable .ensures) (ruled t rule _ (rule .rule-of .ensures)) none in
+    (place .entry-index .ensures) sub (ruled t rule _ (rule .rule-of .ensures)) none in
     (f .under, f .paged, f .framed, f .room, omega (arith, counted t place 0 here))
 
 add-count-new : (t : ℕ) → lts.Need-add-count-new (calls t) (started t) reads.Post Inv-loop μ-loop

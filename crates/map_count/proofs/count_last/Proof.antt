@@ -117,12 +117,16 @@ counted : (c : Place) (n : ℕ) → counts c (chunkOf c) ≡ n
 counted c n e = omega (arith, facts c .next)
 
 -- one new table where the entry is a leaf and the rule leads down
-down-here : (c : tie.After-enum-told2 Inv-loop μ-loop) → let place = c .before .before .before .before .before .before .before in counts place (chunkOf place) ≡ 1
+down-here : (c : tie.After-enum-told2 Inv-loop μ-loop)
+    → let place = c .before .before .before .before .before .before .before in counts place (chunkOf place) ≡ 1
 down-here c =
     let place = c .before .before .before .before .before .before .before in
     let a = start-of-chunk place .args in
     last-down (a .handle) (st (a .words .now) (a .ledger .now)) (a .k) (chunkOf place) (facts place .index)
-    (c .before .before .before .before .before .subtable .ensures) (c .before .before .before .enum-told .given .1) (c .before .before .rule-of .ensures) (c .enum-told2 .given .1)
+    (c .before .before .before .before .before .subtable .ensures)
+    (c .before .before .before .enum-told .given .1)
+    (c .before .before .rule-of .ensures)
+    (c .enum-told2 .given .1)
 
 loop-holds : tie.Need-loop-holds Inv-loop μ-loop
 loop-holds c = let p = c .before .before .pre in (p .2 .some, p .2 .from, p .2 .frame, p .2 .room, omega arith)
@@ -194,7 +198,9 @@ loop-again-2 c =
     (f .under, f .paged, f .framed, f .room, omega (arith, counted place 0 here))
 
 add-count : tie.Need-add-count Inv-loop μ-loop
-add-count c = let place = c .before .before .before .before .before .before .before in omega (arith, counted place 1 (down-here c), facts place .most)
+add-count c =
+    let place = c .before .before .before .before .before .before .before in
+    omega (arith, counted place 1 (down-here c), facts place .most)
 
 loop-less-3 : tie.Need-loop-less-3 Inv-loop μ-loop
 loop-less-3 c = let f = facts (c .before .before .before .before .before .before .before) in omega (arith, f .above, f .under)

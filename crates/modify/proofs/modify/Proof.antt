@@ -75,13 +75,12 @@ enum-told c = c .match .keys2
 
 modify-sound-requires : tie.Need-modify-sound-requires
 modify-sound-requires c κs =
-    let a = start-of-verified (c .before .before .before .before .before) .args in
-    let span = asked-span (a .handle) (a .start .0) (a .end .0) (a .set) (a .clear) (a .live)
-    (sym (verified (c .before .before .before .before .before)) ∙ c .before .before .before .enum-told .given .1) in (
-      shaped-says (a .handle) (st (a .words .now) (a .ledger .now))
-          (rw (good (c .before .before .before .before .before .before .before)) tt),
-      subst⁻¹ (λ (e : Edit). e .region .end .0 - e .region .start .0 ≤ 2 ^ 48) (edit (c .before .before .before .before .before .before))
-          span,
+    let asked = c .before .before .before .before .before in
+    let a = start-of-verified asked .args in
+    let accepted = sym (verified asked) ∙ c .before .before .before .enum-told .given .1 in
+    let span = asked-span (a .handle) (a .start .0) (a .end .0) (a .set) (a .clear) (a .live) accepted in (
+      shaped-says (a .handle) (st (a .words .now) (a .ledger .now)) (rw (good (asked .before .before)) tt),
+      subst⁻¹ (λ (e : Edit). e .region .end .0 - e .region .start .0 ≤ 2 ^ 48) (edit (asked .before)) span,
     )
 
 same-length-3 : tie.Need-same-length-3
@@ -92,9 +91,10 @@ same-length-4 c = omega arith
 
 returns-2 : tie.Need-returns-2
 returns-2 c =
-    let a = start-of-verified (c .before .before .before) .args in
+    let asked = c .before .before .before in
+    let a = start-of-verified asked .args in
     call-refused (a .handle) (a .start .0) (a .end .0) (a .set) (a .clear) (a .live) (st (a .words .now) (a .ledger .now)) (a .list .now)
-    (good (c .before .before .before .before .before)) (verified (c .before .before .before)) _ (c .before .outcome .given .1)
+    (good (asked .before .before)) (verified asked) _ (c .before .outcome .given .1)
 
 same-length-5 : tie.Need-same-length-5
 same-length-5 c = c .before .before .before .before .before .before .modify-sound .kept .0

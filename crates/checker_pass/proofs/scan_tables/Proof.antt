@@ -76,11 +76,10 @@ passed c =
     let k = table-of-passed c .tables .k in
     let r = c .before .before .before .before .before .before .loop .r in
     let size : 512 * k + 128 * r + 128 - (512 * k + 128 * r) ≡ 128 = omega arith in
-    let p = run-passed (flagSet (a .handle)) (numberAt s k) (runWords s k r)
-    (c .before .before .before .scan-run .ensures
-    ∙ ap₂ (λ (m l : ℕ). runOf m (numberAt s k) (partOf (512 * k + 128 * r) l (a .words .now)))
-    (table-of-passed c .before .flag-set .ensures) size) _
-    (c .before .run .given .1) in
+    let set = table-of-passed c .before .flag-set .ensures in
+    let run = c .before .before .before .scan-run .ensures
+    ∙ ap₂ (λ (m l : ℕ). runOf m (numberAt s k) (partOf (512 * k + 128 * r) l (a .words .now))) set size in
+    let p = run-passed (flagSet (a .handle)) (numberAt s k) (runWords s k r) run _ (c .before .run .given .1) in
     let long = length-part (512 * k + 128 * r) 128 (a .words .now) (omega (arith, start-of-passed c .pre .sized)) in
     (rw (p .0) tt, p .1, omega (arith, p .1, count-below (numberAt s k) (runWords s k r)))
 
@@ -218,9 +217,10 @@ returns c =
 returns-2 : tie.Need-returns-2 Inv-loop μ-loop Inv-tables μ-tables
 returns-2 c =
     let a = c .before .before .before .before .before .before .before .args in
-    tables-failed (a .handle) (st (a .words .now) (a .ledger .now)) (c .before .before .before .tables .k) (omega arith)
-    (number-fails (a .handle) (st (a .words .now) (a .ledger .now)) (c .before .before .before .tables .k)
-    (sym (c .before .table-holds .ensures) ∙ not-true _ (c .if2 .taken)))
+    let s = st (a .words .now) (a .ledger .now) in
+    let k = c .before .before .before .tables .k in
+    let fails = sym (c .before .table-holds .ensures) ∙ not-true _ (c .if2 .taken) in
+    tables-failed (a .handle) s k (omega arith) (number-fails (a .handle) s k fails)
 
 returns-3 : tie.Need-returns-3 Inv-loop μ-loop Inv-tables μ-tables
 unfolding runPasses
@@ -230,13 +230,11 @@ returns-3 c =
     let k = table-of-failed c .tables .k in
     let r = c .before .before .before .before .before .loop .r in
     let size : 512 * k + 128 * r + 128 - (512 * k + 128 * r) ≡ 128 = omega arith in
-    tables-failed (a .handle) s k (omega arith)
-    (run-fails (a .handle) s k r (omega arith)
-    (run-failed (flagSet (a .handle)) (numberAt s k) (runWords s k r)
-    (c .before .before .scan-run .ensures
-    ∙ ap₂ (λ (m l : ℕ). runOf m (numberAt s k) (partOf (512 * k + 128 * r) l (a .words .now)))
-    (table-of-failed c .before .flag-set .ensures) size)
-    (c .enum-told .given .1)))
+    let set = table-of-failed c .before .flag-set .ensures in
+    let run = c .before .before .scan-run .ensures
+    ∙ ap₂ (λ (m l : ℕ). runOf m (numberAt s k) (partOf (512 * k + 128 * r) l (a .words .now))) set size in
+    let fails = run-failed (flagSet (a .handle)) (numberAt s k) (runWords s k r) run (c .enum-told .given .1) in
+    tables-failed (a .handle) s k (omega arith) (run-fails (a .handle) s k r (omega arith) fails)
 
 pub scan-tables-spec : {M : Type 1} → statement M
 scan-tables-spec =

@@ -1,5 +1,5 @@
 -- `count_lines`: each way through the code by its law.
-use mathlib.Core.List.{List}
+use mathlib.Core.List.{List, _∷_}
 use mathlib.Core.Logic.{_⊎_}
 use mathlib.Core.Path.{_≡_, sym, ap, subst, _∙_}
 use Prim.Native.Nat.{_+_, _-_, _^_}
@@ -10,6 +10,7 @@ use Rattle.entry.specs.Sub.{sub-found}
 use Rattle.entry.proofs.Tags.{no-table}
 use Rattle.entry.specs.declared.Sub.the-variants.{Table, Outside, Leaf}
 use Rattle.region.specs.Chunks.{chunksOf}
+use Rattle.region.specs.declared.MemoryRegion.{MemoryRegion}
 use Rattle.region.specs.declared.ChunkedIterator.{ChunkedIterator}
 use Rattle.list_lines.specs.Lines.{Line, each, linesFrom, linesAt, lines-table, lines-other, lines-each, lines-pages, next-chunk}
 use Rattle.list_lines.specs.Lines.{next-none, each-none, count-step}
@@ -62,81 +63,78 @@ Inv-loop words tables handle k level count₀ rest₀ count rest =
 abbrev μ-loop : lts.MeasureT-loop
 μ-loop words tables handle k level count₀ rest₀ count rest = length (chunksOf rest)
 
--- all the lines, by the chunks at entry
-all : {t : ℕ} (c : lts.After-split (calls t) (started t) reads.Post Inv-loop μ-loop) → let a = c .before .before .before .args in
-    length (linesFrom (a .handle .base .0) (a .tables) (a .words .now) (3 - a .level) (a .k) (a .region))
-    ≡ length (each (linesAt (a .handle .base .0) (a .tables) (a .words .now) (a .k) (a .level)) (chunksOf (c .split .result)))
-all c =
-    let a = c .before .before .before .args in
-    ap length (lines-each (a .handle .base .0) (a .tables) (a .words .now) (a .k) (a .level) (a .region) (omega arith))
-    ∙ ap (λ (it : ChunkedIterator). length
-    (each (linesAt (a .handle .base .0) (a .tables) (a .words .now) (a .k) (a .level)) (chunksOf it)))
-    (sym (c .split .ensures))
-
--- no more lines than a count can say
-few : {t : ℕ} (c : lts.After-split (calls t) (started t) reads.Post Inv-loop μ-loop) → let a = c .before .before .before .args in
-    length (each (linesAt (a .handle .base .0) (a .tables) (a .words .now) (a .k) (a .level)) (chunksOf (c .split .result))) < 2 ^ 64
-few c = subst (λ (n : ℕ). n < 2 ^ 64) (all c) (c .before .before .before .pre .1 .3)
-
 -- a chunk, once its entry is known
 abbrev Asked : ℕ → Type 0
 Asked t = lts.After-subtable (calls t) (started t) reads.Post Inv-loop μ-loop
 
--- ways back from where a chunk's entry is known: to the start, and to where the region is split
-abbrev start-of-asked : {t : ℕ} → Asked t → lts.Start (calls t) (started t) reads.Post Inv-loop μ-loop
-start-of-asked c = c .before .before .before .before .before .before .before .before .before .before
+-- ways back from there: to the loop's head, and to the start
+abbrev loop-of-asked : {t : ℕ} → Asked t → lts.At-loop (calls t) (started t) reads.Post Inv-loop μ-loop
+loop-of-asked c = c .before .before .before .before .before .before
 
-abbrev split-of-asked : {t : ℕ} → Asked t → lts.After-split (calls t) (started t) reads.Post Inv-loop μ-loop
-split-of-asked c = c .before .before .before .before .before .before .before
+abbrev start-of-asked : {t : ℕ} → Asked t → lts.Start (calls t) (started t) reads.Post Inv-loop μ-loop
+start-of-asked c = loop-of-asked c .before .before .before .before
+
+-- the lines of a region's part below one entry of the table
+abbrev linesHere : {t : ℕ} → lts.Start (calls t) (started t) reads.Post Inv-loop μ-loop → MemoryRegion → List Line
+linesHere c = let a = c .args in linesAt (a .handle .base .0) (a .tables) (a .words .now) (a .k) (a .level)
+
+-- the chunk's region, and the chunks after it
+abbrev chunkOf : {t : ℕ} → Asked t → MemoryRegion
+chunkOf c = c .before .before .before .next2 .given .0 .0
+
+abbrev leftOf : {t : ℕ} → Asked t → ChunkedIterator
+leftOf c = c .before .before .before .next2 .given .0 .1 .0
+
+cut : {t : ℕ} (c : Asked t) → chunksOf (loop-of-asked c .loop .rest) ≡ chunkOf c ∷ chunksOf (leftOf c)
+cut c =
+    let found = c .before .before .before in
+    next-chunk (loop-of-asked c .loop .rest) _ _ (found .before .before .next .ensures) (found .next2 .given .1)
+
+-- all the lines, by the chunks at entry
+all : {t : ℕ} (c : lts.After-split (calls t) (started t) reads.Post Inv-loop μ-loop)
+    → let start = c .before .before .before in let a = start .args in
+    length (linesFrom (a .handle .base .0) (a .tables) (a .words .now) (3 - a .level) (a .k) (a .region))
+    ≡ length (each (linesHere start) (chunksOf (c .split .result)))
+all c =
+    let start = c .before .before .before in
+    let a = start .args in
+    ap length (lines-each (a .handle .base .0) (a .tables) (a .words .now) (a .k) (a .level) (a .region) (omega arith))
+    ∙ ap (λ (it : ChunkedIterator). length (each (linesHere start) (chunksOf it))) (sym (c .split .ensures))
+
+-- no more lines than a count can say
+few : {t : ℕ} (c : lts.After-split (calls t) (started t) reads.Post Inv-loop μ-loop)
+    → length (each (linesHere (c .before .before .before)) (chunksOf (c .split .result))) < 2 ^ 64
+few c = subst (λ (n : ℕ). n < 2 ^ 64) (all c) (c .before .before .before .pre .1 .3)
 
 -- the lines counted, n of the chunk, and those of the chunks after it are all
 abbrev Sum : {t : ℕ} → Asked t → ℕ → Type 0
-Sum c n = let a = start-of-asked c .args in let f = linesAt (a .handle .base .0) (a .tables) (a .words .now) (a .k) (a .level) in
-    c .before .before .before .before .before .before .loop .count + n
-    + length (each f (chunksOf (c .before .before .before .next2 .given .0 .1 .0)))
-    ≡ length (each f (chunksOf (split-of-asked c .split .result)))
+Sum c n =
+    let at = loop-of-asked c in
+    let f = linesHere (start-of-asked c) in
+    at .loop .count + n + length (each f (chunksOf (leftOf c))) ≡ length (each f (chunksOf (at .before .split .result)))
 
 regroup : (a n x : ℕ) {r s : ℕ} → r ≡ n + x → a + r ≡ s → a + n + x ≡ s
 regroup a n x e q = omega arith
 
-sum : {t : ℕ} (c : Asked t) (ls : List Line)
-    → let a = start-of-asked c .args in
-    linesAt (a .handle .base .0) (a .tables) (a .words .now) (a .k) (a .level) (c .before .before .before .next2 .given .0 .0) ≡ ls
-    → Sum c (length ls)
-sum c ls lines =
-    let a = start-of-asked c .args in
-    let cut = next-chunk (c .before .before .before .before .before .before .loop .rest) _ _
-    (c .before .before .before .before .before .next .ensures) (c .before .before .before .next2 .given .1) in
-    regroup _ _ _ (count-step (linesAt (a .handle .base .0) (a .tables) (a .words .now) (a .k) (a .level)) ls cut lines)
-    (c .before .before .before .before .before .before .loop .inv)
+sum : {t : ℕ} (c : Asked t) (ls : List Line) → linesHere (start-of-asked c) (chunkOf c) ≡ ls → Sum c (length ls)
+sum c ls lines = regroup _ _ _ (count-step (linesHere (start-of-asked c)) ls (cut c) lines) (loop-of-asked c .loop .inv)
 
 one : {t : ℕ} (c : Asked t) → (c .subtable .result ≡ Outside) ⊎ (c .subtable .result ≡ Leaf) → Sum c 1
 one c e =
     let a = start-of-asked c .args in
-    sum c _
-    (lines-other (a .handle .base .0) (a .tables) (a .words .now) (a .k) (a .level) _ (c .before .get-entry .ensures)
-    (c .subtable .ensures) e)
+    let entry = c .before .get-entry .ensures in
+    sum c _ (lines-other (a .handle .base .0) (a .tables) (a .words .now) (a .k) (a .level) _ entry (c .subtable .ensures) e)
 
-below : {t : ℕ} (c : Asked t) (j : ℕ) → c .subtable .result ≡ Table j
-    → let a = start-of-asked c .args in
-    Sum c
-    (length (linesFrom (a .handle .base .0) (a .tables) (a .words .now) (3 - (a .level + 1)) j
-    (c .before .before .before .next2 .given .0 .0)))
+below : {t : ℕ} (c : Asked t) (j : ℕ) → c .subtable .result ≡ Table j → let a = start-of-asked c .args in
+    Sum c (length (linesFrom (a .handle .base .0) (a .tables) (a .words .now) (3 - (a .level + 1)) j (chunkOf c)))
 below c j e =
     let a = start-of-asked c .args in
-    sum c _
-    (lines-table (a .handle .base .0) (a .tables) (a .words .now) (a .k) (a .level) _ (c .before .get-entry .ensures)
-    (c .subtable .ensures) j e)
+    let entry = c .before .get-entry .ensures in
+    sum c _ (lines-table (a .handle .base .0) (a .tables) (a .words .now) (a .k) (a .level) _ entry (c .subtable .ensures) j e)
 
--- one chunk less is left
-less : {t : ℕ} (c : Asked t)
-    → length (chunksOf (c .before .before .before .next2 .given .0 .1 .0))
-    < length (chunksOf (c .before .before .before .before .before .before .loop .rest))
-less c =
-    let cut = ap length
-    (next-chunk (c .before .before .before .before .before .before .loop .rest) _ _
-    (c .before .before .before .before .before .next .ensures) (c .before .before .before .next2 .given .1)) in
-    omega (arith, cut)
+-- one chunk fewer is left
+less : {t : ℕ} (c : Asked t) → length (chunksOf (leftOf c)) < length (chunksOf (loop-of-asked c .loop .rest))
+less c = let e = ap length (cut c) in omega (arith, e)
 
 count-pages-requires : (t : ℕ) → lts.Need-count-pages-requires (calls t) (started t) reads.Post Inv-loop μ-loop
 count-pages-requires t c κs = omega arith
@@ -165,9 +163,8 @@ enum-told t c = omega arith
 returns-2 : (t : ℕ) → lts.Need-returns-2 (calls t) (started t) reads.Post Inv-loop μ-loop
 returns-2 t c =
     let at = c .before .before .before in
-    let a = at .before .before .before .before .args in
     let none = next-none (at .loop .rest) (c .before .before .next .ensures) (c .enum-told .given .1) in
-    let left = ap length (each-none (linesAt (a .handle .base .0) (a .tables) (a .words .now) (a .k) (a .level)) none) in
+    let left = ap length (each-none (linesHere (at .before .before .before .before)) none) in
     let total = all (at .before) in
     omega (arith, at .loop .inv)
 
@@ -181,7 +178,7 @@ enum-known-kind : (t : ℕ) → lts.Need-enum-known-kind (calls t) (started t) r
 enum-known-kind t c = c .match2 .keys1
 
 add-count : (t : ℕ) → lts.Need-add-count (calls t) (started t) reads.Post Inv-loop μ-loop
-add-count t c = omega (arith, one (c .before) (no-table _ (c .match2 .keys2)), few (split-of-asked (c .before)))
+add-count t c = let s = c .before in omega (arith, one s (no-table _ (c .match2 .keys2)), few (loop-of-asked s .before))
 
 loop-less : (t : ℕ) → lts.Need-loop-less (calls t) (started t) reads.Post Inv-loop μ-loop
 loop-less t c = less (c .before)
@@ -199,20 +196,14 @@ count-lines-requires t c κs =
     let s = c .before .before .before in
     let p = start-of-asked s .pre in
     let table = c .before .kind .given .1 in
-    let found = sub-found _ _ _ _ _ (sym (s .subtable .ensures) ∙ table) in (
-      omega (arith, found .high, p .0),
-      (p .1 .0, found .below, omega (arith, found .high), omega (arith, below s _ table, few (split-of-asked s))),
-    )
+    let found = sub-found _ _ _ _ _ (sym (s .subtable .ensures) ∙ table) in
+    let room = few (loop-of-asked s .before) in
+    (omega (arith, found .high, p .0), (p .1 .0, found .below, omega (arith, found .high), omega (arith, below s _ table, room)))
 
 add-count-2 : (t : ℕ) → lts.Need-add-count-2 (calls t) (started t) reads.Post Inv-loop μ-loop
 add-count-2 t c =
-    omega (
-      arith,
-      below (c .before .before .before .before) _ (c .before .before .kind .given .1),
-      few
-          (split-of-asked (c .before .before .before .before)),
-      c .count-lines .ensures,
-    )
+    let s = c .before .before .before .before in
+    omega (arith, below s _ (c .before .before .kind .given .1), few (loop-of-asked s .before), c .count-lines .ensures)
 
 loop-less-2 : (t : ℕ) → lts.Need-loop-less-2 (calls t) (started t) reads.Post Inv-loop μ-loop
 loop-less-2 t c = less (c .before .before .before .before)

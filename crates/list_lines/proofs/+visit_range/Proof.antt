@@ -10,6 +10,7 @@ use Rattle.entry.specs.Sub.{sub-found}
 use Rattle.entry.proofs.Tags.{no-table}
 use Rattle.entry.specs.declared.Sub.the-variants.{Table, Outside, Leaf}
 use Rattle.region.specs.Chunks.{chunksOf}
+use Rattle.region.specs.declared.MemoryRegion.{MemoryRegion}
 use Rattle.region.specs.declared.ChunkedIterator.{ChunkedIterator}
 use Rattle.list_lines.specs.Lines.{Line, line, each, numbers, linesFrom, linesAt, lines-table, lines-other, lines-each, next-chunk}
 use Rattle.list_lines.specs.Lines.{next-none, each-none, count-step, write-step, write-done, written, writeLines, Written}
@@ -65,69 +66,67 @@ Inv-loop words tables handle k level list₀ from to₀ rest₀ list to rest =
 abbrev μ-loop : lts.MeasureT-loop
 μ-loop words tables handle k level list₀ from to₀ rest₀ list to rest = length (chunksOf rest)
 
--- all the lines, by the chunks at entry
-all : {t : ℕ} (c : lts.After-split (calls t) (started t) reads.Post Inv-loop μ-loop) → let a = c .before .before .before .args in
-    linesFrom (a .handle .base .0) (a .tables) (a .words .now) (3 - a .level) (a .k) (a .region)
-    ≡ each (linesAt (a .handle .base .0) (a .tables) (a .words .now) (a .k) (a .level)) (chunksOf (c .split .result))
-all c =
-    let a = c .before .before .before .args in
-    lines-each (a .handle .base .0) (a .tables) (a .words .now) (a .k) (a .level) (a .region) (omega arith)
-    ∙ ap (λ (it : ChunkedIterator). each (linesAt (a .handle .base .0) (a .tables) (a .words .now) (a .k) (a .level)) (chunksOf it))
-    (sym (c .split .ensures))
-
 -- a chunk, once its entry is known
 abbrev Asked : ℕ → Type 0
 Asked t = lts.After-subtable (calls t) (started t) reads.Post Inv-loop μ-loop
 
--- ways back from where a chunk's entry is known: to the start, and to the loop's head
-abbrev start-of-asked : {t : ℕ} → Asked t → lts.Start (calls t) (started t) reads.Post Inv-loop μ-loop
-start-of-asked c = c .before .before .before .before .before .before .before .before .before .before
-
+-- ways back from there: to the loop's head, and to the start
 abbrev loop-of-asked : {t : ℕ} → Asked t → lts.At-loop (calls t) (started t) reads.Post Inv-loop μ-loop
 loop-of-asked c = c .before .before .before .before .before .before
 
--- the chunk, and those after it
-cut : {t : ℕ} (c : Asked t)
-    → chunksOf (loop-of-asked c .loop .rest)
-    ≡ c .before .before .before .next2 .given .0 .0 ∷ chunksOf (c .before .before .before .next2 .given .0 .1 .0)
+abbrev start-of-asked : {t : ℕ} → Asked t → lts.Start (calls t) (started t) reads.Post Inv-loop μ-loop
+start-of-asked c = loop-of-asked c .before .before .before .before
+
+-- the lines of a region's part below one entry of the table
+abbrev linesHere : {t : ℕ} → lts.Start (calls t) (started t) reads.Post Inv-loop μ-loop → MemoryRegion → List Line
+linesHere c = let a = c .args in linesAt (a .handle .base .0) (a .tables) (a .words .now) (a .k) (a .level)
+
+-- the chunk's region, and the chunks after it
+abbrev chunkOf : {t : ℕ} → Asked t → MemoryRegion
+chunkOf c = c .before .before .before .next2 .given .0 .0
+
+abbrev leftOf : {t : ℕ} → Asked t → ChunkedIterator
+leftOf c = c .before .before .before .next2 .given .0 .1 .0
+
+cut : {t : ℕ} (c : Asked t) → chunksOf (loop-of-asked c .loop .rest) ≡ chunkOf c ∷ chunksOf (leftOf c)
 cut c =
-    next-chunk (loop-of-asked c .loop .rest) _ _ (c .before .before .before .before .before .next .ensures)
-    (c .before .before .before .next2 .given .1)
+    let found = c .before .before .before in
+    next-chunk (loop-of-asked c .loop .rest) _ _ (found .before .before .next .ensures) (found .next2 .given .1)
+
+-- all the lines, by the chunks at entry
+all : {t : ℕ} (c : lts.After-split (calls t) (started t) reads.Post Inv-loop μ-loop)
+    → let start = c .before .before .before in let a = start .args in
+    linesFrom (a .handle .base .0) (a .tables) (a .words .now) (3 - a .level) (a .k) (a .region)
+    ≡ each (linesHere start) (chunksOf (c .split .result))
+all c =
+    let start = c .before .before .before in
+    let a = start .args in
+    lines-each (a .handle .base .0) (a .tables) (a .words .now) (a .k) (a .level) (a .region) (omega arith)
+    ∙ ap (λ (it : ChunkedIterator). each (linesHere start) (chunksOf it)) (sym (c .split .ensures))
 
 one : {t : ℕ} (c : Asked t) → (c .subtable .result ≡ Outside) ⊎ (c .subtable .result ≡ Leaf)
-    → let a = start-of-asked c .args in
-    linesAt (a .handle .base .0) (a .tables) (a .words .now) (a .k) (a .level) (c .before .before .before .next2 .given .0 .0)
-    ≡ line (c .before .before .before .next2 .given .0 .0) (c .before .get-entry .result) (a .level) ∷ []
+    → let start = start-of-asked c in
+    linesHere start (chunkOf c) ≡ line (chunkOf c) (c .before .get-entry .result) (start .args .level) ∷ []
 one c e =
     let a = start-of-asked c .args in
-    lines-other (a .handle .base .0) (a .tables) (a .words .now) (a .k) (a .level) _ (c .before .get-entry .ensures)
-    (c .subtable .ensures) e
+    let entry = c .before .get-entry .ensures in
+    lines-other (a .handle .base .0) (a .tables) (a .words .now) (a .k) (a .level) _ entry (c .subtable .ensures) e
 
 below : {t : ℕ} (c : Asked t) (j : ℕ) → c .subtable .result ≡ Table j
-    → let a = start-of-asked c .args in
-    linesAt (a .handle .base .0) (a .tables) (a .words .now) (a .k) (a .level) (c .before .before .before .next2 .given .0 .0)
-    ≡ linesFrom (a .handle .base .0) (a .tables) (a .words .now) (3 - (a .level + 1)) j (c .before .before .before .next2 .given .0 .0)
+    → let start = start-of-asked c in let a = start .args in
+    linesHere start (chunkOf c) ≡ linesFrom (a .handle .base .0) (a .tables) (a .words .now) (3 - (a .level + 1)) j (chunkOf c)
 below c j e =
     let a = start-of-asked c .args in
-    lines-table (a .handle .base .0) (a .tables) (a .words .now) (a .k) (a .level) _ (c .before .get-entry .ensures)
-    (c .subtable .ensures) j e
+    let entry = c .before .get-entry .ensures in
+    lines-table (a .handle .base .0) (a .tables) (a .words .now) (a .k) (a .level) _ entry (c .subtable .ensures) j e
 
-step : {t : ℕ} (c : Asked t) {ls : List Line}
-    → let a = start-of-asked c .args in
-    let f = linesAt (a .handle .base .0) (a .tables) (a .words .now) (a .k) (a .level) in
-    f (c .before .before .before .next2 .given .0 .0) ≡ ls
-    → length (each f (chunksOf (loop-of-asked c .loop .rest)))
-    ≡ length ls + length (each f (chunksOf (c .before .before .before .next2 .given .0 .1 .0)))
-step c {ls} lines =
-    let a = start-of-asked c .args in
-    count-step (linesAt (a .handle .base .0) (a .tables) (a .words .now) (a .k) (a .level)) ls (cut c) lines
+step : {t : ℕ} (c : Asked t) {ls : List Line} → let f = linesHere (start-of-asked c) in f (chunkOf c) ≡ ls
+    → length (each f (chunksOf (loop-of-asked c .loop .rest))) ≡ length ls + length (each f (chunksOf (leftOf c)))
+step c {ls} lines = count-step (linesHere (start-of-asked c)) ls (cut c) lines
 
 -- room for the lines that remain
-room : {t : ℕ} (c : Asked t) → let a = start-of-asked c .args in
-    loop-of-asked c .loop .to
-    + 4
-    * length (each (linesAt (a .handle .base .0) (a .tables) (a .words .now) (a .k) (a .level)) (chunksOf (loop-of-asked c .loop .rest)))
-    ≤ length (loop-of-asked c .loop .list)
+room : {t : ℕ} (c : Asked t) → let at = loop-of-asked c .loop in
+    at .to + 4 * length (each (linesHere (start-of-asked c)) (chunksOf (at .rest))) ≤ length (at .list)
 room c =
     let inv = loop-of-asked c .loop .inv in
     omega (arith, inv .0, inv .1, ap length (all (loop-of-asked c .before)), start-of-asked c .pre .1 .3)
@@ -155,7 +154,7 @@ unfolding writeLines
 returns t c =
     let at = c .before .before .before in
     let a = at .before .before .before .before .args in
-    let f = linesAt (a .handle .base .0) (a .tables) (a .words .now) (a .k) (a .level) in
+    let f = linesHere (at .before .before .before .before) in
     let none = next-none (at .loop .rest) (c .before .before .next .ensures) (c .enum-told .given .1) in
     let left = ap length (each-none f none) in
     let to : at .loop .to ≡ a .from + 4 * length (each f (chunksOf (at .before .split .result))) = omega (arith, at .loop .inv .0) in
@@ -179,14 +178,8 @@ put-line-requires t c κs =
 add-to : (t : ℕ) → lts.Need-add-to (calls t) (started t) reads.Post Inv-loop μ-loop
 add-to t c =
     let s = c .before .before .before .before .before in
-    omega (
-      arith,
-      step s
-          (one s (no-table _ (c .before .before .before .before .match2 .keys2))),
-      room s,
-      loop-of-asked s .loop .inv .1,
-      start-of-asked s .good .1 .1 .1 .1 .1 .1 .0 .0,
-    )
+    let lines = one s (no-table _ (c .before .before .before .before .match2 .keys2)) in
+    omega (arith, step s lines, room s, loop-of-asked s .loop .inv .1, start-of-asked s .good .1 .1 .1 .1 .1 .1 .0 .0)
 
 loop-less : (t : ℕ) → lts.Need-loop-less (calls t) (started t) reads.Post Inv-loop μ-loop
 loop-less t c = let e = ap length (cut (c .before .before .before .before .before)) in omega (arith, e)
@@ -195,15 +188,10 @@ loop-again : (t : ℕ) → lts.Need-loop-again (calls t) (started t) reads.Post 
 loop-again t c =
     let s = c .before .before .before .before .before in
     let at = loop-of-asked s .loop in
-    let a = start-of-asked s .args in
-    let lines = one s (no-table _ (c .before .before .before .before .match2 .keys2)) in (
-      omega (arith, at .inv .0, step s lines),
-      omega arith,
-      write-step (linesAt (a .handle .base .0) (a .tables) (a .words .now) (a .k) (a .level)) _ (cut s) lines (at .to) (at .list) (room s)
-          refl
-          (c .before .before .put-line .ensures)
-          ∙ at .inv .2,
-    )
+    let f = linesHere (start-of-asked s) in
+    let lines = one s (no-table _ (c .before .before .before .before .match2 .keys2)) in
+    let put = write-step f _ (cut s) lines (at .to) (at .list) (room s) refl (c .before .before .put-line .ensures) in
+    (omega (arith, at .inv .0, step s lines), omega arith, put ∙ at .inv .2)
 
 add-visit-range : (t : ℕ) → lts.Need-add-visit-range (calls t) (started t) reads.Post Inv-loop μ-loop
 add-visit-range t c =
@@ -226,16 +214,12 @@ unfolding writeLines
 loop-again-2 t c =
     let s = c .before .before .before .before .before .before .before in
     let at = loop-of-asked s .loop in
-    let a = start-of-asked s .args in
+    let f = linesHere (start-of-asked s) in
     let lines = below s _ (c .before .before .before .before .before .kind .given .1) in
     let to = ap (λ (x : Written). x .to) (c .before .before .visit-range .ensures) in
-    let list = ap (λ (x : Written). x .list) (c .before .before .visit-range .ensures) in (
-      omega (arith, at .inv .0, step s lines, to),
-      omega arith,
-      write-step (linesAt (a .handle .base .0) (a .tables) (a .words .now) (a .k) (a .level)) _ (cut s) lines (at .to) (at .list) (room s)
-          to list
-          ∙ at .inv .2,
-    )
+    let list = ap (λ (x : Written). x .list) (c .before .before .visit-range .ensures) in
+    let put = write-step f _ (cut s) lines (at .to) (at .list) (room s) to list in
+    (omega (arith, at .inv .0, step s lines, to), omega arith, put ∙ at .inv .2)
 
 pub +visit-range-spec : {M : Type 1} → statement M
 +visit-range-spec = close μ λ t. lts.spec (calls t)

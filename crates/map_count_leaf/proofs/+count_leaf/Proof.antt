@@ -90,31 +90,28 @@ facts t c =
     }
 
 -- what the call one level down answers
-below : (t : ℕ) (c : lts.After-count-leaf (calls t) (started t) reads.Post)
-    → c .count-leaf .result
-    ≡ closedLeaf (3 - (c .before .before .before .before .before .before .before .before .before .args .level + 1))
-    (firstOf t (c .before .before .before .before)) (c .before .part-of .result)
+below : (t : ℕ) (c : lts.After-count-leaf (calls t) (started t) reads.Post) → let place = c .before .before .before .before in
+    c .count-leaf .result ≡ closedLeaf (3 - (start-of-chunk place .args .level + 1)) (firstOf t place) (c .before .part-of .result)
 below t c =
-    c .count-leaf .ensures
-    ∙ ap (λ (m : Map). closedLeaf (3 - (c .before .before .before .before .before .before .before .before .before .args .level + 1)) m
-    (c .before .part-of .result))
-    (c .before .before .before .chunk-of .ensures)
+    let level = start-of-chunk (c .before .before .before .before) .args .level in
+    let part = c .before .part-of .result in
+    c .count-leaf .ensures ∙ ap (λ (m : Map). closedLeaf (3 - (level + 1)) m part) (c .before .before .before .chunk-of .ensures)
 
 deeper : (t : ℕ) (c : lts.After-count-leaf (calls t) (started t) reads.Post)
-    → let a = c .before .before .before .before .before .before .before .before .before .args in
+    → let a = start-of-chunk (c .before .before .before .before) .args in
     c .count-leaf .result
     ≡ closedLeaf (3 - (a .level + 1)) (firstChunk (a .level + 1) (a .map)) (childWord (a .level) (a .word) (a .map .region .start .0))
 deeper t c =
-    let a = c .before .before .before .before .before .before .before .before .before .args in
-    below t c
-    ∙ ap₂ (λ (x w : ℕ). closedLeaf (3 - (a .level + 1)) (chunkMap (a .map) (region (a .map .region .start .0) x) (a .map .frame .0)) w)
-    (c .before .before .before .before .chunk-end .ensures) (c .before .part-of .ensures)
+    let place = c .before .before .before .before in
+    let a = start-of-chunk place .args in
+    let first : ℕ → Map = λ x. chunkMap (a .map) (region (a .map .region .start .0) x) (a .map .frame .0) in
+    below t c ∙ ap₂ (λ (x w : ℕ). closedLeaf (3 - (a .level + 1)) (first x) w) (place .chunk-end .ensures) (c .before .part-of .ensures)
 
 deeper-fits : (t : ℕ) (c : lts.After-count-leaf (calls t) (started t) reads.Post) → c .count-leaf .result ≤ 3 * 2 ^ 48
 deeper-fits t c =
-    let f = facts t (c .before .before .before .before) in
-    let most = leaf-fit (c .before .before .before .before .before .before .before .before .before .args .level + 1)
-    (firstOf t (c .before .before .before .before)) (c .before .part-of .result) (f .fits .0) in
+    let place = c .before .before .before .before in
+    let f = facts t place in
+    let most = leaf-fit (start-of-chunk place .args .level + 1) (firstOf t place) (c .before .part-of .result) (f .fits .0) in
     omega (arith, below t c, f .fits .0, f .fits .1, f .length)
 
 -- what remains, and its count
@@ -123,14 +120,11 @@ restOf t c =
     let m = start-of-chunk c .args .map in
     chunkMap m (region (c .chunk-end .result) (m .region .end .0)) (m .frame .0 + (c .chunk-end .result - m .region .start .0))
 
-rested : (t : ℕ) (c : lts.After-count-rest (calls t) (started t) reads.Post)
-    → c .count-rest .result
-    ≡ rests (3 - (start-of-chunk (c .before .before .before .before .before) .args .level + 1))
-    (restOf t (c .before .before .before .before .before))
+rested : (t : ℕ) (c : lts.After-count-rest (calls t) (started t) reads.Post) → let place = c .before .before .before .before .before in
+    c .count-rest .result ≡ rests (3 - (start-of-chunk place .args .level + 1)) (restOf t place)
 rested t c =
-    c .count-rest .ensures
-    ∙ ap (rests (3 - (start-of-chunk (c .before .before .before .before .before) .args .level + 1)))
-    (c .before .before .before .chunk-of2 .ensures)
+    let level = start-of-chunk (c .before .before .before .before .before) .args .level in
+    c .count-rest .ensures ∙ ap (rests (3 - (level + 1))) (c .before .before .before .chunk-of2 .ensures)
 
 rule-of-requires : (t : ℕ) → lts.Need-rule-of-requires (calls t) (started t) reads.Post
 rule-of-requires t c κs = c .pre .1
@@ -146,9 +140,9 @@ returns t c =
 returns-2 : (t : ℕ) → lts.Need-returns-2 (calls t) (started t) reads.Post
 returns-2 t c =
     let a = c .before .before .before .before .args in
-    leaf-low (a .level) (a .map) (a .word) (c .before .before .before .rule-of .ensures) (c .before .enum-told .given .1)
-    (down-high (a .level) (a .map) (a .word) (c .before .before .before .rule-of .ensures) (c .before .enum-told .given .1))
-    (omega arith)
+    let r = c .before .before .before .rule-of .ensures in
+    let down = c .before .enum-told .given .1 in
+    leaf-low (a .level) (a .map) (a .word) r down (down-high (a .level) (a .map) (a .word) r down) (omega arith)
 
 add-chunk-end : (t : ℕ) → lts.Need-add-chunk-end (calls t) (started t) reads.Post
 add-chunk-end t c = omega arith
@@ -209,15 +203,14 @@ add-result-3 t c =
 
 returns-3 : (t : ℕ) → lts.Need-returns-3 (calls t) (started t) reads.Post
 returns-3 t c =
-    let a = start-of-chunk (c .before .before .before .before .before) .args in
-    let high = facts t (c .before .before .before .before .before) .high in
-    let rest = rested t c
-    ∙ ap (λ (x : ℕ). rests (3 - (a .level + 1))
-    (chunkMap (a .map) (region x (a .map .region .end .0)) (a .map .frame .0 + (x - a .map .region .start .0))))
-    (c .before .before .before .before .before .chunk-end .ensures) in
+    let place = c .before .before .before .before .before in
+    let a = start-of-chunk place .args in
+    let high = facts t place .high in
+    let down = place .before .before .enum-told .given .1 in
+    let left : ℕ → Map = λ x. chunkMap (a .map) (region x (a .map .region .end .0)) (a .map .frame .0 + (x - a .map .region .start .0)) in
+    let rest = rested t c ∙ ap (λ (x : ℕ). rests (3 - (a .level + 1)) (left x)) (place .chunk-end .ensures) in
     ap₂ (λ (x y : ℕ). 1 + x + y) (deeper t (c .before)) rest
-    ∙ leaf-down (a .level) (a .map) (a .word) (c .before .before .before .before .before .before .before .before .before .rule-of .ensures)
-    (c .before .before .before .before .before .before .before .enum-told .given .1) (omega (arith, high))
+    ∙ leaf-down (a .level) (a .map) (a .word) (place .before .before .before .before .rule-of .ensures) down (omega (arith, high))
 
 pub +count-leaf-spec : {M : Type 1} → statement M
 +count-leaf-spec = close μ λ t. lts.spec (calls t)

@@ -147,6 +147,7 @@ facts t c =
     let low = c .before .before .before .loop-test .taken in
     let stop = c .before .before .chunk-end .ensures in
     let chunk = c .chunk-of .ensures in
+    let f = mapStep (a .handle) (a .k) (a .level) in
     let fits = chunk-fits (a .level) (at .loop .at) (a .map .region .end .0) low in
     let part = chunk-fit (a .level) (at .loop .at) (a .map .region .end .0) (at .loop .frame) (a .map) (p .3) low (inv .1) (p .3 .to)
     (inv .2) (inv .3) in
@@ -165,14 +166,28 @@ facts t c =
       fit = subst⁻¹ Fit chunk (subst⁻¹ (λ (x : ℕ). Fit (chunkMap (a .map) (region (at .loop .at) x) (at .loop .frame))) stop part);
       some = subst⁻¹ (λ (m : Map). m .region .start .0 < m .region .end .0) chunk above;
       next =
-          ap (λ (m : Map). let f = mapStep (a .handle) (a .k) (a .level) in eachChunk (a .level) f (leftOf t c) (f m s)) chunk
-          ∙ ap (λ (x : ℕ). let f = mapStep (a .handle) (a .k) (a .level) in
-          eachChunk (a .level) f (chunkMap (a .map) (region x (a .map .region .end .0)) (at .loop .frame + (x - at .loop .at)))
-          (f (chunkMap (a .map) (region (at .loop .at) x) (at .loop .frame)) s)) stop
-          ∙ sym (each-step (a .level) (mapStep (a .handle) (a .k) (a .level)) (a .map) (at .loop .at) (a .map .region .end .0)
-          (at .loop .frame) s low)
+          ap (λ (m : Map). eachChunk (a .level) f (leftOf t c) (f m s)) chunk
+          ∙ ap (λ (x : ℕ). let m = chunkMap (a .map) (region (at .loop .at) x) (at .loop .frame) in
+          let rest = chunkMap (a .map) (region x (a .map .region .end .0)) (at .loop .frame + (x - at .loop .at)) in
+          eachChunk (a .level) f rest (f m s)) stop
+          ∙ sym (each-step (a .level) f (a .map) (at .loop .at) (a .map .region .end .0) (at .loop .frame) s low)
           ∙ inv .6;
     }
+
+-- what is left to do after the chunk, where the step is known
+onwards : (t : ℕ) (c : Place t) {x : St} → let a = start-of-chunk c .args in let f = mapStep (a .handle) (a .k) (a .level) in
+    x ≡ f (chunkOf t c) (st (loop-of-chunk c .loop .words) (loop-of-chunk c .loop .ledger))
+    → eachChunk (a .level) f (leftOf t c) x ≡ eachChunk (a .level) f (a .map) (st (a .words .now) (a .ledger .now))
+onwards t c e =
+    let a = start-of-chunk c .args in
+    ap (eachChunk (a .level) (mapStep (a .handle) (a .k) (a .level)) (leftOf t c)) e ∙ facts t c .next
+
+-- where the rule leads down there is a level below
+high : (t : ℕ) (c : lts.After-enum-told (calls t) (started t) reads.Post Inv-loop μ-loop)
+    → start-of-chunk (chunk-of-told c) .args .level < 3
+high t c =
+    let place = chunk-of-told c in
+    down-high (start-of-chunk place .args .level) (chunkOf t place) _ (c .before .before .rule-of .ensures) (c .enum-told .given .1)
 
 loop-holds : (t : ℕ) → lts.Need-loop-holds (calls t) (started t) reads.Post Inv-loop μ-loop
 loop-holds t c = let p = c .before .before .pre .1 in (p .3 .some, p .3 .from, p .3 .frame, p .3 .room, refl, refl, refl, λ e. refl)
@@ -230,33 +245,28 @@ loop-again t c =
     let place = chunk-of-again c in
     let at = loop-of-chunk place in
     let a = start-of-chunk place .args in
+    let s = st (at .loop .words) (at .loop .ledger) in
     let f = facts t place in
     let r = c .before .before .before .before .before .before .before .before .rule-of in
-    let put = c .before .before .before .before .put-entry in (
+    let here = no-down (r .result) (c .before .before .before .before .before .before .before .match .keys2) in
+    let put = c .before .before .before .before .put-entry in
+    let step = chunk-here (a .handle) (a .k) (a .level) (chunkOf t place) s (f .index) (r .ensures) here in (
       f .under,
       f .paged,
       f .framed,
       f .room,
       put .kept .0 ∙ at .loop .inv .4,
       put .kept .1 .0 ∙ at .loop .inv .5,
-      ap (eachChunk (a .level) (mapStep (a .handle) (a .k) (a .level)) (leftOf t place))
-          (put .ensures .0
-          ∙ chunk-here (a .handle) (a .k) (a .level) (chunkOf t place) (st (at .loop .words) (at .loop .ledger)) (f .index) (r .ensures)
-          (no-down (r .result) (c .before .before .before .before .before .before .before .match .keys2)))
-          ∙ f .next,
+      onwards t place (put .ensures .0 ∙ step),
       λ e. let q = put .ensures .1 e in q .1 ∙ at .loop .inv .7 (q .0),
     )
 
 descend-requires : (t : ℕ) → lts.Need-descend-requires (calls t) (started t) reads.Post Inv-loop μ-loop
 descend-requires t c κs =
-    let place = c .before .before .before .before .before .before in
-    let f = facts t place in (
-      f .shape,
-      down-high (start-of-chunk place .args .level) (chunkOf t place) _ (c .before .before .before .before .rule-of .ensures)
-          (c .before .before .enum-told .given .1),
-      omega (arith, loop-of-chunk place .loop .inv .5, start-of-chunk place .pre .1 .1),
-      f .slot,
-    )
+    let told = c .before .before in
+    let place = chunk-of-told told in
+    let f = facts t place in
+    (f .shape, high t told, omega (arith, loop-of-chunk place .loop .inv .5, start-of-chunk place .pre .1 .1), f .slot)
 
 enum-known-under : (t : ℕ) → lts.Need-enum-known-under (calls t) (started t) reads.Post Inv-loop μ-loop
 enum-known-under t c = c .match2 .keys1
@@ -269,56 +279,44 @@ loop-less-2 t c = omega (arith, facts t (chunk-of-told (told-of-again-2 c)) .abo
 
 loop-again-2 : (t : ℕ) → lts.Need-loop-again-2 (calls t) (started t) reads.Post Inv-loop μ-loop
 loop-again-2 t c =
-    let place = chunk-of-told (told-of-again-2 c) in
+    let told = told-of-again-2 c in
+    let place = chunk-of-told told in
     let at = loop-of-chunk place in
     let a = start-of-chunk place .args in
     let f = facts t place in
-    let s = st (at .loop .words) (at .loop .ledger) in (
+    let s = st (at .loop .words) (at .loop .ledger) in
+    let r = told .before .before .rule-of .ensures in
+    let down = told .enum-told .given .1 in
+    let under = c .before .before .before .before .before .before .descend in
+    let none = c .enum-told2 .given .1 in
+    let same = below-nothing (a .handle) (a .k) (a .level) (place .before .entry-index .result) s (under .ensures) none in (
       f .under,
       f .paged,
       f .framed,
       f .room,
-      c .before .before .before .before .before .before .descend .kept .0 ∙ at .loop .inv .4,
-      c .before .before .before .before .before .before .descend .kept .1 .0 ∙ at .loop .inv .5,
-      ap (eachChunk (a .level) (mapStep (a .handle) (a .k) (a .level)) (leftOf t place))
-          (chunk-none (a .handle) (a .k) (a .level) (chunkOf t place) s (f .index) (told-of-again-2 c .before .before .rule-of .ensures)
-          (told-of-again-2 c .enum-told .given .1) (c .before .before .before .before .before .before .descend .ensures)
-          (c .enum-told2 .given .1))
-          ∙ f .next,
-      λ e. ap (λ (x : St). x .ledger)
-          (below-nothing (a .handle) (a .k) (a .level) (place .before .entry-index .result) s
-          (c .before .before .before .before .before .before .descend .ensures) (c .enum-told2 .given .1))
-          ∙ at .loop .inv .7 e,
+      under .kept .0 ∙ at .loop .inv .4,
+      under .kept .1 .0 ∙ at .loop .inv .5,
+      onwards t place (chunk-none (a .handle) (a .k) (a .level) (chunkOf t place) s (f .index) r down (under .ensures) none),
+      λ e. ap (λ (x : St). x .ledger) same ∙ at .loop .inv .7 e,
     )
 
 add-map-range : (t : ℕ) → lts.Need-add-map-range (calls t) (started t) reads.Post Inv-loop μ-loop
-add-map-range t c =
-    omega (
-      arith,
-      down-high (start-of-chunk (chunk-of-told (told-of-call c)) .args .level) (chunkOf t (chunk-of-told (told-of-call c))) _
-          (told-of-call c .before .before .rule-of .ensures) (told-of-call c .enum-told .given .1),
-    )
+add-map-range t c = omega (arith, high t (told-of-call c))
 
 map-range-requires : (t : ℕ) → lts.Need-map-range-requires (calls t) (started t) reads.Post Inv-loop μ-loop
 map-range-requires t c κs =
-    let place = chunk-of-told (told-of-call c) in
+    let told = told-of-call c in
+    let place = chunk-of-told told in
     let f = facts t place in
     let a = start-of-chunk place .args in
     let at = loop-of-chunk place in
-    let under = c .before .before .before .before .before .before .before .before .before in
     let s = st (at .loop .words) (at .loop .ledger) in
-    let high = down-high (a .level) (chunkOf t place) _ (told-of-call c .before .before .rule-of .ensures)
-    (told-of-call c .enum-told .given .1) in
-    let found = below-inside (a .handle) (a .k) (a .level) (place .before .entry-index .result) s _ (under .descend .ensures)
-    (c .before .before .before .under .given .1) in (
-      omega (arith, high, start-of-chunk place .pre .0),
-      (
-        shaped-keep (a .handle) s (st (under .descend .last .0) (under .descend .last .1 .0)) (f .shape) (under .descend .kept .0)
-            (under .descend .kept .1 .0),
-        omega (arith, found, under .descend .kept .1 .0),
-        omega (arith, high),
-        f .fit,
-      ),
+    let under = c .before .before .before .before .before .before .before .before .before .descend in
+    let table = c .before .before .before .under .given .1 in
+    let found = below-inside (a .handle) (a .k) (a .level) (place .before .entry-index .result) s _ (under .ensures) table in
+    let shape = shaped-keep (a .handle) s (st (under .last .0) (under .last .1 .0)) (f .shape) (under .kept .0) (under .kept .1 .0) in (
+      omega (arith, high t told, start-of-chunk place .pre .0),
+      (shape, omega (arith, found, under .kept .1 .0), omega (arith, high t told), f .fit),
     )
 
 ledger-changed-requires : (t : ℕ) → lts.Need-ledger-changed-requires (calls t) (started t) reads.Post Inv-loop μ-loop
@@ -329,32 +327,28 @@ loop-less-3 t c = omega (arith, facts t (chunk-of-told (told-of-again-3 c)) .abo
 
 loop-again-3 : (t : ℕ) → lts.Need-loop-again-3 (calls t) (started t) reads.Post Inv-loop μ-loop
 loop-again-3 t c =
-    let place = chunk-of-told (told-of-again-3 c) in
+    let told = told-of-again-3 c in
+    let place = chunk-of-told told in
     let at = loop-of-chunk place in
     let a = start-of-chunk place .args in
     let f = facts t place in
     let s = st (at .loop .words) (at .loop .ledger) in
-    let r = told-of-again-3 c .before .before .rule-of .ensures in
-    let down = told-of-again-3 c .enum-told .given .1 in
+    let r = told .before .before .rule-of .ensures in
+    let down = told .enum-told .given .1 in
     let under = descend-of-again-3 c .descend in
+    let table = c .before .before .before .before .before .before .before .before .before .under .given .1 in
     let lower = c .before .before .before .before .before .map-range in
-    let high = down-high (a .level) (chunkOf t place) _ r down in (
+    let step = chunk-into (a .handle) (a .k) (a .level) (chunkOf t place) s (f .index) r down (under .ensures) _ table (high t told) in
+    let kept = below-kept (a .handle) (a .k) (a .level) (place .before .entry-index .result) s (under .ensures) (high t told) in (
       f .under,
       f .paged,
       f .framed,
       f .room,
       lower .kept .0 ∙ under .kept .0 ∙ at .loop .inv .4,
       lower .kept .1 .0 ∙ under .kept .1 .0 ∙ at .loop .inv .5,
-      ap (eachChunk (a .level) (mapStep (a .handle) (a .k) (a .level)) (leftOf t place))
-          (lower .ensures .0
-          ∙ chunk-into (a .handle) (a .k) (a .level) (chunkOf t place) s (f .index) r down (under .ensures) _
-          (c .before .before .before .before .before .before .before .before .before .under .given .1) high)
-          ∙ f .next,
+      onwards t place (lower .ensures .0 ∙ step),
       λ e. let q = c .ledger-changed .ensures e in
-          lower .ensures .1 (q .2)
-          ∙ ap (λ (x : St). x .ledger)
-          (below-kept (a .handle) (a .k) (a .level) (place .before .entry-index .result) s (under .ensures) high (q .1))
-          ∙ at .loop .inv .7 (q .0),
+          lower .ensures .1 (q .2) ∙ ap (λ (x : St). x .ledger) (kept (q .1)) ∙ at .loop .inv .7 (q .0),
     )
 
 same-length : (t : ℕ) → lts.Need-same-length (calls t) (started t) reads.Post Inv-loop μ-loop
@@ -366,12 +360,13 @@ same-length-2 t c = omega arith
 returns : (t : ℕ) → lts.Need-returns (calls t) (started t) reads.Post Inv-loop μ-loop
 returns t c =
     let at = c .before in
-    let a = c .before .before .before .before .args in (
-      sym (each-done (a .level) (mapStep (a .handle) (a .k) (a .level)) (a .map) (at .loop .at) (a .map .region .end .0) (at .loop .frame)
-          (st (at .loop .words) (at .loop .ledger)) (omega arith))
+    let start = c .before .before .before .before in
+    let a = start .args in
+    let f = mapStep (a .handle) (a .k) (a .level) in
+    let s = st (at .loop .words) (at .loop .ledger) in (
+      sym (each-done (a .level) f (a .map) (at .loop .at) (a .map .region .end .0) (at .loop .frame) s (omega arith))
           ∙ at .loop .inv .6
-          ∙ map-open (a .handle) (a .k) (a .level) (a .map) (st (a .words .now) (a .ledger .now))
-          (c .before .before .before .before .pre .1 .2),
+          ∙ map-open (a .handle) (a .k) (a .level) (a .map) (st (a .words .now) (a .ledger .now)) (start .pre .1 .2),
       at .loop .inv .7,
     )
 

@@ -109,14 +109,15 @@ loop-again t c =
     let at = c .before .before .before .before in
     let a = c .before .before .before .before .before .before .before .before .args in
     let s = st (at .loop .words) (at .loop .ledger) in
+    let i = at .loop .next in
+    let b = below (a .level) (a .handle) in
     let sub = c .before .subtable in (
       omega arith,
       at .loop .inv .1,
       at .loop .inv .2,
-      iter-step (compactEntry (below (a .level) (a .handle)) (a .handle) (a .k) (a .level)) (at .loop .next)
-          (st (a .words .now) (a .ledger .now)) (at .loop .inv .3)
-          (⊎-elim (λ e. entry-outside (below (a .level) (a .handle)) (a .handle) (a .k) (a .level) (at .loop .next) s (sub .ensures) e)
-          (λ e. entry-leaf (below (a .level) (a .handle)) (a .handle) (a .k) (a .level) (at .loop .next) s (sub .ensures) e)
+      iter-step (compactEntry b (a .handle) (a .k) (a .level)) i (st (a .words .now) (a .ledger .now)) (at .loop .inv .3)
+          (⊎-elim (λ e. entry-outside b (a .handle) (a .k) (a .level) i s (sub .ensures) e)
+          (λ e. entry-leaf b (a .handle) (a .k) (a .level) i s (sub .ensures) e)
           (no-table (sub .result) (c .match .keys2))),
     )
 
@@ -151,21 +152,23 @@ loop-less-2 t c = less (told-of-again-2 c .before .before .before .before .loop-
 
 loop-again-2 : (t : ℕ) → lts.Need-loop-again-2 (calls t) (started t) reads.Post Inv-loop μ-loop
 loop-again-2 t c =
-    let called = called-of-again-2 c in
     let told = told-of-again-2 c in
     let at = loop-of-told told in
     let a = start-of-told told .args in
     let s = st (at .loop .words) (at .loop .ledger) in
-    let j = told .kind .given .0 .0 in (
+    let i = at .loop .next in
+    let b = below (a .level) (a .handle) in
+    let j = told .kind .given .0 .0 in
+    let sub = told .before .before .subtable .ensures in
+    let called = called-of-again-2 c .compact-subtables in
+    let released = c .before .before .before .before .release-empty in (
       omega (arith, told .before .before .before .before .loop-test .taken),
-      c .before .before .before .before .release-empty .kept .0 ∙ called .compact-subtables .kept .0 ∙ at .loop .inv .1,
-      c .before .before .before .before .release-empty .kept .1 .0 ∙ called .compact-subtables .kept .1 .0 ∙ at .loop .inv .2,
-      iter-step (compactEntry (below (a .level) (a .handle)) (a .handle) (a .k) (a .level)) (at .loop .next)
-          (st (a .words .now) (a .ledger .now)) (at .loop .inv .3)
-          (c .before .before .before .before .release-empty .ensures
-          ∙ ap (releaseEmpty (a .k) (at .loop .next) j) (called .compact-subtables .ensures)
-          ∙ entry-table (below (a .level) (a .handle)) (a .handle) (a .k) (a .level) (at .loop .next) s
-          (told .before .before .subtable .ensures) j (told .kind .given .1)),
+      released .kept .0 ∙ called .kept .0 ∙ at .loop .inv .1,
+      released .kept .1 .0 ∙ called .kept .1 .0 ∙ at .loop .inv .2,
+      iter-step (compactEntry b (a .handle) (a .k) (a .level)) i (st (a .words .now) (a .ledger .now)) (at .loop .inv .3)
+          (released .ensures
+          ∙ ap (releaseEmpty (a .k) i j) (called .ensures)
+          ∙ entry-table b (a .handle) (a .k) (a .level) i s sub j (told .kind .given .1)),
     )
 
 same-length : (t : ℕ) → lts.Need-same-length (calls t) (started t) reads.Post Inv-loop μ-loop

@@ -53,13 +53,12 @@ returns-3 c =
 
 returns-4 : tie.Need-returns-4
 returns-4 c =
-    let a = c .before .before .before .before .before .before .before .before .before .args in
+    let second = c .before .before .before .before .before in
+    let a = second .before .before .before .before .args in
     let e = offset (c .before .before .before .before) in
+    let flags = sym (second .before .before .flags .ensures) ∙ second .if2 .left in
     ap₂ (λ (x y : ℕ). eqb (a .map .frame .0 - x) y) e (mask-address (a .word))
-    ∙ same-place (a .level) (a .map) (a .word) (c .before .before .before .before .before .before .before .before .if1 .left)
-    (sym (c .before .before .before .before .before .before .before .flags .ensures)
-    ∙ c .before .before .before .before .before .if2 .left)
-    (omega arith)
+    ∙ same-place (a .level) (a .map) (a .word) (second .before .before .before .if1 .left) flags (omega arith)
 
 pub is-already-mapped-spec : {M : Type 1} → statement M
 is-already-mapped-spec =

@@ -5,9 +5,10 @@ use native.Mathlib.Omega.{arith}
 use lib.ListN.{length, length-set}
 use Rattle.address_slot.specs.Slot.{entryIndex}
 use Rattle.region.specs.Region.{region}
+use Rattle.region.specs.declared.MemoryRegion.{MemoryRegion}
 use Rattle.region.specs.Chunks.{chunk-fits}
 use Rattle.modify_entry.specs.Each.{eachChunk, each-done, each-step}
-use Rattle.modify_entry.specs.Own.{noted, ownChunk, own-same, own-changed, own-all}
+use Rattle.modify_entry.specs.Own.{Noted, noted, ownChunk, own-same, own-changed, own-all}
 use Rattle.modify_entry.proofs.edit_own.Statement.{statement}
 use Rattle.modify_entry.proofs.edit_own.Tie as tie
 use Rattle.modify_entry.proofs.edit_own.Reads as reads
@@ -38,6 +39,16 @@ loop-of-chunk c = c .before .before .before .before
 abbrev start-of-chunk : Place → tie.Start Inv-loop μ-loop
 start-of-chunk c = loop-of-chunk c .before .before .before
 
+-- the chunk's region, what remains after it, and the words and the list before it
+abbrev chunkOf : Place → MemoryRegion
+chunkOf c = region (loop-of-chunk c .loop .at) (c .before .before .chunk-end .result)
+
+abbrev leftOf : Place → MemoryRegion
+leftOf c = region (c .before .before .chunk-end .result) (start-of-chunk c .args .edit .region .end .0)
+
+abbrev notedOf : Place → Noted
+notedOf c = let at = loop-of-chunk c .loop in noted (at .words) (at .list) (at .count)
+
 record Facts (c : Place) : Type 0 where
   above : loop-of-chunk c .loop .at < c .before .before .chunk-end .result
   under : c .before .before .chunk-end .result ≤ start-of-chunk c .args .edit .region .end .0
@@ -45,9 +56,7 @@ record Facts (c : Place) : Type 0 where
   index : c .before .entry-index .result ≡ entryIndex (start-of-chunk c .args .level) (loop-of-chunk c .loop .at)
   room : 512 * start-of-chunk c .args .k + 512 ≤ length (loop-of-chunk c .loop .words)
   next : let a = start-of-chunk c .args in let f = ownChunk (a .k) (a .level) (a .edit) in
-      eachChunk (a .level) f (region (c .before .before .chunk-end .result) (a .edit .region .end .0))
-      (f (region (loop-of-chunk c .loop .at) (c .before .before .chunk-end .result))
-      (noted (loop-of-chunk c .loop .words) (loop-of-chunk c .loop .list) (loop-of-chunk c .loop .count)))
+      eachChunk (a .level) f (leftOf c) (f (chunkOf c) (notedOf c))
       ≡ eachChunk (a .level) f (a .edit .region) (noted (a .words .now) (a .list .now) (a .before))
 
 facts : (c : Place) → Facts c
@@ -61,7 +70,7 @@ facts c =
     let stop = c .before .before .chunk-end .ensures in
     let fits = chunk-fits (a .level) (at .loop .at) (a .edit .region .end .0) low in
     let f = ownChunk (a .k) (a .level) (a .edit) in
-    let n = noted (at .loop .words) (at .loop .list) (at .loop .count) in
+    let n = notedOf c in
     record {
       above = omega (arith, fits .0);
       under = omega (arith, fits .1);
@@ -72,6 +81,14 @@ facts c =
           ap (λ (x : ℕ). eachChunk (a .level) f (region x (a .edit .region .end .0)) (f (region (at .loop .at) x) n)) stop
           ∙ sym (each-step (a .level) f (at .loop .at) (a .edit .region .end .0) n low) ∙ inv .2;
     }
+
+-- what is left to do after the chunk, where the step is known
+onwards : (c : Place) {x : Noted} → let a = start-of-chunk c .args in let f = ownChunk (a .k) (a .level) (a .edit) in
+    x ≡ f (chunkOf c) (notedOf c)
+    → eachChunk (a .level) f (leftOf c) x ≡ eachChunk (a .level) f (a .edit .region) (noted (a .words .now) (a .list .now) (a .before))
+onwards c e =
+    let a = start-of-chunk c .args in
+    ap (eachChunk (a .level) (ownChunk (a .k) (a .level) (a .edit)) (leftOf c)) e ∙ facts c .next
 
 loop-holds : tie.Need-loop-holds Inv-loop μ-loop
 loop-holds c = (refl, refl, refl)
@@ -106,18 +123,11 @@ loop-less c = let f = facts (c .before .before .before) in omega (arith, f .abov
 loop-again : tie.Need-loop-again Inv-loop μ-loop
 loop-again c =
     let place = c .before .before .before in
-    let f = facts place in
-    let at = loop-of-chunk place in
+    let inv = loop-of-chunk place .loop .inv in
     let a = start-of-chunk place .args in
-    let n = noted (at .loop .words) (at .loop .list) (at .loop .count) in
-    let same = own-same (a .k) (a .level) (a .edit) (region (at .loop .at) (place .before .before .chunk-end .result)) n (f .index)
-    (c .before .edit-word .ensures) (c .if1 .taken) in (
-      at .loop .inv .0,
-      at .loop .inv .1,
-      ap (eachChunk (a .level) (ownChunk (a .k) (a .level) (a .edit))
-          (region (place .before .before .chunk-end .result) (a .edit .region .end .0))) same
-          ∙ f .next,
-    )
+    let word = c .before .edit-word .ensures in
+    let same = own-same (a .k) (a .level) (a .edit) (chunkOf place) (notedOf place) (facts place .index) word (c .if1 .taken) in
+    (inv .0, inv .1, onwards place same)
 
 mul-words : tie.Need-mul-words Inv-loop μ-loop
 mul-words c = let f = facts (c .before .before .before) in omega (arith, f .slot, f .room)
@@ -140,19 +150,15 @@ loop-less-2 c = let f = facts (c .before .before .before .before .before .before
 loop-again-2 : tie.Need-loop-again-2 Inv-loop μ-loop
 loop-again-2 c =
     let place = c .before .before .before .before .before .before .before in
-    let f = facts place in
-    let at = loop-of-chunk place in
+    let at = loop-of-chunk place .loop in
     let a = start-of-chunk place .args in
-    let n = noted (at .loop .words) (at .loop .list) (at .loop .count) in
-    let changed = own-changed (a .k) (a .level) (a .edit) (region (at .loop .at) (place .before .before .chunk-end .result)) n (f .index)
-    (c .before .before .before .before .before .edit-word .ensures) (c .before .before .before .before .if1 .left)
-    (place .tlbi-address .ensures) (c .before .before .put-number .ensures) in (
-      length-set (at .loop .words) _ _ ∙ at .loop .inv .0,
-      c .before .before .put-number .kept .1 .0 ∙ at .loop .inv .1,
-      ap (eachChunk (a .level) (ownChunk (a .k) (a .level) (a .edit))
-          (region (place .before .before .chunk-end .result) (a .edit .region .end .0))) changed
-          ∙ f .next,
-    )
+    let put = c .before .before .put-number in
+    let changed = own-changed (a .k) (a .level) (a .edit) (chunkOf place) (notedOf place) (facts place .index)
+    (c .before .before .before .before .before .edit-word .ensures)
+    (c .before .before .before .before .if1 .left)
+    (place .tlbi-address .ensures)
+    (put .ensures) in
+    (length-set (at .words) _ _ ∙ at .inv .0, put .kept .1 .0 ∙ at .inv .1, onwards place changed)
 
 same-length : tie.Need-same-length Inv-loop μ-loop
 same-length c = c .before .loop .inv .0
@@ -162,11 +168,11 @@ same-length-2 c = c .before .loop .inv .1
 
 returns : tie.Need-returns Inv-loop μ-loop
 returns c =
-    let at = c .before in
+    let at = c .before .loop in
     let a = c .before .before .before .before .args in
-    sym (each-done (a .level) (ownChunk (a .k) (a .level) (a .edit)) (at .loop .at) (a .edit .region .end .0)
-    (noted (at .loop .words) (at .loop .list) (at .loop .count)) (omega arith))
-    ∙ at .loop .inv .2
+    let n = noted (at .words) (at .list) (at .count) in
+    sym (each-done (a .level) (ownChunk (a .k) (a .level) (a .edit)) (at .at) (a .edit .region .end .0) n (omega arith))
+    ∙ at .inv .2
     ∙ own-all (a .k) (a .level) (a .edit) (noted (a .words .now) (a .list .now) (a .before))
 
 pub edit-own-spec : {M : Type 1} → statement M

@@ -110,14 +110,15 @@ loop-again t c =
     let at = c .before .before .before .before in
     let a = c .before .before .before .before .before .before .before .before .args in
     let s = st (at .loop .words) (at .loop .ledger) in
+    let i = at .loop .i in
+    let b = below (a .level) (a .handle) in
     let sub = c .before .subtable in (
       omega arith,
       at .loop .inv .1,
       at .loop .inv .2,
-      iter-step (freeSlot (below (a .level) (a .handle)) (a .handle) (a .k) (a .level)) (at .loop .i) (st (a .words .now) (a .ledger .now))
-          (at .loop .inv .3)
-          (⊎-elim (λ e. slot-outside (below (a .level) (a .handle)) (a .handle) (a .k) (a .level) (at .loop .i) s (sub .ensures) e)
-          (λ e. slot-leaf (below (a .level) (a .handle)) (a .handle) (a .k) (a .level) (at .loop .i) s (sub .ensures) e)
+      iter-step (freeSlot b (a .handle) (a .k) (a .level)) i (st (a .words .now) (a .ledger .now)) (at .loop .inv .3)
+          (⊎-elim (λ e. slot-outside b (a .handle) (a .k) (a .level) i s (sub .ensures) e)
+          (λ e. slot-leaf b (a .handle) (a .k) (a .level) i s (sub .ensures) e)
           (no-table (sub .result) (c .match .keys2))),
     )
 
@@ -138,19 +139,19 @@ loop-less-2 t c = omega arith
 
 loop-again-2 : (t : ℕ) → lts.Need-loop-again-2 (calls t) (started t) reads.Post Inv-loop μ-loop
 loop-again-2 t c =
-    let at = loop-of-told (c .before .before .before .before .before .before .before .before) in
-    let a = at .before .before .before .before .args in
+    let told = c .before .before .before .before .before .before .before .before in
+    let at = loop-of-told told in
+    let a = start-of-told told .args in
     let s = st (at .loop .words) (at .loop .ledger) in
-    let called = c .before .before .before .before in (
-      omega (arith, called .before .before .before .before .before .before .before .before .loop-test .taken),
-      called .free .kept .0 ∙ at .loop .inv .1,
-      called .free .kept .1 .0 ∙ at .loop .inv .2,
-      iter-step (freeSlot (below (a .level) (a .handle)) (a .handle) (a .k) (a .level)) (at .loop .i) (st (a .words .now) (a .ledger .now))
-          (at .loop .inv .3)
-          (called .free .ensures
-          ∙ slot-table (below (a .level) (a .handle)) (a .handle) (a .k) (a .level) (at .loop .i) s
-          (called .before .before .before .before .before .before .subtable .ensures) _
-          (c .before .before .before .before .before .before .before .before .kind .given .1)),
+    let i = at .loop .i in
+    let b = below (a .level) (a .handle) in
+    let sub = told .before .before .subtable .ensures in
+    let called = c .before .before .before .before .free in (
+      omega (arith, told .before .before .before .before .loop-test .taken),
+      called .kept .0 ∙ at .loop .inv .1,
+      called .kept .1 .0 ∙ at .loop .inv .2,
+      iter-step (freeSlot b (a .handle) (a .k) (a .level)) i (st (a .words .now) (a .ledger .now)) (at .loop .inv .3)
+          (called .ensures ∙ slot-table b (a .handle) (a .k) (a .level) i s sub _ (told .kind .given .1)),
     )
 
 clear-table-requires-2 : (t : ℕ) → lts.Need-clear-table-requires-2 (calls t) (started t) reads.Post Inv-loop μ-loop

@@ -37,7 +37,7 @@ good c = sym (c .before .is-shaped .ensures) ∙ not-false _ (c .if1 .left)
 shape : (c : tie.Else1) → let a = start-of-shaped c .args in Shaped (a .handle) (st (a .words .now) (a .ledger .now))
 shape c = let a = start-of-shaped c .args in shaped-says (a .handle) (st (a .words .now) (a .ledger .now)) (rw (good c) tt)
 
--- past the second the pool is sound
+-- past the second test the pool is sound
 sound : (c : tie.Else2) → let a = start-of-sound c .args in
     soundb (a .handle) (st (a .words .now) (a .ledger .now)) ≡ true
 sound c = sym (c .before .is-sound .ensures) ∙ not-false _ (c .if2 .left)

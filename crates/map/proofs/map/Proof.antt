@@ -42,7 +42,7 @@ asked c =
     let a = c .before .before .before .before .before .before .before .args in
     asked-is (a .start .0) (a .end .0) (a .frame .0) (a .flags) (a .constraints .0) (c .new .ensures)
 
--- what is asked of it
+-- what `verify_map` answers on the map that is asked for
 verified : (c : tie.After-verify-map) → let a = start-of-verified c .args in
     c .verify-map .result
     ≡ verifyMap (a .handle) (a .end .0) (askedMap (a .start .0) (a .end .0) (a .frame .0) (a .flags) (a .constraints .0))

@@ -65,7 +65,7 @@ start-of-chunk c = c .before .before .before .before .before
 abbrev firstOf : (t : ℕ) → Place t → Map
 firstOf t c = let m = start-of-chunk c .args .map in chunkMap m (region (m .region .start .0) (c .chunk-end .result)) (m .frame .0)
 
--- where it ends, and that its map fits
+-- where the first chunk below ends, and that its map fits
 record Facts (t : ℕ) (c : Place t) : Type 0 where
   fits : (start-of-chunk c .args .map .region .start .0 < c .chunk-end .result)
       × (c .chunk-end .result ≤ start-of-chunk c .args .map .region .end .0)

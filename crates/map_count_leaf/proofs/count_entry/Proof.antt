@@ -25,17 +25,17 @@ use Rattle.map_rules.proofs.rule_of.Reads as rule-of-reads
 abbrev chunk : tie.Start → Map
 chunk c = chunkMap (c .args .map) (region (c .args .start .0) (c .args .end .0)) (c .args .frame .0)
 
--- what rule_of and count_leaf ask of it
+-- what `rule_of` and `count_leaf` ask of the map of a chunk
 abbrev Ready : Map → Type 0
 Ready m = Fit m × (m .region .start .0 < m .region .end .0)
 
--- its rule
+-- the rule of the chunk
 ruled : (c : tie.After-rule-of)
     → let a = c .before .before .args in c .rule-of .result ≡ ruleOf (a .level) (chunk (c .before .before)) (a .word)
 ruled c =
     let a = c .before .before .args in c .rule-of .ensures ∙ ap (λ (m : Map). ruleOf (a .level) m (a .word)) (c .before .chunk-of .ensures)
 
--- its count from its ends
+-- what `count_rest` counts of the chunk
 rested : (c : tie.After-count-rest)
     → let a = c .before .before .before .before .before .before .before .args in
     c .count-rest .result ≡ rests (3 - (a .level + 1)) (chunk (c .before .before .before .before .before .before .before))

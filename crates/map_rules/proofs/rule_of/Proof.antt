@@ -27,7 +27,7 @@ leaf-needs c = let p = c .pre .0 in (p .frame, omega (arith, p .room, c .pre .1)
 not-mapped : (c : tie.Else2) → let a = c .before .before .before .args in rule2 (a .level) (a .map) (a .word) ≡ false
 not-mapped c = sym (c .before .is-already-mapped .ensures) ∙ c .if2 .left
 
--- past the third the chunk is a block
+-- past the third test the chunk is a block
 block : (c : tie.Else3) → let a = c .before .before .before .before .before .before .args in whole (a .level) (a .map .region) ≡ true
 block c = sym (c .before .is-block .ensures) ∙ not-false _ (c .if3 .left)
 

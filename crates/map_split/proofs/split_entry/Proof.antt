@@ -20,12 +20,16 @@ use Rattle.entry.proofs.flags.Reads as flags-reads
 use Rattle.map_rules.proofs.leaf_word.Reads as leaf-word-reads
 use Rattle.pool_take.proofs.take_table.Reads as take-table-reads
 
--- the start of the function, seen from the two returns and from the call of `take_table` that fills with leaves
-abbrev start-of-returns : tie.After-slice-known5 → tie.Start
-start-of-returns c = c .before .before .before .before .before .before .before .before .before .before .before .before
+-- the start of the function, seen from where the size of a level is known, from the call of `take_table` that fills with leaves,
+-- and from the two returns
+abbrev start-of-sized : tie.After-granularity-at-level → tie.Start
+start-of-sized c = c .before .before .before .before .before .before
 
 abbrev start-of-take : tie.After-take-table-arg4 → tie.Start
-start-of-take c = c .before .before .before .before .before .before .before .before .before .before
+start-of-take c = start-of-sized (c .before .before .before .before)
+
+abbrev start-of-returns : tie.After-slice-known5 → tie.Start
+start-of-returns c = c .before .before .before .before .before .before .before .before .before .before .before .before
 
 abbrev start-of-returns-2 : tie.After-slice-known7 → tie.Start
 start-of-returns-2 c = start-of-take (c .before .before .before .before .before)
@@ -53,32 +57,32 @@ last-fits level w low plain =
 
 -- the old word, valid
 abbrev word : tie.After-granularity-at-level → ℕ
-word c = let a = c .before .before .before .before .before .before .args in getD (a .words .now) (512 * a .k + a .i) 0
+word c = let a = start-of-sized c .args in getD (a .words .now) (512 * a .k + a .i) 0
 
--- its address, cleared below the entry's size by masks
+-- the old word's address, cleared below the entry's size by masks
 cleared : (c : tie.After-granularity-at-level)
     → bitAnd (bitAnd (word c) 0xFFFF_FFFF_F000) (2 ^ 64 - 1 - (c .granularity-at-level .result - 1))
-    ≡ down (addressOf (word c)) (sizeAt (c .before .before .before .before .before .before .args .level))
+    ≡ down (addressOf (word c)) (sizeAt (start-of-sized c .args .level))
 cleared c =
-    let a = c .before .before .before .before .before .before .args in
+    let a = start-of-sized c .args in
     ap₂ (λ (x g : ℕ). bitAnd x (2 ^ 64 - 1 - (g - 1))) (mask-address (word c)) (c .granularity-at-level .ensures)
     ∙ size-down (a .level) (addressOf (word c)) (wide (word c))
 
--- its flags
+-- the old word's flags fit
 plain : (c : tie.After-granularity-at-level) → Plain (flagsOf (word c))
 plain c =
-    let a = c .before .before .before .before .before .before .args in
+    let a = start-of-sized c .args in
     flags-plain (word c) (c .before .before .before .slice-known3 .given (512 * a .k + a .i) .fits)
-    (omega (arith, c .before .if1 .left, c .before .before .before .before .before .before .pre .4))
+    (omega (arith, c .before .if1 .left, start-of-sized c .pre .4))
 
 -- the new table's first word
 first : (c : tie.After-leaf-word)
     → let w = word (c .before) in
-    let level = c .before .before .before .before .before .before .before .args .level in
+    let level = start-of-sized (c .before) .args .level in
     c .leaf-word .result ≡ leafWord (level + 1) (down (addressOf w) (sizeAt level)) (flagsOf w)
 first c =
     c .leaf-word .ensures
-    ∙ ap₂ (leafWord (c .before .before .before .before .before .before .before .args .level + 1)) (cleared (c .before))
+    ∙ ap₂ (leafWord (start-of-sized (c .before) .args .level + 1)) (cleared (c .before))
     (c .before .before .before .flags .ensures)
 
 mul-word : tie.Need-mul-word
@@ -123,14 +127,14 @@ granularity-at-level-requires : tie.Need-granularity-at-level-requires
 granularity-at-level-requires c κs = tt
 
 sub-address : tie.Need-sub-address
-sub-address c = omega (arith, c .granularity-at-level .ensures, size-pos (c .before .before .before .before .before .before .args .level))
+sub-address c = omega (arith, c .granularity-at-level .ensures, size-pos (start-of-sized c .args .level))
 
 add-leaf-word : tie.Need-add-leaf-word
 add-leaf-word c = omega arith
 
 leaf-word-requires : tie.Need-leaf-word-requires
 leaf-word-requires c κs =
-    let a = c .before .before .before .before .before .before .args in
+    let a = start-of-sized c .args in
     let at = cleared c in (
       ap (λ (x : ℕ). x % 4096) at
           ∙ down-paged (a .level) (addressOf (word c)),

@@ -40,7 +40,7 @@ edit c =
     let a = c .before .before .before .before .before .before .before .before .args in
     asked-is (a .start .0) (a .end .0) (a .set) (a .clear) (a .live) (c .new .ensures)
 
--- what is asked of it
+-- what `verify_edit` answers on the edit that is asked for
 verified : (c : tie.After-verify-edit)
     → let a = start-of-verified c .args in
     c .verify-edit .result ≡ verifyEdit (a .handle) (a .end .0) (askedEdit (a .start .0) (a .end .0) (a .set) (a .clear) (a .live))

@@ -100,16 +100,10 @@ shared-slice-read-number c = omega arith
 
 loop-holds : tie.Need-loop-holds Inv-loop μ-loop Inv-tables μ-tables
 loop-holds c =
-    let at = c .before .before .before .before in (
-      omega arith,
-      all-none _,
-      (let e = sum-empty
-          (runLinks (st (c .before .before .before .before .before .before .before .before .args .words .now)
-          (c .before .before .before .before .before .before .before .before .args .ledger .now))
-          (at .tables .k)) in
-          let q = at .tables .inv .2 in omega arith),
-      omega arith,
-    )
+    let at = c .before .before .before .before in
+    let a = at .before .before .before .before .args in
+    let e = sum-empty (runLinks (st (a .words .now) (a .ledger .now)) (at .tables .k)) in
+    (omega arith, all-none _, (let q = at .tables .inv .2 in omega arith), omega arith)
 
 mul-a : tie.Need-mul-a Inv-loop μ-loop Inv-tables μ-tables
 unfolding maxTables

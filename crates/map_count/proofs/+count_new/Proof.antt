@@ -258,7 +258,7 @@ enum-told : (t : ℕ) → lts.Need-enum-told (calls t) (started t) reads.Post In
 enum-told t c = c .match2 .keys1
 
 loop-less : (t : ℕ) → lts.Need-loop-less (calls t) (started t) reads.Post Inv-loop μ-loop
-loop-less t c = omega (arith, facts t (c .before .before .before .before) .above, facts t (c .before .before .before .before) .under)
+loop-less t c = let f = facts t (c .before .before .before .before) in omega (arith, f .above, f .under)
 
 loop-again : (t : ℕ) → lts.Need-loop-again (calls t) (started t) reads.Post Inv-loop μ-loop
 loop-again t c =
@@ -279,13 +279,7 @@ add-count : (t : ℕ) → lts.Need-add-count (calls t) (started t) reads.Post In
 add-count t c = omega (arith, adds t (c .before .before .before .before .before .before) (c .count-entry .result) (leaf-here t c))
 
 loop-less-2 : (t : ℕ) → lts.Need-loop-less-2 (calls t) (started t) reads.Post Inv-loop μ-loop
-loop-less-2 t c =
-    omega (
-      arith,
-      facts t (c .before .before .before .before .before .before) .above,
-      facts t
-          (c .before .before .before .before .before .before) .under,
-    )
+loop-less-2 t c = let f = facts t (c .before .before .before .before .before .before) in omega (arith, f .above, f .under)
 
 loop-again-2 : (t : ℕ) → lts.Need-loop-again-2 (calls t) (started t) reads.Post Inv-loop μ-loop
 loop-again-2 t c =
@@ -305,13 +299,7 @@ enum-told-2 : (t : ℕ) → lts.Need-enum-told-2 (calls t) (started t) reads.Pos
 enum-told-2 t c = c .match3 .keys1
 
 loop-less-3 : (t : ℕ) → lts.Need-loop-less-3 (calls t) (started t) reads.Post Inv-loop μ-loop
-loop-less-3 t c =
-    omega (
-      arith,
-      facts t (c .before .before .before .before .before .before .before .before) .above,
-      facts t
-          (c .before .before .before .before .before .before .before .before) .under,
-    )
+loop-less-3 t c = let f = facts t (c .before .before .before .before .before .before .before .before) in omega (arith, f .above, f .under)
 
 loop-again-3 : (t : ℕ) → lts.Need-loop-again-3 (calls t) (started t) reads.Post Inv-loop μ-loop
 loop-again-3 t c =
@@ -330,21 +318,21 @@ add-count-new t c = omega (arith, facts t (c .before .before .before .before .be
 
 count-new-requires : (t : ℕ) → lts.Need-count-new-requires (calls t) (started t) reads.Post Inv-loop μ-loop
 count-new-requires t c κs =
-    let f = facts t (c .before .before .before .before .before .before .before .before .before) in
-    let a = start-of-chunk (c .before .before .before .before .before .before .before .before .before) .args in
-    let p = start-of-chunk (c .before .before .before .before .before .before .before .before .before) .pre .1 in
-    let inside = sub-below (a .handle .base .0) _ (a .level) _ _
-    (sym (c .before .before .before .before .before .before .before .subtable .ensures)
-    ∙ c .before .before .before .before .before .kind .given .1) in (
-      omega (arith, f .high, start-of-chunk (c .before .before .before .before .before .before .before .before .before) .pre .0),
-      (p .0, inside, omega (arith, f .high), subst⁻¹ Fit (c .before .before .before .chunk-of .ensures) (f .fit)),
-    )
+    let place = c .before .before .before .before .before .before .before .before .before in
+    let f = facts t place in
+    let start = start-of-chunk place in
+    let a = start .args in
+    let known = c .before .before .before .before .before in
+    let table = sym (known .before .before .subtable .ensures) ∙ known .kind .given .1 in
+    let inside = sub-below (a .handle .base .0) _ (a .level) _ _ table in
+    let fit = subst⁻¹ Fit (c .before .before .before .chunk-of .ensures) (f .fit) in
+    (omega (arith, f .high, start .pre .0), (start .pre .1 .0, inside, omega (arith, f .high), fit))
 
 add-count-2 : (t : ℕ) → lts.Need-add-count-2 (calls t) (started t) reads.Post Inv-loop μ-loop
 add-count-2 t c = omega (arith, adds t (chunk-of-lower c) (c .count-new .result) (table-here t c))
 
 loop-less-4 : (t : ℕ) → lts.Need-loop-less-4 (calls t) (started t) reads.Post Inv-loop μ-loop
-loop-less-4 t c = omega (arith, facts t (chunk-of-lower c) .above, facts t (chunk-of-lower c) .under)
+loop-less-4 t c = let f = facts t (chunk-of-lower c) in omega (arith, f .above, f .under)
 
 loop-again-4 : (t : ℕ) → lts.Need-loop-again-4 (calls t) (started t) reads.Post Inv-loop μ-loop
 loop-again-4 t c =

@@ -127,12 +127,12 @@ again : (t : ℕ) (c : Place t) (x : Survey)
     ≡ eachChunk (a .level) f (a .edit .region) (a .before))
 again t c x adds e =
     let a = start-of-chunk c .args in
-    let f = facts t c in (
-      room-after (c .before .before .before .loop .at) (c .before .chunk-end .result) (a .edit .region .end .0) (f .above) (f .under)
-          (c .before .before .before .loop .seen) (c .before .before .before .loop .inv .0) x adds,
-      ap (eachChunk (a .level) (surveyStep (a .handle) (st (a .words .now) (a .ledger .now)) (a .k) (a .level) (a .edit))
-          (region (c .before .chunk-end .result) (a .edit .region .end .0))) e
-          ∙ f .next,
+    let at = c .before .before .before .loop in
+    let end = c .before .chunk-end .result in
+    let f = facts t c in
+    let step = surveyStep (a .handle) (st (a .words .now) (a .ledger .now)) (a .k) (a .level) (a .edit) in (
+      room-after (at .at) end (a .edit .region .end .0) (f .above) (f .under) (at .seen) (at .inv .0) x adds,
+      ap (eachChunk (a .level) step (region end (a .edit .region .end .0))) e ∙ f .next,
     )
 
 loop-holds : (t : ℕ) → lts.Need-loop-holds (calls t) (started t) reads.Post Inv-loop μ-loop

@@ -4,10 +4,12 @@ use bench_session::Answer;
 use bench_session::Args;
 use bench_session::Bench;
 use bench_session::Handle;
-use bench_session::MAKE;
-
-// The first command that is a call.
-const CHECK: u64 = 5;
+use bench_session::commands::CHECK;
+use bench_session::commands::EXPECT;
+use bench_session::commands::MAKE;
+use bench_view::MOST_TABLES;
+use text_access::face::TABLE_WORDS;
+use text_words::MOST_VALUES;
 
 // A command on the pool, its words and its ledger. `answer` stays if it is no call.
 fn on_pool(
@@ -29,7 +31,7 @@ fn on_pool(
     calls::write(command, words, ledger, handle, args)
 }
 
-// A command on the first tables of the words, and as much of the ledger.
+// A command on the first so many tables of the words, and as many numbers of the ledger. `answer` stays if there are fewer.
 fn lend(
     command: u64,
     count: usize,
@@ -43,13 +45,13 @@ fn lend(
     if ledger.len() < tables {
         return answer;
     }
-    if words.len() / 512 < tables {
+    if words.len() / TABLE_WORDS < tables {
         return answer;
     }
     on_pool(
         command,
         count,
-        &mut words[..512 * tables],
+        &mut words[..TABLE_WORDS * tables],
         &mut ledger[..tables],
         handle,
         args,
@@ -57,22 +59,22 @@ fn lend(
     )
 }
 
-// A command, its number as in the usage table.
+// A command by its number, in a line of the script.
 pub fn run(
     command: u64,
     count: usize,
     words: &mut [u64],
     ledger: &mut [u32],
     bench: Bench,
-    values: &[u64; 6],
+    values: &[u64; MOST_VALUES],
     number: u64,
 ) -> Bench {
-    if command == 0 {
+    if command == EXPECT {
         return bench_session::expect(bench, values, count, number);
     }
     let args = bench_session::args_of(values);
     let tables = bench_session::tables_of(command, bench.tables, args.first);
-    if 8 < tables {
+    if MOST_TABLES < tables {
         bench_session::say_no_pool(number, tables);
         return bench.missed();
     }

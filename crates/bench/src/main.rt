@@ -4,11 +4,23 @@ mod calls;
 mod command;
 
 use bench_session::Bench;
+use bench_view::MOST_TABLES;
+use text_access::face::TABLE_WORDS;
+use text_script::LINE_BYTES;
 use text_script::Line;
+use text_script::MOST_LINES;
+use text_words::MOST_VALUES;
+use text_words::why;
 
-// One line.
+// The tables, and so the ledger numbers, that the bench has room for.
+const TABLES: usize = MOST_TABLES as usize;
+
+// The words that the bench has room for.
+const WORDS: usize = TABLES * TABLE_WORDS;
+
+// What one line of the script does.
 fn turn(
-    text: &[u8; 256],
+    text: &[u8; LINE_BYTES],
     length: usize,
     usage: &[u8],
     words: &mut [u64],
@@ -16,9 +28,9 @@ fn turn(
     bench: Bench,
     number: u64,
 ) -> Bench {
-    let mut values = [0u64; 6];
+    let mut values = [0u64; MOST_VALUES];
     let ask = text_script::asked(text, length, usage, &mut values);
-    if ask.why == 0 {
+    if ask.why == why::UNDERSTOOD {
         return command::run(
             ask.command,
             ask.count,
@@ -29,7 +41,7 @@ fn turn(
             number,
         );
     }
-    if ask.why == 6 {
+    if ask.why == why::NO_WORD {
         return bench;
     }
     bench_session::complain(text, usage, ask, number);
@@ -38,10 +50,10 @@ fn turn(
 
 // Line by line to the end of the input.
 fn lines(usage: &[u8], words: &mut [u64], ledger: &mut [u32]) -> Bench {
-    let mut text = [0u8; 256];
+    let mut text = [0u8; LINE_BYTES];
     let mut bench = Bench::new();
     let mut number = 0;
-    while number < 0xFFFF_FFFF {
+    while number < MOST_LINES {
         number += 1;
         let Line::Length(length) = text_script::read_line(&mut text) else {
             return bench;
@@ -52,7 +64,8 @@ fn lines(usage: &[u8], words: &mut [u64], ledger: &mut [u32]) -> Bench {
     bench
 }
 
-// Each command with what it takes, what may be left out in brackets. The line's number is the command's.
+// The usage table: each command with what it takes, what may be left out in brackets. The rows stand in the order of
+// bench_session::commands.
 fn main() {
     let usage = b"expect accepted|refused [VALUE] [VALUE] [VALUE] [VALUE] [VALUE]
 words [TABLE] [FIRST] [COUNT]
@@ -70,7 +83,7 @@ modify START END SET CLEAR
 live START END SET CLEAR
 compact
 ";
-    let mut words = [0u64; 4096];
-    let mut ledger = [0u32; 8];
+    let mut words = [0u64; WORDS];
+    let mut ledger = [0u32; TABLES];
     bench_session::close(lines(usage, &mut words, &mut ledger));
 }

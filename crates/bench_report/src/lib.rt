@@ -7,6 +7,7 @@ mod refusal;
 
 pub use entry::say_entry;
 pub use entry::say_looked;
+pub use listing::LIST_NUMBERS;
 pub use listing::say_lines;
 pub use listing::say_numbers;
 pub use page::say_page;

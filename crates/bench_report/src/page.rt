@@ -1,9 +1,20 @@
-// A page image: the eight bytes of each word that is not zero.
+// A page image: a row for each word that is not zero, its eight bytes.
+use libc::STDOUT_FILENO;
 use text_access::byte_at;
+use text_access::face::PAGE_BYTES;
 use text_forms::say;
 use text_forms::say_hex;
 
-// Whether a row's eight bytes are zero.
+// The bytes of a row: those of a word.
+const ROW_BYTES: usize = 8;
+
+// The digits of a byte.
+const BYTE_WIDTH: usize = 2;
+
+// The digits of a place in a page.
+const PLACE_WIDTH: usize = 3;
+
+// Whether the bytes of the row that begins at a place are zero.
 fn is_zero(page: &[u8], at: usize) -> bool {
     let end = end_of(at);
     let mut place = at;
@@ -18,16 +29,16 @@ fn is_zero(page: &[u8], at: usize) -> bool {
 
 // Where the row ends that begins at a place.
 fn end_of(at: usize) -> usize {
-    if at < 4096 { at + 8 } else { at }
+    if at < PAGE_BYTES { at + ROW_BYTES } else { at }
 }
 
-// Two digits, after a blank.
+// A byte, after a blank.
 fn say_byte(byte: u8) {
     say(b" ");
-    io::print_hex(1, byte as u64, 2);
+    io::print_hex(STDOUT_FILENO, byte as u64, BYTE_WIDTH);
 }
 
-// A row, after the place where it begins.
+// The bytes of the row that begins at a place.
 fn say_row(page: &[u8], at: usize) {
     let end = end_of(at);
     let mut place = at;
@@ -37,22 +48,22 @@ fn say_row(page: &[u8], at: usize) {
     }
 }
 
-// A row with its place, unless it is zero.
+// The row that begins at a place, after that place, unless it is zero.
 fn say_row_if(page: &[u8], at: usize) {
     if is_zero(page, at) {
         return;
     }
     say(b"  byte ");
-    say_hex(at as u64, 3);
+    say_hex(at as u64, PLACE_WIDTH);
     say_row(page, at);
     say(b"\n");
 }
 
-// The rows that are not zero.
+// The rows of a page that are not zero.
 pub fn say_page(page: &[u8]) {
     let mut at = 0;
-    while at < 4096 {
+    while at < PAGE_BYTES {
         say_row_if(page, at);
-        at += 8;
+        at += ROW_BYTES;
     }
 }

@@ -1,10 +1,12 @@
 // The refusal slip of document 01: what each number means, and what it carries.
+use text_access::face::ANSWER_VALUES;
 use text_forms::say_row;
 
 // A refusal by its number, from 1 on, with its meaning and the values that it carries; 1 and 8 carry nothing.
-pub fn say_refusal(refusal: u64, values: &[u64; 4]) {
+pub fn say_refusal(refusal: u64, values: &[u64; ANSWER_VALUES]) {
     let forms = b"
-  refused 1: n is 0 or above 4096, lengths disagree, base not a multiple of 4096 or its end above 2^48, root level above 3, or table number not below n
+  refused 1: n is 0 or above 4096, lengths disagree, base not a multiple of 4096 or its end above 2^48, \
+root level above 3, or table number not below n
   refused 2: end is 0 or above 2^64 - 4096 (end #)
   refused 3: a flag argument has bit 1 (flags #)
   refused 4: a flag outside the set, bit 0 to set, or a bit both set and cleared (flags #)

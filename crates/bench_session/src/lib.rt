@@ -1,12 +1,13 @@
 // What the bench keeps from line to line, what it says beside the calls, and what a script expects of an answer.
-// Leans on text_script for a line, on `expected` for an answer, on text_forms, bench_report and bench_view for the words. No function needs anything of its caller.
+// Leans on text_script for a line, on `expected` for an answer, on text_forms, bench_report and bench_view for the words.
+// No function needs anything of its caller.
 mod command;
+pub mod commands;
 mod compare;
 mod expected;
 mod say;
 mod state;
 
-pub use command::MAKE;
 pub use command::after;
 pub use command::args_of;
 pub use command::by_hand;

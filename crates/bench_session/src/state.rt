@@ -10,7 +10,7 @@ pub struct Handle {
     pub range: u64,
 }
 
-// The values of a command.
+// The values of a command, by their place.
 pub struct Args {
     pub first: u64,
     pub second: u64,
@@ -19,18 +19,24 @@ pub struct Args {
     pub fifth: u64,
 }
 
+// What the bench keeps.
 pub struct Bench {
-    // The tables of the pool, 0 before the first make; then its handle.
+    // The tables of the pool, 0 before the first make.
     pub tables: u64,
+    // The handle that the pool was made with.
     pub handle: Handle,
+    // What the last call answered.
     pub answer: Answer,
-    // Answers as expected, answers not as expected, lines not understood.
+    // How many answers were as expected.
     pub held: u64,
+    // How many answers were not as expected.
     pub failed: u64,
+    // How many lines were not understood.
     pub wrong: u64,
 }
 
 impl Bench {
+    // Before the first line: no pool, and no call.
     pub fn new() -> Self {
         let handle = Handle {
             base: 0,

@@ -1,50 +1,81 @@
 // What stands in the words and the ledger of a pool, in words that a person reads; and what is put there by hand.
 // Leans on text_forms for the words, on text_access for a word at any place. No function needs anything of its caller.
+use text_access::face::LARGEST_LEDGER_NUMBER;
+use text_access::face::TABLE_WORDS;
+use text_forms::FORM_VALUES;
+use text_forms::ONLY_LINE;
+use text_forms::say;
+use text_forms::say_form;
+use text_forms::say_row;
+
+// The tables that the bench has room for.
+pub const MOST_TABLES: u64 = 8;
+
+// The slots of a table.
+const SLOTS: u64 = TABLE_WORDS as u64;
+
+// Why nothing is shown or written: the pool has no such word.
+const NO_WORD: u64 = 0;
+
+// Why nothing is written: the ledger has no such table.
+const NO_TABLE: u64 = 1;
+
+// Why nothing is written: the number has more than 32 bits.
+const TOO_LARGE: u64 = 2;
+
+// The ledger number of a free table.
+const FREE: u64 = 0;
+
+// A ledger number modulo this says the table's level, divided by this the slot that refers to the table.
+const LEDGER_STEP: u64 = 8;
+
+// How far above the level the ledger number of a table in use is, modulo LEDGER_STEP.
+const LEVEL_MARK: u64 = 4;
 
 // Where a word stands in the pool; the pool's length if it is in none of its tables.
 fn place_of(words: &[u64], table: u64, slot: u64) -> usize {
-    if 8 <= table {
+    if MOST_TABLES <= table {
         return words.len();
     }
-    if 512 <= slot {
+    if SLOTS <= slot {
         return words.len();
     }
-    (table * 512 + slot) as usize
+    (table * SLOTS + slot) as usize
 }
 
 // A word, by its table and slot.
 fn say_word(table: u64, slot: u64, word: u64) {
-    text_forms::say_row(b"  table $ word $: #\n", 0, &[table, slot, word, 0]);
+    say_row(b"  table $ word $: #\n", ONLY_LINE, &[table, slot, word, 0]);
 }
 
-// What can't be shown or written: 0 a word, 1 a ledger number's table, 2 a ledger number.
-fn say_wrong(what: u64) {
+// Why nothing is shown or written.
+fn say_wrong(why: u64) {
     let forms = b"  there is no such word
   there is no such table
   a ledger number has 32 bits
 ";
-    text_forms::say_row(forms, what, &[0; 4]);
+    say_row(forms, why, &[0; FORM_VALUES]);
 }
 
 // The word at a table's slot, and whether there is one.
 fn say_word_at(words: &[u64], table: u64, slot: u64) -> bool {
     let at = place_of(words, table, slot);
     if words.len() <= at {
-        say_wrong(0);
+        say_wrong(NO_WORD);
         return false;
     }
     say_word(table, slot, words[at]);
     true
 }
 
-// Some words of a table.
+// Some words of a table, from the first on.
 pub fn say_words(words: &[u64], table: u64, first: u64, count: u64) {
     let mut done = 0;
     while done < count {
-        if 512 <= first {
+        if SLOTS <= first {
             return;
         }
-        if 512 <= done {
+        if SLOTS <= done {
             return;
         }
         if !say_word_at(words, table, first + done) {
@@ -72,7 +103,7 @@ fn count_words(words: &[u64]) -> u64 {
 // How many words of the pool are not zero.
 pub fn say_words_not_zero(words: &[u64]) {
     let count = count_words(words);
-    text_forms::say_row(b"  words not zero: $\n", 0, &[count, 0, 0, 0]);
+    say_row(b"  words not zero: $\n", ONLY_LINE, &[count, 0, 0, 0]);
 }
 
 // A word written by hand.
@@ -80,35 +111,35 @@ pub fn put(words: &mut [u64], table: u64, slot: u64, value: u64) {
     if text_access::put_word(words, place_of(words, table, slot), value) {
         return say_word(table, slot, value);
     }
-    say_wrong(0);
+    say_wrong(NO_WORD);
 }
 
-// The slot that refers to a table, by its ledger number: 0 of a free table, below 8 of the root.
+// The slot that refers to a table that is in use, by its ledger number.
 fn say_slot(number: u64) {
-    let forms = b"
-, the root
-, under table $ slot $
-";
-    if number < 8 {
-        let form = if number == 0 { 0 } else { 1 };
-        return text_forms::say_row(forms, form, &[0; 4]);
+    if number < LEDGER_STEP {
+        return say(b", the root\n");
     }
-    let slot = number / 8 - 1;
-    text_forms::say_row(forms, 2, &[slot / 512, slot % 512, 0, 0]);
+    let slot = number / LEDGER_STEP - 1;
+    let form = b", under table $ slot $\n";
+    say_row(form, ONLY_LINE, &[slot / SLOTS, slot % SLOTS, 0, 0]);
 }
 
 // A ledger number: the table's level, and the slot that refers to it.
 fn say_entered(table: u64, entered: u32) {
     let number = entered as u64;
-    let forms = b"  table $: $, free
-  table $: $, level $
-";
-    let form = if number == 0 { 0 } else { 1 };
-    text_forms::say_form(forms, form, &[table, number, (number % 8 + 4) % 8, 0]);
+    if number == FREE {
+        return say_row(b"  table $: $, free\n", ONLY_LINE, &[table, number, 0, 0]);
+    }
+    let level = (number % LEDGER_STEP + LEVEL_MARK) % LEDGER_STEP;
+    say_form(
+        b"  table $: $, level $\n",
+        ONLY_LINE,
+        &[table, number, level, 0],
+    );
     say_slot(number);
 }
 
-// The ledger.
+// The ledger, a line for each table.
 pub fn say_ledger(ledger: &[u32]) {
     let mut table = 0;
     while table < ledger.len() {
@@ -117,14 +148,14 @@ pub fn say_ledger(ledger: &[u32]) {
     }
 }
 
-// A ledger number entered by hand: 32 bits of it.
+// A ledger number entered by hand.
 pub fn enter(ledger: &mut [u32], table: u64, number: u64) {
     let at = table as usize;
     if ledger.len() <= at {
-        return say_wrong(1);
+        return say_wrong(NO_TABLE);
     }
-    if 0xFFFF_FFFF < number {
-        return say_wrong(2);
+    if LARGEST_LEDGER_NUMBER < number {
+        return say_wrong(TOO_LARGE);
     }
     let entered = number as u32;
     ledger[at] = entered;

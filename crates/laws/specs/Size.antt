@@ -1,4 +1,4 @@
--- Entry sizes, once over the level: 2^39, 2^30, 2^21 and 2^12 at levels 0 to 3, and 2^12 past them. Rounding to a multiple.
+-- Entry sizes, once over the level: 2^39, 2^30, 2^21 and 2^12 at levels 0 to 3, and 2^12 past them; a root's span. Rounding to a multiple.
 use mathlib.Core.Path.{_≡_, sym, ap, _∙_}
 use mathlib.Core.Bool.{_&&_}
 use Prim.Native.Nat.{ℕ, _+_, _*_, _-_, _/_, _%_, _^_, _≤_, _<_}
@@ -43,6 +43,21 @@ size-low level = pow-mono {i = 12} {j = 12 + 9 * (3 - level)} (omega arith)
 pub size-high : (level : ℕ) → sizeAt level ≤ 2 ^ 39
 unfolding sizeAt
 size-high level = pow-mono {i = 12 + 9 * (3 - level)} {j = 39} (omega arith)
+
+-- ---- a root's span
+
+-- the bytes that a root at this level spans (document 01, "What a word says": "A root spans 512 entries")
+unfoldable pub span : ℕ → ℕ
+span level = 512 * sizeAt level
+
+-- by the size of an entry, as the code has it
+pub span-is : (level : ℕ) {size : ℕ} → size ≡ sizeAt level → span level ≡ 512 * size
+unfolding span
+span-is level e = ap (λ (g : ℕ). 512 * g) (sym e)
+
+pub span-high : (level : ℕ) → span level ≤ 2 ^ 48
+unfolding span
+span-high level = let h = size-high level in omega arith
 
 -- ---- rounding
 

@@ -1,5 +1,5 @@
 -- The call list: refusals 1, 2, 5, 6, 8, 11 in this order, else the lines. Leans on `Lines`.
-use mathlib.Core.Path.{_≡_, sym, ap, _∙_}
+use mathlib.Core.Path.{_≡_, ap, _∙_}
 use mathlib.Core.Bool.{true, false, cond}
 use mathlib.Core.List.{List, _++_}
 use Prim.Native.Nat.{ℕ, _+_, _*_, _-_, _^_, _≤_, _<_}
@@ -13,7 +13,7 @@ use Rattle.address.specs.Address.{up-below}
 use Rattle.region.specs.Region.{rounded}
 use Rattle.region.specs.declared.MemoryRegion.{MemoryRegion}
 use Rattle.pool.specs.State.{St, tables}
-use Rattle.pool.specs.Refuse.{shaped}
+use Rattle.pool.specs.Refuse.{shaped, firstRefused, accepted-next, refused-first}
 use Rattle.pool.specs.Sound.{soundb}
 use Rattle.pool.specs.declared.Handle.{Handle}
 use Rattle.pool.specs.declared.Refusal.{Refusal}
@@ -50,13 +50,11 @@ listLines ls list =
 unfoldable pub listSound : Handle → St → MemoryRegion → List ℕ → Listing
 listSound h s r list = let ls = listLines (linesOf h s r) list in cond (soundb h s) ls (listing (refused Unsound) list)
 
-unfoldable pub listVerified : Handle → St → MemoryRegion → List ℕ → Outcome → Listing
-listVerified h s r list (Refused x) = listing (refused x) list
-listVerified h s r list Accepted = listSound h s r list
-
+-- refusal 1, refusals 2, 5, 6, then the rest
 unfoldable pub listCall : Handle → St → ℕ → ℕ → List ℕ → Listing
 listCall h s start end list =
-    cond (shaped h s) (listVerified h s (rounded start end) list (verifyEnds h start end)) (listing (refused Shape) list)
+    let next = firstRefused (λ r. listing (refused r) list) (verifyEnds h start end) (listSound h s (rounded start end) list) in
+    cond (shaped h s) next (listing (refused Shape) list)
 
 -- ---- laws: one for each way through the code
 
@@ -66,23 +64,25 @@ module _ (h : Handle) (s : St) (start end : ℕ) (list : List ℕ) where
   list-misshaped e = rw e
 
   module _ (shape : shaped h s ≡ true) {x : Outcome} (is : x ≡ verifyEnds h start end) where
-    chosen : (y : Outcome) → x ≡ y → listVerified h s (rounded start end) list y ≡ listCall h s start end list
+    by-ends : firstRefused (λ r. listing (refused r) list) x (listSound h s (rounded start end) list) ≡ listCall h s start end list
     unfolding listCall
-    chosen y e = rw shape (ap (listVerified h s (rounded start end) list) (sym e ∙ is))
+    by-ends = rw (shape, is)
 
     pub list-region : (r : Refusal) → x ≡ Refused r → listing (refused r) list ≡ listCall h s start end list
-    unfolding listVerified
-    list-region r e = chosen (Refused r) e
+    list-region r e = refused-first (λ r. listing (refused r) list) x _ r e ∙ by-ends
 
     module _ (region : x ≡ Accepted) where
+      by-sound : listSound h s (rounded start end) list ≡ listCall h s start end list
+      by-sound = accepted-next (λ r. listing (refused r) list) x _ region ∙ by-ends
+
       pub list-unsound : soundb h s ≡ false → listing (refused Unsound) list ≡ listCall h s start end list
-      unfolding listVerified listSound
-      list-unsound e = rw (← chosen Accepted region, e)
+      unfolding listSound
+      list-unsound e = rw (← by-sound, e)
 
       pub list-sound : soundb h s ≡ true → {r : MemoryRegion} → r ≡ rounded start end
           → listLines (linesFrom (h .base .0) (tables s) (s .words) (3 - h .level) 0 r) list ≡ listCall h s start end list
-      unfolding listVerified listSound linesOf
-      list-sound e q = rw (← chosen Accepted region, e, q)
+      unfolding listSound linesOf
+      list-sound e q = rw (← by-sound, e, q)
 
 -- ---- refusals 2 and 11
 

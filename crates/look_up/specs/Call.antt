@@ -5,20 +5,27 @@ use mathlib.Core.List.{List, [], _∷_}
 use Prim.Native.Nat.{ℕ, suc, _*_, _-_, _%_, _^_}
 use native.Mathlib.Omega.{arith}
 use lib.Dec.{leb, ltb}
-use Rattle.laws.specs.Size.{sizeAt, size-high}
+use Rattle.laws.specs.Size.{sizeAt, span, span-is, span-high}
 use Rattle.address.specs.declared.PhysicalAddress.{PhysicalAddress}
 use Rattle.entry.specs.Word.{kindOf}
 use Rattle.entry.specs.declared.Kind.the-variants.{Block as block′, Hole as hole′}
 use Rattle.pool.specs.State.{St, tables}
-use Rattle.pool.specs.Refuse.{shaped, carried}
+use Rattle.pool.specs.Refuse.{shaped, number, carried}
 use Rattle.pool.specs.declared.Handle.{Handle}
 use Rattle.pool.specs.declared.VaRange.{VaRange}
 use Rattle.pool.specs.declared.VaRange.the-variants.{Lower, Upper}
 use Rattle.pool.specs.declared.Refusal.the-variants.{Shape, AddressRange, Unsound}
-use Rattle.arm.specs.Arm.{lowBit, frameOf, flagsIn, Walked, hole, block, page, outside, at, says, walk}
-use Rattle.arm.specs.Walk.{size-is, says-hole, says-block, says-page}
+use Rattle.arm.specs.Arm.{frameOf, flagsIn, Walked, hole, block, page, outside, at, says, walk}
+use Rattle.arm.specs.Walk.{says-hole, says-block, says-page}
 use Rattle.look_up.specs.declared.Looked.{Looked}
 use Rattle.look_up.specs.declared.Looked.the-variants.{Hole, Block, Page, Refused}
+
+-- the number that an answer returns: 0, or the refusal's (document 01, "The refusal slip": No.)
+abbrev pub returned : Looked → ℕ
+returned (Hole level flags) = 0
+returned (Block level flags frame) = 0
+returned (Page level flags frame) = 0
+returned (Refused r) = number r
 
 -- the values of an answer: kind (0 hole, 1 block, 2 page), level, flags, frame (0 for a hole); of a refusal, what it carries
 abbrev pub values : Looked → List ℕ
@@ -34,10 +41,10 @@ answer (block level flags frame) = Block level flags (record { 0 = frame })
 answer (page level flags frame) = Page level flags (record { 0 = frame })
 answer outside = Refused Unsound
 
--- "a root spans 512 entries": from 0 up, or up to 2^64
+-- the address lies in the root's span: from 0 up, or up to 2^64 (document 01, "The refusal slip", 6)
 unfoldable pub spanned : VaRange → ℕ → ℕ → Bool
-spanned Lower level va = ltb va (512 * 2 ^ lowBit level)
-spanned Upper level va = leb (2 ^ 64 - 512 * 2 ^ lowBit level) va
+spanned Lower level va = ltb va (span level)
+spanned Upper level va = leb (2 ^ 64 - span level) va
 
 unfoldable pub lookUpCall : Handle → St → ℕ → Looked
 lookUpCall h s va =
@@ -68,14 +75,14 @@ module _ (h : Handle) (s : St) (va : ℕ) where
 module _ (range : VaRange) (level va g : ℕ) where
   pub span-lower : range ≡ Lower → g ≡ sizeAt level → ltb va (512 * g) ≡ spanned range level va
   unfolding spanned
-  span-lower e q = rw (e, q, size-is level)
+  span-lower e q = rw (e, span-is level q)
 
   pub span-upper : range ≡ Upper → g ≡ sizeAt level → ltb (18446744073709551615 - 512 * g) va ≡ spanned range level va
   unfolding spanned
   span-upper e q =
-      let h = size-high level in
-      let p = size-is level in
-      let o : suc (18446744073709551615 - 512 * g) ≡ 2 ^ 64 - 512 * 2 ^ lowBit level = omega arith in
+      let h = span-high level in
+      let p = span-is level q in
+      let o : suc (18446744073709551615 - 512 * g) ≡ 2 ^ 64 - span level = omega arith in
       rw (e, o)
 
 -- what a word says that ends the walk

@@ -1,9 +1,8 @@
 -- Document 01, "Putting down a map": what is done by each rule, the chunks of a table in ascending order, one level after the other.
-use mathlib.Core.List.{List, [], _∷_}
 use Prim.Native.Nat.{ℕ, zero, suc, _+_, _-_}
 use Rattle.entry.specs.Sub.{subOf}
 use Rattle.address_slot.specs.Slot.{entryIndex}
-use Rattle.region.specs.Chunks.{chunks}
+use Rattle.region.specs.Each.{eachChunk}
 use Rattle.region.specs.declared.MemoryRegion.{MemoryRegion}
 use Rattle.pool.specs.State.{St, tables, wordAt, storeAt}
 use Rattle.pool_table.specs.Table.{freeSub, freeTree}
@@ -31,16 +30,23 @@ mapChunk rec h k level m s =
     let i = entryIndex level (m .region .start .0) in
     byRule (λ j t. rec j m t) h k level i (ruleOf level m (wordAt s k i)) s
 
--- "for each chunk, ascending .. the frame rises by the chunk's length after each"
-unfoldable pub eachOf : (MemoryRegion → ℕ → St → St) → List MemoryRegion → ℕ → St → St
-eachOf f [] frame s = s
-eachOf f (c ∷ cs) frame s = eachOf f cs (frame + (c .end .0 - c .start .0)) (f c frame s)
+-- the frame of the next chunk, and the state that the chunks before it left
+pub record Framed : Type 0 where
+  pub frame : ℕ
+  pub state : St
 
-unfoldable pub eachChunk : ℕ → (Map → St → St) → Map → St → St
-eachChunk level f m s =
-    eachOf (λ c frame t. f (chunkMap m c frame) t) (chunks level (m .region .start .0) (m .region .end .0)) (m .frame .0) s
+abbrev pub framed : ℕ → St → Framed
+framed p s = record { frame = p; state = s }
+
+-- one chunk at its frame: "the frame rises by the chunk's length after each"
+unfoldable pub framedChunk : (Map → St → St) → Map → MemoryRegion → Framed → Framed
+framedChunk f m c x = framed (x .frame + (c .end .0 - c .start .0)) (f (chunkMap m c (x .frame)) (x .state))
+
+-- "for each chunk, ascending"
+unfoldable pub eachMapChunk : ℕ → (Map → St → St) → Map → St → St
+eachMapChunk level f m s = eachChunk level (framedChunk f m) (m .region) (framed (m .frame .0) s) .state
 
 -- a map of table k with `depth` levels below its own
 unfoldable pub mapRange : ℕ → Handle → ℕ → Map → St → St
-mapRange zero h k m s = eachChunk 3 (mapChunk (λ j n t. t) h k 3) m s
-mapRange (suc depth) h k m s = eachChunk (3 - suc depth) (mapChunk (λ j n t. mapRange depth h j n t) h k (3 - suc depth)) m s
+mapRange zero h k m s = eachMapChunk 3 (mapChunk (λ j n t. t) h k 3) m s
+mapRange (suc depth) h k m s = eachMapChunk (3 - suc depth) (mapChunk (λ j n t. mapRange depth h j n t) h k (3 - suc depth)) m s

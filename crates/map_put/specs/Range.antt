@@ -9,8 +9,9 @@ use borrow.Author.Tests.{lt-ltb}
 use Rattle.laws.specs.Test.{le-or}
 use Rattle.address_slot.specs.Slot.{entryIndex, chunkEnd}
 use Rattle.region.specs.Region.{region}
-use Rattle.region.specs.Chunks.{chunks-step, chunks-none}
+use Rattle.region.specs.Each.{each-done, each-step}
 use Rattle.pool.specs.State.{St, wordAt, storeAt}
+use Rattle.pool.specs.Number.{inFound}
 use Rattle.pool_table.specs.Table.{Taken, taken}
 use Rattle.pool.specs.declared.Handle.{Handle}
 use Rattle.pool.specs.declared.Found.{Found}
@@ -19,8 +20,8 @@ use Rattle.map_rules.specs.declared.Map.{Map}
 use Rattle.map_rules.specs.declared.Rule.{Rule}
 use Rattle.map_rules.specs.declared.Rule.the-variants.{Write, Keep, Drop, Down}
 use Rattle.map_rules.specs.Rules.{ruleOf, chunkMap}
-use Rattle.map_split.specs.Split.{below, inFound, into}
-use Rattle.map_put.specs.Put.{dropEntry, byRule, mapChunk, eachOf, eachChunk, mapRange}
+use Rattle.map_split.specs.Split.{below, into}
+use Rattle.map_put.specs.Put.{dropEntry, byRule, mapChunk, Framed, framed, framedChunk, eachMapChunk, mapRange}
 use Rattle.map_put.specs.Laws.{put-here}
 
 -- ---- one level down
@@ -38,34 +39,35 @@ unfoldable pub mapStep : Handle → ℕ → ℕ → Map → St → St
 mapStep h k level = mapChunk (mapBelow h level) h k level
 
 pub map-open : (h : Handle) (k level : ℕ) (m : Map) (s : St) → level ≤ 3
-    → eachChunk level (mapStep h k level) m s ≡ mapRange (3 - level) h k m s
+    → eachMapChunk level (mapStep h k level) m s ≡ mapRange (3 - level) h k m s
 unfolding mapStep mapBelow mapRange
 map-open h k level m s l = ⊎-elim
     (λ ge.
     let e : 3 ≡ level = omega arith in
-    ap (λ (x : ℕ). eachChunk x (mapChunk (cond (ltb x 3) (λ j n t. mapRange (3 - (x + 1)) h j n t) (λ j n t. t)) h k x) m s) (sym e)
+    ap (λ (x : ℕ). eachMapChunk x (mapChunk (cond (ltb x 3) (λ j n t. mapRange (3 - (x + 1)) h j n t) (λ j n t. t)) h k x) m s) (sym e)
     ∙ ap (λ (x : ℕ). mapRange (3 - x) h k m s) e)
     (λ lt.
     let e : suc (3 - (level + 1)) ≡ 3 - level = omega arith in
     let q : level ≡ 3 - suc (3 - (level + 1)) = omega arith in
     rw (lt-ltb level 3 lt)
-    (ap (λ (x : ℕ). eachChunk x (mapChunk (λ j n t. mapRange (3 - (level + 1)) h j n t) h k x) m s) q
+    (ap (λ (x : ℕ). eachMapChunk x (mapChunk (λ j n t. mapRange (3 - (level + 1)) h j n t) h k x) m s) q
     ∙ ap (λ (x : ℕ). mapRange x h k m s) e))
     (le-or 3 level)
 
 -- ---- the loop
 
 module _ (level : ℕ) (f : Map → St → St) (m : Map) (at end frame : ℕ) (s : St) where
-  pub each-done : end ≤ at → eachChunk level f (chunkMap m (region at end) frame) s ≡ s
-  unfolding eachChunk eachOf
-  each-done h = rw (chunks-none level at end h)
+  pub map-each-done : end ≤ at → eachMapChunk level f (chunkMap m (region at end) frame) s ≡ s
+  unfolding eachMapChunk
+  map-each-done h =
+      ap (λ (x : Framed). x .state) (each-done level (framedChunk f (chunkMap m (region at end) frame)) at end (framed frame s) h)
 
-  pub each-step : at < end
-      → eachChunk level f (chunkMap m (region at end) frame) s
-      ≡ eachChunk level f (chunkMap m (region (chunkEnd level at end) end) (frame + (chunkEnd level at end - at)))
+  pub map-each-step : at < end
+      → eachMapChunk level f (chunkMap m (region at end) frame) s
+      ≡ eachMapChunk level f (chunkMap m (region (chunkEnd level at end) end) (frame + (chunkEnd level at end - at)))
       (f (chunkMap m (region at (chunkEnd level at end)) frame) s)
-  unfolding eachChunk eachOf
-  each-step h = rw (chunks-step level at end h)
+  unfolding eachMapChunk framedChunk
+  map-each-step h = ap (λ (x : Framed). x .state) (each-step level (framedChunk f m) at end (framed frame s) h)
 
 -- ---- one chunk, by its rule
 

@@ -1,13 +1,13 @@
 -- The whole call (document 01, "Putting down a map" and "The refusal slip"): answer and state for every input. Refusals 1 to 9 in their
 -- order; a refusal leaves the state as it was.
-use mathlib.Core.Path.{_≡_, sym, ap}
+use mathlib.Core.Path.{_≡_, sym, ap, _∙_}
 use mathlib.Core.Bool.{true, false, cond}
 use Prim.Native.Nat.{ℕ, _-_, _≤_, _<_}
 use lib.Dec.{ltb}
 use borrow.Author.Tests.{lt-ltb, le-ltb}
 use Rattle.pool.specs.State.{St}
 use Rattle.pool.specs.Number.{used, free}
-use Rattle.pool.specs.Refuse.{shaped, Out, out}
+use Rattle.pool.specs.Refuse.{shaped, Out, out, firstRefused, accepted-next, refused-first}
 use Rattle.pool.specs.Sound.{soundb}
 use Rattle.pool.specs.declared.Handle.{Handle}
 use Rattle.pool.specs.declared.Refusal.{Refusal}
@@ -36,15 +36,11 @@ mapSound h m s =
     let room = free (s .ledger) in
     cond (soundb h s) (cond (ltb room need) (refused (WantOfRoom need room) s) (putDown h m s)) (refused Unsound s)
 
-unfoldable pub orElse : Outcome → Out Counted → St → Out Counted
-orElse Accepted next s = next
-orElse (Refused r) next s = refused r s
-
 -- refusal 1, refusals 2 to 7, then the rest
 unfoldable pub mapCall : Handle → ℕ → ℕ → ℕ → ℕ → ℕ → St → Out Counted
 mapCall h start end frame flags constraints s =
     let m = askedMap start end frame flags constraints in
-    cond (shaped h s) (orElse (verifyMap h end m) (mapSound h m s) s) (refused Shape s)
+    cond (shaped h s) (firstRefused (λ r. refused r s) (verifyMap h end m) (mapSound h m s)) (refused Shape s)
 
 -- ---- laws: one for each way through the code
 
@@ -77,14 +73,12 @@ module _ (h : Handle) (start end frame flags constraints : ℕ) (s : St) where
   call-misshaped e = rw e
 
   module _ (shape : shaped h s ≡ true) {x : Outcome} (is : x ≡ verifyMap h end m) where
-    by-asked : (y : Outcome) → x ≡ y → orElse y (mapSound h m s) s ≡ mapCall h start end frame flags constraints s
+    by-asked : firstRefused (λ r. refused r s) x (mapSound h m s) ≡ mapCall h start end frame flags constraints s
     unfolding mapCall
-    by-asked y e = rw (shape, sym is, e)
+    by-asked = rw (shape, is)
 
     pub call-refused : (r : Refusal) → x ≡ Refused r → refused r s ≡ mapCall h start end frame flags constraints s
-    unfolding orElse
-    call-refused r e = by-asked (Refused r) e
+    call-refused r e = refused-first (λ r. refused r s) x _ r e ∙ by-asked
 
     pub call-asked : x ≡ Accepted → mapSound h m s ≡ mapCall h start end frame flags constraints s
-    unfolding orElse
-    call-asked e = by-asked Accepted e
+    call-asked e = accepted-next (λ r. refused r s) x _ e ∙ by-asked

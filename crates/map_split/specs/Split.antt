@@ -7,7 +7,7 @@ use Rattle.entry.specs.Sub.{subOf, sub-below}
 use Rattle.entry.specs.declared.Sub.{Sub}
 use Rattle.entry.specs.declared.Sub.the-variants.{Table, Outside, Leaf}
 use Rattle.pool.specs.State.{St, tables, wordAt}
-use Rattle.pool.specs.Number.{lowestFree, lowest-found}
+use Rattle.pool.specs.Number.{lowestFree, lowest-found, inFound}
 use Rattle.pool_table.specs.Table.{Taken, taken, takeTable, takeFound}
 use Rattle.pool.specs.declared.Handle.{Handle}
 use Rattle.pool.specs.declared.Found.{Found}
@@ -27,11 +27,7 @@ belowOf h k level i s Leaf = splitEntry h k level i s
 unfoldable pub below : Handle → ℕ → ℕ → ℕ → St → Taken
 below h k level i s = belowOf h k level i s (subOf (h .base .0) (tables s) level (wordAt s k i))
 
--- on in the table that was found
-unfoldable pub inFound : (ℕ → St → St) → Found → St → St
-inFound rec (At j) s = rec j s
-inFound rec Nothing s = s
-
+-- on in the table below, with the state that finding it left
 unfoldable pub into : (ℕ → St → St) → Taken → St
 into rec t = inFound rec (t .table) (t .state)
 

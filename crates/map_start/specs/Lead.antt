@@ -16,8 +16,8 @@ use Rattle.map_rules.specs.declared.Rule.{Rule}
 use Rattle.map_rules.specs.declared.Rule.the-variants.{Down}
 use Rattle.map_rules.specs.Rules.{ruleOf, chunkMap}
 use Rattle.map_split.specs.Split.{below-table}
-use Rattle.map_put.specs.Put.{eachChunk, mapRange}
-use Rattle.map_put.specs.Range.{mapStep, map-open, each-done, each-step, chunk-into}
+use Rattle.map_put.specs.Put.{eachMapChunk, mapRange}
+use Rattle.map_put.specs.Range.{mapStep, map-open, map-each-done, map-each-step, chunk-into}
 
 -- a table of this level from which the map does what it does from the root
 abbrev pub Serves : Handle → Map → St → ℕ → ℕ → Type 0
@@ -29,14 +29,14 @@ LeadsTo h k level m s f = (j : ℕ) → f ≡ At j → (mapRange (3 - (level + 1
 
 -- a region in one entry is one chunk
 one-chunk : (level : ℕ) (f : Map → St → St) (m : Map) (s : St) → m .region .start .0 < m .region .end .0
-    → chunkEnd level (m .region .start .0) (m .region .end .0) ≡ m .region .end .0 → eachChunk level f m s ≡ f m s
+    → chunkEnd level (m .region .start .0) (m .region .end .0) ≡ m .region .end .0 → eachMapChunk level f m s ≡ f m s
 one-chunk level f m s some one =
     let at = m .region .start .0 in
     let end = m .region .end .0 in
     let frame = m .frame .0 in
-    each-step level f m at end frame s some
-    ∙ ap (λ (x : ℕ). eachChunk level f (chunkMap m (region x end) (frame + (x - at))) (f (chunkMap m (region at x) frame) s)) one
-    ∙ each-done level f m end end (frame + (end - at)) (f (chunkMap m (region at end) frame) s) (omega arith)
+    map-each-step level f m at end frame s some
+    ∙ ap (λ (x : ℕ). eachMapChunk level f (chunkMap m (region x end) (frame + (x - at))) (f (chunkMap m (region at x) frame) s)) one
+    ∙ map-each-done level f m end end (frame + (end - at)) (f (chunkMap m (region at end) frame) s) (omega arith)
 
 module _ (h : Handle) (k level : ℕ) (m : Map) (s : St) where
   pub map-below : level < 3 → m .region .start .0 < m .region .end .0

@@ -15,6 +15,7 @@ use Rattle.laws.specs.Test.{byBool, eq-or, le-or}
 use Rattle.address.specs.Address.{alignUp}
 use Rattle.region.specs.Region.{rounded}
 use Rattle.region.specs.declared.MemoryRegion.{MemoryRegion}
+use Rattle.pool.specs.Refuse.{firstRefused, accepted-next, refused-first}
 use Rattle.pool.specs.Sound.{flagSet}
 use Rattle.pool.specs.declared.Handle.{Handle}
 use Rattle.pool.specs.declared.Refusal.{Refusal}
@@ -46,18 +47,13 @@ framesFit frame length = eqb (frame % 4096) 0 && leb (frame + length) (2 ^ 48)
 unfoldable pub frameAsked : ℕ → ℕ → Outcome
 frameAsked frame length = cond (framesFit frame length) Accepted (Refused (Frame (record { 0 = frame })))
 
--- the first that is refused of two
-unfoldable pub first : Outcome → Outcome → Outcome
-first Accepted next = next
-first (Refused r) next = Refused r
-
 -- 2: the end; 3: bit 1 of the flags; 4: flags from the set; 5, 6: the region; 7: the frame
 unfoldable pub verifyMap : Handle → ℕ → Map → Outcome
 verifyMap h end m =
     cond (endFits end)
     (cond (eqb (m .flags / 2 % 2) 1) (Refused (InvalidFlags (m .flags)))
     (cond (only (flagSet h) (m .flags))
-    (first (verify h (m .region)) (frameAsked (m .frame .0) (m .region .end .0 - m .region .start .0)))
+    (firstRefused Refused (verify h (m .region)) (frameAsked (m .frame .0) (m .region .end .0 - m .region .start .0)))
     (Refused (FlagSet (m .flags)))))
     (Refused (End end))
 
@@ -116,19 +112,17 @@ module _ (h : Handle) (end : ℕ) (m : Map) where
       ask-set e = rw (ends, ne-eqb (m .flags / 2 % 2) 1 plain, e)
 
       module _ (from : only (flagSet h) (m .flags) ≡ true) where
-        by-region : (x : Outcome) → verify h (m .region) ≡ x
-            → first x (frameAsked (m .frame .0) (m .region .end .0 - m .region .start .0)) ≡ verifyMap h end m
+        by-region : firstRefused Refused (verify h (m .region)) (frameAsked (m .frame .0) (m .region .end .0 - m .region .start .0))
+            ≡ verifyMap h end m
         unfolding verifyMap
-        by-region x e = rw (ends, ne-eqb (m .flags / 2 % 2) 1 plain, from, e)
+        by-region = rw (ends, ne-eqb (m .flags / 2 % 2) 1 plain, from)
 
         pub ask-region : {x : Outcome} → x ≡ verify h (m .region) → (r : Refusal) → x ≡ Refused r → x ≡ verifyMap h end m
-        unfolding first
-        ask-region e r q = q ∙ by-region (Refused r) (sym e ∙ q)
+        ask-region e r q = q ∙ refused-first Refused _ _ r (sym e ∙ q) ∙ by-region
 
         pub ask-frame : {x : Outcome} → x ≡ verify h (m .region) → x ≡ Accepted
             → frameAsked (m .frame .0) (m .region .end .0 - m .region .start .0) ≡ verifyMap h end m
-        unfolding first
-        ask-frame e q = by-region Accepted (sym e ∙ q)
+        ask-frame e q = accepted-next Refused _ _ (sym e ∙ q) ∙ by-region
 
 -- ---- what they leave
 

@@ -1,13 +1,13 @@
 -- The whole call (document 01, "Putting down a map", Modify, and "The refusal slip"): answer, state and list for every input. Refusals 1 to
 -- 6, 8, 9 and, live, 10, 11 in their order; a refusal leaves the state and the list as they were.
-use mathlib.Core.Path.{_≡_, sym, ap, _∙_}
+use mathlib.Core.Path.{_≡_, ap, _∙_}
 use mathlib.Core.Bool.{Bool, true, false, cond}
 use mathlib.Core.List.{List}
 use Prim.Native.Nat.{ℕ, _-_}
 use lib.ListN.{length}
 use Rattle.pool.specs.State.{St}
 use Rattle.pool.specs.Number.{used, free}
-use Rattle.pool.specs.Refuse.{shaped}
+use Rattle.pool.specs.Refuse.{shaped, firstRefused, accepted-next, refused-first}
 use Rattle.pool.specs.Sound.{soundb}
 use Rattle.pool.specs.declared.Handle.{Handle}
 use Rattle.pool.specs.declared.Refusal.{Refusal}
@@ -50,21 +50,18 @@ nothing = record { splits = 0; numbers = 0; broken = false; word = 0 }
 abbrev pub surveyOf : Handle → Edit → St → Survey
 surveyOf h e s = surveyRange (3 - h .level) h s 0 e nothing
 
-unfoldable pub orElse : Outcome → Modifying → St → List ℕ → Modifying
-orElse Accepted next s list = next
-orElse (Refused r) next s list = refused r s list
-
 -- refusal 8, refusals 9 to 11, then the edit
 unfoldable pub modifySound : Handle → Edit → St → List ℕ → Modifying
 modifySound h e s list =
-    let next = orElse (verifySurvey (free (s .ledger)) (length list) (e .live) (surveyOf h e s)) (editTables h e s list) s list in
+    let asked = verifySurvey (free (s .ledger)) (length list) (e .live) (surveyOf h e s) in
+    let next = firstRefused (λ r. refused r s list) asked (editTables h e s list) in
     cond (soundb h s) next (refused Unsound s list)
 
 -- refusal 1, refusals 2 to 6, then the rest
 unfoldable pub modifyCall : Handle → ℕ → ℕ → ℕ → ℕ → Bool → St → List ℕ → Modifying
 modifyCall h start end set clear live s list =
     let e = askedEdit start end set clear live in
-    let next = orElse (verifyEdit h end e) (modifySound h e s list) s list in
+    let next = firstRefused (λ r. refused r s list) (verifyEdit h end e) (modifySound h e s list) in
     cond (shaped h s) next (refused Shape s list)
 
 -- ---- laws: one for each way through the code
@@ -93,17 +90,15 @@ module _ (h : Handle) (e : Edit) (s : St) (list : List ℕ) where
     surveyed : x ≡ verifySurvey (free (s .ledger)) (length list) (e .live) (surveyOf h e s)
     surveyed = is ∙ rw (spare, found)
 
-    by-survey : (y : Outcome) → x ≡ y → orElse y (editTables h e s list) s list ≡ modifySound h e s list
+    by-survey : firstRefused (λ r. refused r s list) x (editTables h e s list) ≡ modifySound h e s list
     unfolding modifySound
-    by-survey y q = rw sound (ap (λ (z : Outcome). orElse z (editTables h e s list) s list) (sym q ∙ surveyed))
+    by-survey = rw (sound, surveyed)
 
     pub sound-refused : (r : Refusal) → x ≡ Refused r → refused r s list ≡ modifySound h e s list
-    unfolding orElse
-    sound-refused r q = by-survey (Refused r) q
+    sound-refused r q = refused-first (λ r. refused r s list) x _ r q ∙ by-survey
 
     pub sound-edited : x ≡ Accepted → editTables h e s list ≡ modifySound h e s list
-    unfolding orElse
-    sound-edited q = by-survey Accepted q
+    sound-edited q = accepted-next (λ r. refused r s list) x _ q ∙ by-survey
 
 module _ (h : Handle) (start end set clear : ℕ) (live : Bool) (s : St) (list : List ℕ) where
   pub call-misshaped : shaped h s ≡ false → refused Shape s list ≡ modifyCall h start end set clear live s list
@@ -111,15 +106,13 @@ module _ (h : Handle) (start end set clear : ℕ) (live : Bool) (s : St) (list :
   call-misshaped q = rw q
 
   module _ (shape : shaped h s ≡ true) {x : Outcome} (is : x ≡ verifyEdit h end (askedEdit start end set clear live)) where
-    by-asked : (y : Outcome) → x ≡ y
-        → orElse y (modifySound h (askedEdit start end set clear live) s list) s list ≡ modifyCall h start end set clear live s list
+    by-asked : firstRefused (λ r. refused r s list) x (modifySound h (askedEdit start end set clear live) s list)
+        ≡ modifyCall h start end set clear live s list
     unfolding modifyCall
-    by-asked y q = rw (shape, ← is, q)
+    by-asked = rw (shape, is)
 
     pub call-refused : (r : Refusal) → x ≡ Refused r → refused r s list ≡ modifyCall h start end set clear live s list
-    unfolding orElse
-    call-refused r q = by-asked (Refused r) q
+    call-refused r q = refused-first (λ r. refused r s list) x _ r q ∙ by-asked
 
     pub call-asked : x ≡ Accepted → modifySound h (askedEdit start end set clear live) s list ≡ modifyCall h start end set clear live s list
-    unfolding orElse
-    call-asked q = by-asked Accepted q
+    call-asked q = accepted-next (λ r. refused r s list) x _ q ∙ by-asked

@@ -1,5 +1,5 @@
 -- A table's own entries (document 01, "Putting down a map", Modify): the words that change, and the numbers that are listed. Leans on
--- `Word` and `Each`.
+-- `Word`, and on `Each` of crates/region.
 use mathlib.Core.Path.{_≡_, refl, ap}
 use mathlib.Core.Bool.{Bool, true, false, cond, _&&_}
 use mathlib.Core.List.{List}
@@ -8,10 +8,10 @@ use lib.Dec.{eqb, ltb}
 use lib.ListN.{length, getD, set}
 use borrow.Author.Tests.{eq-eqb, ne-eqb, lt-ltb, le-ltb}
 use Rattle.address_slot.specs.Slot.{entryIndex}
+use Rattle.region.specs.Each.{eachChunk}
 use Rattle.region.specs.declared.MemoryRegion.{MemoryRegion}
 use Rattle.modify_entry.specs.declared.Edit.{Edit}
 use Rattle.modify_entry.specs.Word.{editWord}
-use Rattle.modify_entry.specs.Each.{eachChunk}
 
 -- a lent list, and how many numbers stand at its front
 pub record Numbered : Type 0 where

@@ -1,11 +1,16 @@
--- One word of an edit (document 01, "Putting down a map", Modify), and a law for each way through the code.
+-- The edit of one chunk and of one word (document 01, "Putting down a map", Modify), and a law for each way through the code.
 use mathlib.Core.Path.{_≡_, ap}
 use Prim.Native.Nat.{ℕ, _-_, _^_}
 use lib.Bits.{bitAnd, bitOr}
 use Rattle.entry.specs.Word.{kindOf, edited}
 use Rattle.entry.specs.declared.Kind.{Kind}
 use Rattle.entry.specs.declared.Kind.the-variants.{Table, Block, Page, Hole}
+use Rattle.region.specs.declared.MemoryRegion.{MemoryRegion}
 use Rattle.modify_entry.specs.declared.Edit.{Edit}
+
+-- the edit of one chunk
+abbrev pub chunkEdit : Edit → MemoryRegion → Edit
+chunkEdit e c = record { region = c; set = e .set; clear = e .clear; live = e .live }
 
 -- "touches valid blocks and pages only, never a table's word"
 unfoldable pub ofKind : Kind → ℕ → ℕ → ℕ

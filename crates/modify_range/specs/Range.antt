@@ -7,8 +7,10 @@ use native.Mathlib.Omega.{arith}
 use borrow.Author.Tests.{eq-eqb, ne-eqb}
 use Rattle.address_slot.specs.Slot.{entryIndex}
 use Rattle.region.specs.Region.{whole}
+use Rattle.region.specs.Each.{eachChunk}
 use Rattle.region.specs.declared.MemoryRegion.{MemoryRegion}
 use Rattle.pool.specs.State.{St, st, wordAt}
+use Rattle.pool.specs.Number.{inFound}
 use Rattle.pool.specs.declared.Handle.{Handle}
 use Rattle.pool.specs.declared.Found.{Found}
 use Rattle.pool.specs.declared.Found.the-variants.{At, Nothing}
@@ -16,7 +18,7 @@ use Rattle.pool_table.specs.Table.{Taken, taken}
 use Rattle.map_rules.specs.Rules.{tableWord}
 use Rattle.map_split.specs.Split.{below}
 use Rattle.modify_entry.specs.declared.Edit.{Edit}
-use Rattle.modify_entry.specs.Each.{eachChunk, chunkEdit}
+use Rattle.modify_entry.specs.Word.{chunkEdit}
 use Rattle.modify_entry.specs.Own.{Noted, noted, ownRange}
 
 -- the lent pool with the lent list
@@ -32,17 +34,12 @@ work s l n = record { state = s; list = l; count = n }
 unfoldable pub own : ℕ → MemoryRegion → ℕ → Bool
 own level c w = not (tableWord w) && whole level c
 
--- on in the table that was found
-unfoldable pub onward : (ℕ → Work → Work) → Found → Work → Work
-onward rec (At j) w = rec j w
-onward rec Nothing w = w
-
 -- a chunk of table k that goes down: to the table that is there, or to a new one ("a partly covered entry is split first, hole or not")
 unfoldable pub downChunk : (ℕ → MemoryRegion → Work → Work) → Handle → ℕ → ℕ → MemoryRegion → Work → Work
 downChunk rec h k level c w =
     let i = entryIndex level (c .start .0) in
     let t = below h k level i (w .state) in
-    let done = onward (λ j. rec j c) (t .table) (work (t .state) (w .list) (w .count)) in
+    let done = inFound (λ j. rec j c) (t .table) (work (t .state) (w .list) (w .count)) in
     cond (own level c (wordAt (w .state) k i)) w done
 
 -- a table's own entries
@@ -101,19 +98,19 @@ module _ (h : Handle) (k level : ℕ) (e : Edit) (c : MemoryRegion) (w : Work) {
   step-own q = rw (← index, q)
 
   module _ (q : own level c (wordAt (w .state) k i) ≡ false) {f : Found} {t : St} (found : taken f t ≡ below h k level i (w .state)) where
-    gone-down : onward (λ j. modifyRange (3 - (level + 1)) h j (chunkEdit e c)) f (work t (w .list) (w .count)) ≡ downStep h k level e c w
+    gone-down : inFound (λ j. modifyRange (3 - (level + 1)) h j (chunkEdit e c)) f (work t (w .list) (w .count)) ≡ downStep h k level e c w
     unfolding downStep downChunk
     gone-down =
         rw (← index, q)
         (ap
-        (λ (x : Taken). onward (λ j. modifyRange (3 - (level + 1)) h j (chunkEdit e c)) (x .table)
+        (λ (x : Taken). inFound (λ j. modifyRange (3 - (level + 1)) h j (chunkEdit e c)) (x .table)
         (work (x .state) (w .list) (w .count))) found)
 
     pub step-none : f ≡ Nothing → work t (w .list) (w .count) ≡ downStep h k level e c w
-    unfolding onward
+    unfolding inFound
     step-none z = rw (← gone-down, z)
 
     pub step-into : (j : ℕ) → f ≡ At j
         → modifyRange (3 - (level + 1)) h j (chunkEdit e c) (work t (w .list) (w .count)) ≡ downStep h k level e c w
-    unfolding onward
+    unfolding inFound
     step-into j z = rw (← gone-down, z)

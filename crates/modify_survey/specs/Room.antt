@@ -12,12 +12,12 @@ use Rattle.entry.specs.declared.Sub.{Sub}
 use Rattle.entry.specs.declared.Sub.the-variants.{Table, Outside, Leaf}
 use Rattle.address_slot.specs.Slot.{entryIndex}
 use Rattle.region.specs.Region.{region, whole}
+use Rattle.region.specs.Each.{eachChunk, each-most}
 use Rattle.region.specs.declared.MemoryRegion.{MemoryRegion}
 use Rattle.pool.specs.State.{St, tables, wordAt}
 use Rattle.pool.specs.declared.Handle.{Handle}
 use Rattle.modify_entry.specs.declared.Edit.{Edit}
-use Rattle.modify_entry.specs.Word.{editWord}
-use Rattle.modify_entry.specs.Each.{eachChunk, each-most, chunkEdit}
+use Rattle.modify_entry.specs.Word.{chunkEdit, editWord}
 use Rattle.modify_survey.specs.declared.Survey.{Survey}
 use Rattle.modify_survey.specs.House.{mayChange}
 use Rattle.modify_survey.specs.Find.{adding, splitsIn, breach, ifBlock, surveyPart, surveyWhole, surveyEntry, surveySub, surveyChunk}

@@ -11,6 +11,7 @@ use Rattle.address.specs.Address.{up-below}
 use Rattle.entry.specs.Word.{only}
 use Rattle.region.specs.Region.{rounded}
 use Rattle.region.specs.declared.MemoryRegion.{MemoryRegion}
+use Rattle.pool.specs.Refuse.{firstRefused, accepted-next, refused-first}
 use Rattle.pool.specs.Sound.{flagSet}
 use Rattle.pool.specs.declared.Handle.{Handle}
 use Rattle.pool.specs.declared.Refusal.{Refusal}
@@ -42,14 +43,10 @@ verifyBits h set clear =
     (cond (eqb (clear / 2 % 2) 1) (Refused (InvalidFlags clear))
     (cond (settable (flagSet h) set clear) (cond (only (flagSet h) clear) Accepted (Refused (FlagSet clear))) (Refused (FlagSet set))))
 
--- the region is looked at where the bits are accepted
-unfoldable pub thenRegion : Outcome → Handle → MemoryRegion → Outcome
-thenRegion Accepted h r = verify h r
-thenRegion (Refused x) h r = Refused x
-
 -- 2: the end; 3, 4: the bits; 5, 6: the region
 unfoldable pub verifyEdit : Handle → ℕ → Edit → Outcome
-verifyEdit h end e = cond (endFits end) (thenRegion (verifyBits h (e .set) (e .clear)) h (e .region)) (Refused (End end))
+verifyEdit h end e =
+    cond (endFits end) (firstRefused Refused (verifyBits h (e .set) (e .clear)) (verify h (e .region))) (Refused (End end))
 
 -- 9: "new tables needed exceed those free at entry"; live, 10: "house rule broken", 11: "list shorter than needed"
 unfoldable pub verifySurvey : ℕ → ℕ → Bool → Survey → Outcome
@@ -132,17 +129,15 @@ module _ (h : Handle) (end : ℕ) (e : Edit) where
   edit-end q = rw q
 
   module _ (ends : endFits end ≡ true) {x : Outcome} (is : x ≡ verifyBits h (e .set) (e .clear)) where
-    by-bits : (y : Outcome) → x ≡ y → thenRegion y h (e .region) ≡ verifyEdit h end e
+    by-bits : firstRefused Refused x (verify h (e .region)) ≡ verifyEdit h end e
     unfolding verifyEdit
-    by-bits y q = rw (ends, ← is, q)
+    by-bits = rw (ends, is)
 
     pub edit-bits : (r : Refusal) → x ≡ Refused r → x ≡ verifyEdit h end e
-    unfolding thenRegion
-    edit-bits r q = q ∙ by-bits (Refused r) q
+    edit-bits r q = q ∙ refused-first Refused x _ r q ∙ by-bits
 
     pub edit-region : x ≡ Accepted → verify h (e .region) ≡ verifyEdit h end e
-    unfolding thenRegion
-    edit-region q = by-bits Accepted q
+    edit-region q = accepted-next Refused x _ q ∙ by-bits
 
 module _ (free room : ℕ) (live : Bool) (v : Survey) where
   pub survey-full : free < v .splits → Refused (WantOfRoom (v .splits) free) ≡ verifySurvey free room live v

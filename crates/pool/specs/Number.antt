@@ -64,6 +64,11 @@ firstFrom i (suc x ∷ l) = firstFrom (suc i) l
 unfoldable pub lowestFree : List ℕ → Found
 lowestFree l = firstFrom 0 l
 
+-- `rec` goes on in the table that was found; where none was found, nothing is done
+unfoldable pub inFound {ℓ} : {S : Type ℓ} → (ℕ → S → S) → Found → S → S
+inFound rec (At j) s = rec j s
+inFound rec Nothing s = s
+
 pub first-done : (l : List ℕ) (i : ℕ) → length l ≤ i → firstFrom i (drop i l) ≡ Nothing
 unfolding firstFrom
 first-done l i h = rw (drop-of-length-le l h)

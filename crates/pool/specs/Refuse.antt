@@ -1,7 +1,7 @@
 -- The refusal slip: each refusal's number and what it carries; refusal 1; an answer together with the state that it leaves.
 use mathlib.Core.Bool.{Bool, _&&_}
 use mathlib.Core.List.{List, [], _∷_}
-use mathlib.Core.Path.{_≡_}
+use mathlib.Core.Path.{_≡_, sym, ap}
 use Prim.Native.Nat.{ℕ, _+_, _*_, _%_, _^_, _≤_}
 use native.Mathlib.Omega.{arith}
 use lib.Dec.{T, eqb, leb, leb→le, le→leb, eqb→eq}
@@ -13,7 +13,7 @@ use Rattle.pool.specs.declared.Refusal.{Refusal}
 use Rattle.pool.specs.declared.Refusal.the-variants.{Shape, End, InvalidFlags, FlagSet, RegionBackwards, AddressRange, Frame, Unsound}
 use Rattle.pool.specs.declared.Refusal.the-variants.{WantOfRoom, HouseRule, Short}
 use Rattle.pool.specs.declared.Outcome.{Outcome}
-use Rattle.pool.specs.declared.Outcome.the-variants.{Refused}
+use Rattle.pool.specs.declared.Outcome.the-variants.{Accepted, Refused}
 
 -- document 01, "The refusal slip": No.
 abbrev pub number : Refusal → ℕ
@@ -108,6 +108,21 @@ out a s = record { answer = a; state = s }
 -- a refusal leaves the state as it was
 abbrev pub refuse : Refusal → St → Out Outcome
 refuse r s = out (Refused r) s
+
+-- "Lowest number first" (document 01, "The refusal slip"): where what is asked is refused, `refused` makes the answer of the refusal; where
+-- it is accepted, what comes next is the answer
+unfoldable pub firstRefused : {A : Type 0} → (Refusal → A) → Outcome → A → A
+firstRefused refused Accepted next = next
+firstRefused refused (Refused r) next = refused r
+
+module _ {A : Type 0} (refused : Refusal → A) (x : Outcome) (next : A) where
+  pub accepted-next : x ≡ Accepted → next ≡ firstRefused refused x next
+  unfolding firstRefused
+  accepted-next e = ap (λ (y : Outcome). firstRefused refused y next) (sym e)
+
+  pub refused-first : (r : Refusal) → x ≡ Refused r → refused r ≡ firstRefused refused x next
+  unfolding firstRefused
+  refused-first r e = ap (λ (y : Outcome). firstRefused refused y next) (sym e)
 
 -- a shape is a matter of lengths
 pub shaped-keep : (h : Handle) (s t : St) → Shaped h s → length (t .words) ≡ length (s .words) → tables t ≡ tables s → Shaped h t

@@ -9,9 +9,8 @@ use Rattle.pool.specs.declared.Outcome.{Outcome}
 use Rattle.pool.specs.declared.Outcome.the-variants.{Accepted, Refused}
 use Rattle.pool.specs.declared.Counted.{Counted}
 use Rattle.pool.specs.declared.Counted.the-variants as counted
-use Rattle.look_up.specs.Call.{values}
+use Rattle.look_up.specs.Call.{returned, values}
 use Rattle.look_up.specs.declared.Looked.{Looked}
-use Rattle.look_up.specs.declared.Looked.the-variants as looked
 use Rattle.list.specs.declared.Listed.{Listed}
 use Rattle.list.specs.declared.Listed.the-variants as listed
 use Rattle.modify.specs.declared.Modified.{Modified}
@@ -49,12 +48,9 @@ unfoldable pub toldCounted : Counted → List ℕ → Slip
 toldCounted (counted.Tables tables) old = accepted (tables ∷ []) old
 toldCounted (counted.Refused r) old = toldRefusal r old
 
--- look up: the values of its answer
+-- look up: the number and the values of its answer
 unfoldable pub toldLooked : Looked → List ℕ → Slip
-toldLooked (looked.Hole level flags) old = accepted (values (looked.Hole level flags)) old
-toldLooked (looked.Block level flags frame) old = accepted (values (looked.Block level flags frame)) old
-toldLooked (looked.Page level flags frame) old = accepted (values (looked.Page level flags frame)) old
-toldLooked (looked.Refused r) old = toldRefusal r old
+toldLooked looked old = slip (returned looked) (overFront (values looked) old)
 
 -- list: the count of lines
 unfoldable pub toldListed : Listed → List ℕ → Slip

@@ -75,7 +75,7 @@ module _ (base level range : ℕ) (s : St) (va : ℕ) (old : List ℕ) where
   look-up-told e m t = t ∙ ap (λ (o : Looked). toldLooked o old) (m ∙ ap (λ (g : Handle). lookUpCall g s va) e)
 
   pub look-up-no-range : 1 < range → lookUpFace base level range s va old ≡ toldRefusal Shape old
-  unfolding lookUpFace toldLooked
+  unfolding lookUpFace toldLooked toldRefusal
   look-up-no-range above =
       ap (λ (o : Looked). toldLooked o old) (sym (look-misshaped (handleOf base level range) s va (no-range base level range s above)))
 

@@ -1,12 +1,12 @@
 -- Refusals 2, 5 and 6 (document 01, "The refusal slip"), and a law for each way through the code.
-use mathlib.Core.Path.{_≡_, refl, sym, ap, _∙_}
+use mathlib.Core.Path.{_≡_, refl, _∙_}
 use mathlib.Core.Bool.{Bool, true, false, cond, _&&_, _||_}
 use mathlib.Core.Logic.{_⊎_, inl, inr, ⊎-elim}
 use Prim.Native.Nat.{ℕ, _*_, _-_, _^_, _≤_, _<_}
 use native.Mathlib.Omega.{arith}
 use lib.Dec.{leb, ltb}
 use borrow.Author.Tests.{le-leb, lt-leb, le-ltb, lt-ltb}
-use Rattle.laws.specs.Size.{sizeAt, size-high}
+use Rattle.laws.specs.Size.{sizeAt, span, span-is, span-high}
 use Rattle.laws.specs.Test.{le-or}
 use Rattle.region.specs.declared.MemoryRegion.{MemoryRegion}
 use Rattle.pool.specs.declared.Handle.{Handle}
@@ -20,10 +20,6 @@ use Rattle.pool.specs.declared.Outcome.the-variants.{Accepted, Refused}
 -- refusal 2 is given exactly when this fails: end is 0 or above 2^64 - 4096
 unfoldable pub endFits : ℕ → Bool
 endFits end = leb 1 end && leb end (2 ^ 64 - 4096)
-
--- "a root spans 512 entries"
-unfoldable pub span : ℕ → ℕ
-span level = 512 * sizeAt level
 
 -- refusal 6, as `verify_region` tests it: a lower region starts below 2^63 and ends in the span; an upper one starts at or above 2^63, in
 -- the span
@@ -49,26 +45,24 @@ unfolding endFits
 end-some end n = rw (le-leb 1 end (omega arith))
 
 module _ (range : VaRange) (level : ℕ) (r : MemoryRegion) {g : ℕ} (size : g ≡ sizeAt level) where
-  spans : span level ≡ 512 * g
-  unfolding span
-  spans = ap (λ (x : ℕ). 512 * x) (sym size)
-
   pub lower-start : range ≡ Lower → 2 ^ 63 ≤ r .start .0 → Refused (AddressRange (r .start)) ≡ inRange range level r
   unfolding inRange
   lower-start e l = rw (e, le-leb (2 ^ 63) (r .start .0) l)
 
   pub lower-end : range ≡ Lower → r .start .0 < 2 ^ 63 → 512 * g < r .end .0 → Refused (AddressRange (r .end)) ≡ inRange range level r
   unfolding inRange
-  lower-end e l m = rw (e, lt-leb (2 ^ 63) (r .start .0) l, spans, lt-ltb (512 * g) (r .end .0) m)
+  lower-end e l m = rw (e, lt-leb (2 ^ 63) (r .start .0) l, span-is level size, lt-ltb (512 * g) (r .end .0) m)
 
   pub lower-in : range ≡ Lower → r .start .0 < 2 ^ 63 → r .end .0 ≤ 512 * g → Accepted ≡ inRange range level r
   unfolding inRange
-  lower-in e l m = rw (e, lt-leb (2 ^ 63) (r .start .0) l, spans, le-ltb (512 * g) (r .end .0) m)
+  lower-in e l m = rw (e, lt-leb (2 ^ 63) (r .start .0) l, span-is level size, le-ltb (512 * g) (r .end .0) m)
 
   pub upper-start : range ≡ Upper → r .start .0 ≤ 2 ^ 64 - 1 - 512 * g → Refused (AddressRange (r .start)) ≡ inRange range level r
   unfolding inRange
   upper-start e l =
-      let h = size-high level in rw (e, spans, lt-ltb (r .start .0) (2 ^ 64 - 512 * g) (omega arith)) (either (ltb (r .start .0) (2 ^ 63)))
+      let h = span-high level in
+      let q = span-is level size in
+      rw (e, lt-ltb (r .start .0) (2 ^ 64 - span level) (omega arith)) (either (ltb (r .start .0) (2 ^ 63)))
     where
       either : (b : Bool) → Refused (AddressRange (r .start)) ≡ cond (b || true) (Refused (AddressRange (r .start))) Accepted
       either true = refl
@@ -77,8 +71,9 @@ module _ (range : VaRange) (level : ℕ) (r : MemoryRegion) {g : ℕ} (size : g 
   pub upper-in : range ≡ Upper → 2 ^ 64 - 1 - 512 * g < r .start .0 → Accepted ≡ inRange range level r
   unfolding inRange
   upper-in e l =
-      let h = size-high level in
-      rw (e, spans, le-ltb (r .start .0) (2 ^ 63) (omega arith), le-ltb (r .start .0) (2 ^ 64 - 512 * g) (omega arith))
+      let h = span-high level in
+      let q = span-is level size in
+      rw (e, le-ltb (r .start .0) (2 ^ 63) (omega arith), le-ltb (r .start .0) (2 ^ 64 - span level) (omega arith))
 
 pub verify-backwards : (h : Handle) (r : MemoryRegion) → r .end .0 < r .start .0 → Refused (RegionBackwards r) ≡ verify h r
 unfolding verify
@@ -126,6 +121,5 @@ verified-span h r e = ranged-span (h .range) (h .level) r (verify-forwards h r (
 -- it is no longer than the largest span
 pub span-length : (range : VaRange) (level : ℕ) (r : MemoryRegion) → RegionInSpan range level r → r .end .0 < 2 ^ 64
     → r .end .0 - r .start .0 ≤ 2 ^ 48
-unfolding span
-span-length Lower level r l below = let b = size-high level in omega arith
-span-length Upper level r l below = let b = size-high level in omega arith
+span-length Lower level r l below = let b = span-high level in omega arith
+span-length Upper level r l below = let b = span-high level in omega arith

@@ -1,7 +1,8 @@
-// A call of the list.
+// A call of the list: what it is lent, its handle, and its numbers.
 use crate::kind;
+use crate::numbers::PLACES;
 
-// How many words and ledger numbers it is lent, the handle, and the line's numbers.
+// How many words and ledger numbers a call is lent, its handle, and its line's numbers.
 pub struct Call {
     pub words: usize,
     pub numbers: usize,
@@ -34,7 +35,7 @@ pub fn none() -> Call {
 }
 
 // The call of a line after another: make and lend say what is lent from there on.
-pub fn call_of(kind: usize, before: Call, line: &[u64; 13]) -> Call {
+pub fn call_of(kind: usize, before: Call, line: &[u64; PLACES]) -> Call {
     let mut call = before;
     call.first = line[0];
     call.second = line[1];

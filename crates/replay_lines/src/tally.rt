@@ -1,22 +1,34 @@
 // How many lines there were of each kind, and how many that differ.
 use crate::kind;
-use crate::numbers;
+use crate::numbers::ANSWER;
+use crate::numbers::PLACES;
+use crate::numbers::SUM;
+use crate::numbers::VALUES;
+use libc::STDOUT_FILENO;
 use std::num::wrapping_add_u64;
+use text_access::face::ANSWER_VALUES;
+use text_forms::NO_PADDING;
 
-// One more line of a kind.
-fn add(tallies: &mut [u64; 12], kind: usize) {
-    if kind < 12 {
+// The tallies: one for each kind of line, and one of the lines that differ.
+pub const TALLIES: usize = kind::DIFFERENT + 1;
+
+// How many of the lines that differ are said.
+const MOST_SAID: u64 = 20;
+
+// One more line of a kind, if the kind has a tally.
+fn add(tallies: &mut [u64; TALLIES], kind: usize) {
+    if kind < TALLIES {
         tallies[kind] = wrapping_add_u64(tallies[kind], 1);
     }
 }
 
 // Whether the answer of a line is that which came; never where it is no line of the list.
-fn same(kind: usize, came: &[u64; 13], line: &[u64; 13]) -> bool {
+fn same(kind: usize, came: &[u64; PLACES], line: &[u64; PLACES]) -> bool {
     if kind == kind::NO_LINE {
         return false;
     }
-    let mut place = numbers::ANSWER;
-    while place < numbers::END {
+    let mut place = ANSWER;
+    while place < PLACES {
         if came[place] != line[place] {
             return false;
         }
@@ -25,56 +37,56 @@ fn same(kind: usize, came: &[u64; 13], line: &[u64; 13]) -> bool {
     true
 }
 
-// The six numbers of an answer.
-fn say_answer(line: &[u64; 13]) {
-    let mut place = numbers::ANSWER;
-    while place < numbers::END {
-        io::write_all(1, b" ");
-        io::print_hex(1, line[place], 1);
+// The numbers of a line's answer, each after a blank.
+fn say_answer(line: &[u64; PLACES]) {
+    let mut place = ANSWER;
+    while place < PLACES {
+        io::write_all(STDOUT_FILENO, b" ");
+        io::print_hex(STDOUT_FILENO, line[place], NO_PADDING);
         place += 1;
     }
 }
 
-// A line that differs: the first twenty are said.
-fn differ(tallies: &mut [u64; 12], number: u64, came: &[u64; 13], line: &[u64; 13]) {
+// Counts a line that differs, and says what came and what the list says, if not too many were said before.
+fn differ(tallies: &mut [u64; TALLIES], number: u64, came: &[u64; PLACES], line: &[u64; PLACES]) {
     add(tallies, kind::DIFFERENT);
-    if 20 < tallies[kind::DIFFERENT] {
+    if MOST_SAID < tallies[kind::DIFFERENT] {
         return;
     }
-    io::write_all(1, b"line ");
-    io::print_decimal(1, number);
-    io::write_all(1, b": came");
+    io::write_all(STDOUT_FILENO, b"line ");
+    io::print_decimal(STDOUT_FILENO, number);
+    io::write_all(STDOUT_FILENO, b": came");
     say_answer(came);
-    io::write_all(1, b", the list says");
+    io::write_all(STDOUT_FILENO, b", the list says");
     say_answer(line);
-    io::write_all(1, b"\n");
+    io::write_all(STDOUT_FILENO, b"\n");
 }
 
-// An answer's numbers where a line has them, if a call was made.
-fn fill(came: &mut [u64; 13], refusal: u64, answer: &[u64; 4], sum: u64) {
+// An answer's numbers at the places where a line has them, if a call was made.
+fn fill(came: &mut [u64; PLACES], refusal: u64, answer: &[u64; ANSWER_VALUES], sum: u64) {
     if refusal == crate::NO_CALL {
         return;
     }
-    came[7] = refusal;
-    came[12] = sum;
+    came[ANSWER] = refusal;
+    came[SUM] = sum;
     let mut place = 0;
-    while place < 4 {
-        came[place + 8] = answer[place];
+    while place < ANSWER_VALUES {
+        came[place + VALUES] = answer[place];
         place += 1;
     }
 }
 
 // Counts a line, and holds what came to what it says.
 pub fn compare(
-    tallies: &mut [u64; 12],
+    tallies: &mut [u64; TALLIES],
     kind: usize,
     number: u64,
-    line: &[u64; 13],
+    line: &[u64; PLACES],
     refusal: u64,
-    answer: &[u64; 4],
+    answer: &[u64; ANSWER_VALUES],
     sum: u64,
 ) {
-    let mut came = [crate::NO_CALL; 13];
+    let mut came = [crate::NO_CALL; PLACES];
     fill(&mut came, refusal, answer, sum);
     add(tallies, kind);
     if !same(kind, &came, line) {
@@ -82,7 +94,7 @@ pub fn compare(
     }
 }
 
-// What is counted under a kind.
+// What a tally counts, by its number; the names stand in the order of the kinds.
 fn say_kind(kind: u64) {
     let names = b"make 
 , lent anew 
@@ -100,13 +112,13 @@ fn say_kind(kind: u64) {
     text_forms::say_line(names, kind);
 }
 
-// Says the tallies.
-pub fn close(tallies: &[u64; 12]) {
+// Says the tallies, in one line.
+pub fn close(tallies: &[u64; TALLIES]) {
     let mut kind = 0;
-    while kind < 12 {
+    while kind < TALLIES {
         say_kind(kind as u64);
-        io::print_decimal(1, tallies[kind]);
+        io::print_decimal(STDOUT_FILENO, tallies[kind]);
         kind += 1;
     }
-    io::write_all(1, b"\n");
+    io::write_all(STDOUT_FILENO, b"\n");
 }

@@ -1,17 +1,18 @@
-// A byte, a word or a number at any place: past the end a 0 is read, and nothing is written.
-// No function needs anything of its caller.
+// A byte, a word or a number at any place: past the end a 0 is read, and nothing is written; `face` has what both programs know
+// of the library. No function needs anything of its caller.
+pub mod face;
 
-// A byte of a text.
+// The byte of a text at a place, 0 past its end.
 pub fn byte_at(text: &[u8], at: usize) -> u8 {
     if at < text.len() { text[at] } else { 0 }
 }
 
-// A word of some.
+// The word at a place, 0 past the end.
 pub fn word_at(words: &[u64], at: usize) -> u64 {
     if at < words.len() { words[at] } else { 0 }
 }
 
-// Writes a byte.
+// Writes a byte of a text, if the text has such a place.
 pub fn put_byte(text: &mut [u8], at: usize, byte: u8) {
     if at < text.len() {
         text[at] = byte;

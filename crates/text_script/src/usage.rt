@@ -1,42 +1,51 @@
 // What a line asks: a command of a usage table, with its values.
 // The table has a line for each command: its name, then a word for each value; what may be left out stands in brackets.
 use crate::values::values_of;
-use text_words::MOST;
+use text_words::MOST_VALUES;
 use text_words::NOWHERE;
 use text_words::Word;
 use text_words::count_words;
 use text_words::line_of;
 use text_words::next_word;
 use text_words::place_of;
+use text_words::why;
 
-// What a line asks: a command by its line in the table, with so many values; or why it asks nothing, and the word.
+// What a line asks, where `why` is UNDERSTOOD: a command by its line in the table, with so many values. Otherwise why it asks
+// nothing, and the word.
 pub struct Ask {
-    // 0 a command, 1 too long, 2 no such command, 3 too few or too many values, 4 a number above 2^64 - 1, 5 no number,
-    // 6 a line without a word.
     pub why: u64,
     pub word: Word,
     pub command: u64,
     pub count: usize,
 }
 
-// Whether a command takes so many values.
-fn takes(usage: &[u8], command: u64, count: usize) -> bool {
-    if MOST < count {
-        return false;
+// Whether a command takes so many values: UNDERSTOOD or WRONG_COUNT.
+fn takes(usage: &[u8], command: u64, count: usize) -> u64 {
+    if MOST_VALUES < count {
+        return why::WRONG_COUNT;
     }
     let line = line_of(usage, command);
     if count + 1 < count_words(usage, line, b'[') {
-        return false;
+        return why::WRONG_COUNT;
     }
-    count < count_words(usage, line, b'#')
+    if count_words(usage, line, b'#') <= count {
+        return why::WRONG_COUNT;
+    }
+    why::UNDERSTOOD
 }
 
 // A command with its values.
-fn valued(text: &[u8], name: Word, end: usize, usage: &[u8], values: &mut [u64; 6]) -> Ask {
+fn valued(
+    text: &[u8],
+    name: Word,
+    end: usize,
+    usage: &[u8],
+    values: &mut [u64; MOST_VALUES],
+) -> Ask {
     let command = place_of(text, name, usage);
     if command == NOWHERE {
         return Ask {
-            why: 2,
+            why: why::NO_COMMAND,
             word: name,
             command,
             count: 0,
@@ -45,7 +54,7 @@ fn valued(text: &[u8], name: Word, end: usize, usage: &[u8], values: &mut [u64; 
     let read = values_of(text, name.end, end, values);
     let word = read.word;
     let count = read.count;
-    if read.why != 0 {
+    if read.why != why::UNDERSTOOD {
         return Ask {
             why: read.why,
             word,
@@ -53,16 +62,8 @@ fn valued(text: &[u8], name: Word, end: usize, usage: &[u8], values: &mut [u64; 
             count,
         };
     }
-    if takes(usage, command, count) {
-        return Ask {
-            why: 0,
-            word: name,
-            command,
-            count,
-        };
-    }
     Ask {
-        why: 3,
+        why: takes(usage, command, count),
         word: name,
         command,
         count,
@@ -70,10 +71,10 @@ fn valued(text: &[u8], name: Word, end: usize, usage: &[u8], values: &mut [u64; 
 }
 
 // What a line asks, up to its comment; its values go over the front of `values`.
-pub fn asked(text: &[u8], length: usize, usage: &[u8], values: &mut [u64; 6]) -> Ask {
+pub fn asked(text: &[u8], length: usize, usage: &[u8], values: &mut [u64; MOST_VALUES]) -> Ask {
     if text.len() < length {
         return Ask {
-            why: 1,
+            why: why::LINE_TOO_LONG,
             word: Word { start: 0, end: 0 },
             command: 0,
             count: 0,
@@ -82,7 +83,7 @@ pub fn asked(text: &[u8], length: usize, usage: &[u8], values: &mut [u64; 6]) ->
     let name = next_word(text, 0, length);
     if name.end <= name.start {
         return Ask {
-            why: 6,
+            why: why::NO_WORD,
             word: name,
             command: 0,
             count: 0,

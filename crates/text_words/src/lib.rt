@@ -1,5 +1,7 @@
 // The words and the lines of a text, and the number that a word says: decimal, or hexadecimal after 0x; underscores part digits.
 // Leans on text_access for a byte. No function needs anything of its caller, and each ends on any bytes.
+pub mod why;
+
 use text_access::byte_at;
 
 // A word: the bytes from start up to end.
@@ -8,13 +10,31 @@ pub struct Word {
     pub end: usize,
 }
 
-// The most words that a line has after its command.
-pub const MOST: usize = 6;
+// The most values that a line has after its command.
+pub const MOST_VALUES: usize = 6;
 
-// The place of a word that is not among the names.
+// The place of a word that is not among the names, which have fewer lines.
 pub const NOWHERE: u64 = 64;
 
-// Whether a byte ends a run of blanks, or a word: a blank does, or the # of a comment.
+// The base of a decimal number.
+pub const DECIMAL: u64 = 10;
+
+// The base of a hexadecimal number.
+pub const HEXADECIMAL: u64 = 16;
+
+// From 2^60 on a number has no room for one more hexadecimal digit.
+pub const HEXADECIMAL_FULL: u64 = 0x1000_0000_0000_0000;
+
+// The largest number that a word can say: 2^64 - 1.
+const LARGEST: u64 = 0xFFFF_FFFF_FFFF_FFFF;
+
+// The value of a byte that is no digit: no digit of any base has it.
+pub const NO_DIGIT: u64 = HEXADECIMAL;
+
+// The bytes of 0x, with which a hexadecimal number begins.
+const PREFIX: usize = 2;
+
+// Whether a byte ends what is passed over: blanks, which any byte but a blank ends, or a word, which a blank or a # ends.
 fn ends(byte: u8, blanks: bool) -> bool {
     if byte <= b' ' {
         return !blanks;
@@ -25,7 +45,7 @@ fn ends(byte: u8, blanks: bool) -> bool {
     blanks
 }
 
-// The first place from `at` on, below `end`, where blanks end, or a word does.
+// The first place from `at` on, below `end`, where blanks end, or a word does; `end` if there is none.
 fn skip(text: &[u8], at: usize, end: usize, blanks: bool) -> usize {
     let mut place = at;
     while place < end {
@@ -88,7 +108,7 @@ pub fn line_of(text: &[u8], number: u64) -> Word {
     Word { start, end: start }
 }
 
-// Which line of the names begins with a word, counted from 0.
+// Which line of the names begins with a word, counted from 0; NOWHERE if none does.
 pub fn place_of(text: &[u8], word: Word, names: &[u8]) -> u64 {
     let mut place = 0;
     while place < NOWHERE {
@@ -107,7 +127,7 @@ pub fn count_words(text: &[u8], part: Word, mark: u8) -> usize {
     let end = part.end;
     let mut at = part.start;
     let mut count = 0;
-    while count <= MOST {
+    while count <= MOST_VALUES {
         let word = next_word(text, at, end);
         if word.end <= word.start {
             return count;
@@ -121,72 +141,69 @@ pub fn count_words(text: &[u8], part: Word, mark: u8) -> usize {
     count
 }
 
-// What a word stands for; `why` is 0, or why it is no value, as in `Ask` of text_script.
+// What a word stands for, where `why` is UNDERSTOOD; otherwise why it is no value.
 pub struct Number {
     pub why: u64,
     pub value: u64,
 }
 
-// Why a word is no value, as in `Ask` of text_script: above 2^64 - 1; no number.
-const TOO_LARGE: u64 = 4;
-
-const NO_NUMBER: u64 = 5;
-
-// The value of a digit, 16 for any other byte.
+// The value of a digit; NO_DIGIT for any other byte.
 fn digit_of(byte: u8) -> u64 {
-    let code = byte as u64;
-    match code {
-        48..=57 => code - 48,
-        65..=70 => code - 55,
-        97..=102 => code - 87,
-        _ => 16,
+    match byte {
+        b'0'..=b'9' => (byte - b'0') as u64,
+        b'A'..=b'F' => (byte - b'A') as u64 + DECIMAL,
+        b'a'..=b'f' => (byte - b'a') as u64 + DECIMAL,
+        _ => NO_DIGIT,
     }
 }
 
 // A number with one more hexadecimal digit.
 fn append_hex(value: u64, digit: u64) -> Number {
-    if 16 <= digit {
+    if HEXADECIMAL <= digit {
         return Number {
-            why: NO_NUMBER,
+            why: why::NO_NUMBER,
             value,
         };
     }
-    if 0x1000_0000_0000_0000 <= value {
+    if HEXADECIMAL_FULL <= value {
         return Number {
-            why: TOO_LARGE,
+            why: why::TOO_LARGE,
             value,
         };
     }
     Number {
-        why: 0,
-        value: value * 16 + digit,
+        why: why::UNDERSTOOD,
+        value: value * HEXADECIMAL + digit,
     }
 }
 
 // A number with one more decimal digit.
 fn append_decimal(value: u64, digit: u64) -> Number {
-    if 10 <= digit {
+    if DECIMAL <= digit {
         return Number {
-            why: NO_NUMBER,
+            why: why::NO_NUMBER,
             value,
         };
     }
-    if (0xFFFF_FFFF_FFFF_FFFF - digit) / 10 < value {
+    if (LARGEST - digit) / DECIMAL < value {
         return Number {
-            why: TOO_LARGE,
+            why: why::TOO_LARGE,
             value,
         };
     }
     Number {
-        why: 0,
-        value: value * 10 + digit,
+        why: why::UNDERSTOOD,
+        value: value * DECIMAL + digit,
     }
 }
 
 // A number with one more digit, or an underscore.
 fn append(value: u64, byte: u8, hex: bool) -> Number {
     if byte == b'_' {
-        return Number { why: 0, value };
+        return Number {
+            why: why::UNDERSTOOD,
+            value,
+        };
     }
     let digit = digit_of(byte);
     if hex {
@@ -197,11 +214,14 @@ fn append(value: u64, byte: u8, hex: bool) -> Number {
 
 // The number that some digits say.
 fn digits(text: &[u8], start: usize, end: usize, hex: bool) -> Number {
-    let mut number = Number { why: 0, value: 0 };
+    let mut number = Number {
+        why: why::UNDERSTOOD,
+        value: 0,
+    };
     let mut place = start;
     while place < end {
         number = append(number.value, byte_at(text, place), hex);
-        if number.why != 0 {
+        if number.why != why::UNDERSTOOD {
             return number;
         }
         place += 1;
@@ -213,21 +233,21 @@ fn digits(text: &[u8], start: usize, end: usize, hex: bool) -> Number {
 pub fn number_of(text: &[u8], start: usize, end: usize) -> Number {
     if end <= start {
         return Number {
-            why: NO_NUMBER,
+            why: why::NO_NUMBER,
             value: 0,
         };
     }
     let first = byte_at(text, start);
     if first == b'_' {
         return Number {
-            why: NO_NUMBER,
+            why: why::NO_NUMBER,
             value: 0,
         };
     }
     if first == b'0' {
-        if 2 < end - start {
+        if PREFIX < end - start {
             if byte_at(text, start + 1) == b'x' {
-                return digits(text, start + 2, end, true);
+                return digits(text, start + PREFIX, end, true);
             }
         }
     }

@@ -4,35 +4,19 @@ use mathlib.Core.List.{List}
 use mathlib.Core.Path.{_≡_, refl}
 use Prim.Native.Nat.{ℕ, _+_, _*_}
 use lib.ListN.{set, replicate}
-use Rattle.laws.specs.Size.{sizeAt, down, up}
-use Rattle.laws.specs.Slot.{iter}
-use Rattle.laws.specs.Part.{putPart}
-use Rattle.laws.specs.Test.{allBelow, allFrom}
-use Rattle.address.specs.Address.{alignUp}
-use Rattle.entry.specs.Word.{addressOf, flagsOf, kindOf, linkOf, only, el1Flags, plainFlags, valid, leafWord}
-use Rattle.entry.specs.Sub.{inPool, leads, subOf}
-use Rattle.address_slot.specs.Slot.{entryLast, entryIndex, chunkEnd}
-use Rattle.region.specs.Region.{rounded, whole}
-use Rattle.region.specs.Chunks.{met, chunksIn, chunks}
-use Rattle.pool.specs.Number.{rootNumber, numberOf, firstFrom, lowestFree, used, free}
+use Rattle.pool.specs.Number.{rootNumber}
 use Rattle.pool.specs.State.{St, st}
-use Rattle.pool_table.specs.Table.{putTable, zeros, clear, rising, takeAt, takeFound, takeTable, freeSub, freeSlot, freeTree}
-use Rattle.pool.specs.Refuse.{maxTables, shaped, out}
+use Rattle.pool_table.specs.Table.{putTable, zeros, rising}
+use Rattle.pool.specs.Refuse.{out}
 use Rattle.make.specs.Call.{makeCall, fresh as freshly}
-use Rattle.pool.specs.Sound.{flagSet, fits, leafb, namesb, hangsb, tableb, linkb, refersb, slotb, soundb}
 use Rattle.pool.specs.declared.Handle.{Handle}
 use Rattle.pool.specs.declared.Refusal.the-variants.{WantOfRoom}
 use Rattle.pool.specs.declared.Counted.{Counted}
 use Rattle.pool.specs.declared.Counted.the-variants.{Tables, Refused}
 use Rattle.pool.specs.declared.Outcome.the-variants.{Accepted}
 use Rattle.pool.specs.declared.VaRange.the-variants.{Lower}
-use Rattle.region_verify.specs.Verify.{endFits, span, inRange, verify}
-use Rattle.map_rules.specs.Rules.{tableWord, rule2, blockable, rule3, rule4, ruleOf, fillOf}
-use Rattle.map_split.specs.Split.{splitEntry, belowOf, below, inFound, into}
-use Rattle.map_put.specs.Put.{dropEntry, byRule, mapChunk, eachOf, eachChunk, mapRange}
-use Rattle.map_count_spec.specs.Needed.{ifDown, sumOf, sumChunks, childWord, neededLeaf, needBelow, needChunk, needTable, needed}
-use Rattle.map_verify.specs.Ask.{askedMap, frameAsked, first, verifyMap}
-use Rattle.map_spec.specs.Call.{putDown, mapSound, orElse, mapCall}
+use Rattle.map_spec.specs.Call.{mapCall}
+use Rattle.theory_case_rows.specs.Computes.{checks, regions, takes, maps}
 
 unfoldable pub handle : ℕ → Handle
 handle level = record { base = record { 0 = 0x8000_0000 }; level = level; range = Lower }
@@ -171,6 +155,11 @@ G frame count after =
 unfoldable pub H : Row
 H = record { level = 0; before = freshRow 0 8; start = 0; end = 0x80_0000_0000; frame = 0; flags = 0x401; answer = Tables 2; after = poolH }
 
+-- the rows and their pools, written out
+unfoldable pub rows : Unit {0}
+unfolding handle freshRow word table RowHolds poolA poolAA poolB poolD poolF poolG poolH A AA B CD EF G H
+rows = tt
+
 -- ---- the rows that hold
 
 -- the pools that the rows start from
@@ -178,7 +167,7 @@ abbrev pub Made : Type 0
 Made = Makes 1 8 × Makes 1 3 × Makes 1 2 × Makes 0 8
 
 pub made : Made
-unfolding rootNumber maxTables shaped makeCall freshly handle freshRow Makes
+unfolding checks rows makeCall freshly Makes
 made = (refl, refl, refl, refl)
 
 -- those of map that compute in a second: A, B with 8, 3 and 2 tables, C, D, both of G, and the next GiB after A
@@ -191,14 +180,5 @@ Quick =
     × RowHolds AA
 
 pub quick : Quick
-unfolding sizeAt down up iter putPart allBelow allFrom alignUp addressOf flagsOf kindOf linkOf only el1Flags inPool leads subOf rounded
-    entryLast entryIndex chunkEnd met
-    chunksIn chunks rootNumber numberOf firstFrom lowestFree used free putTable zeros clear rising takeAt takeFound takeTable freeSub
-    freeSlot freeTree maxTables shaped flagSet
-    plainFlags fits leafb namesb hangsb tableb linkb refersb slotb soundb endFits span inRange verify valid tableWord leafWord whole rule2
-    blockable rule3 rule4 ruleOf fillOf
-    splitEntry belowOf below inFound into dropEntry byRule mapChunk eachOf eachChunk mapRange ifDown sumOf sumChunks childWord neededLeaf
-    needBelow needChunk needTable needed
-    askedMap frameAsked first verifyMap putDown mapSound orElse mapCall handle freshRow word table RowHolds poolA poolAA poolB poolD poolG A
-    AA B CD G
+unfolding checks regions takes maps rows
 quick = (refl, refl, refl, refl, refl, refl, refl, refl, refl)

@@ -3,36 +3,24 @@ use mathlib.Core.List.{List, [], _∷_}
 use mathlib.Core.Bool.{Bool, true, false}
 use mathlib.Core.Path.{_≡_, refl}
 use Prim.Native.Nat.{ℕ}
-use Rattle.laws.specs.Size.{sizeAt, down, up}
-use Rattle.laws.specs.Part.{putPart}
-use Rattle.laws.specs.Test.{allBelow, allFrom}
-use Rattle.address.specs.Address.{alignUp}
-use Rattle.entry.specs.Word.{addressOf, flagsOf, kindOf, linkOf, only, el1Flags, edited, plainFlags, valid, leafWord}
-use Rattle.entry.specs.Sub.{inPool, leads, subOf}
-use Rattle.address_slot.specs.Slot.{entryLast, entryIndex, chunkEnd}
-use Rattle.region.specs.Region.{rounded, whole}
-use Rattle.region.specs.Chunks.{met, chunksIn, chunks}
-use Rattle.pool.specs.Number.{rootNumber, numberOf, firstFrom, lowestFree, used, free}
+use Rattle.entry.specs.Word.{edited}
 use Rattle.pool.specs.State.{St}
-use Rattle.pool_table.specs.Table.{putTable, zeros, rising, takeAt, takeFound, takeTable}
-use Rattle.pool.specs.Refuse.{maxTables, shaped}
-use Rattle.pool.specs.Sound.{flagSet, fits, leafb, namesb, hangsb, tableb, linkb, refersb, slotb, soundb}
 use Rattle.pool.specs.declared.Refusal.the-variants.{HouseRule}
-use Rattle.region_verify.specs.Verify.{endFits, span, inRange, verify}
-use Rattle.map_rules.specs.Rules.{tableWord, fillOf}
-use Rattle.map_split.specs.Split.{splitEntry, belowOf, below}
 use Rattle.modify_entry.specs.Word.{ofKind, editWord}
-use Rattle.modify_entry.specs.Each.{eachOf, eachChunk}
+use Rattle.region.specs.Each.{eachOf, eachChunk}
+use Rattle.pool.specs.Number.{inFound}
+use Rattle.pool.specs.Refuse.{firstRefused}
 use Rattle.modify_entry.specs.Own.{putNumber, ownChunk, ownRange}
-use Rattle.modify_range.specs.Range.{own, onward, downChunk, ownWork, modifyRange}
+use Rattle.modify_range.specs.Range.{own, downChunk, ownWork, modifyRange}
 use Rattle.modify_survey.specs.House.{houseRule, mayChange}
 use Rattle.modify_survey.specs.Find.{adding, splitsIn, breach, ifBlock, surveyPart, surveyWhole, surveyEntry, surveySub, surveyChunk}
 use Rattle.modify_survey.specs.Find.{surveyRange}
-use Rattle.modify_verify.specs.Permit.{askedEdit, settable, verifyBits, thenRegion, verifyEdit, verifySurvey}
-use Rattle.modify.specs.Call.{modifying, answerOf, editTables, orElse, modifySound, modifyCall}
+use Rattle.modify_verify.specs.Permit.{askedEdit, settable, verifyBits, verifyEdit, verifySurvey}
+use Rattle.modify.specs.Call.{modifying, answerOf, editTables, modifySound, modifyCall}
 use Rattle.modify.specs.declared.Modified.{Modified}
 use Rattle.modify.specs.declared.Modified.the-variants.{Tables, Live, Refused}
-use Rattle.theory_case_rows.specs.Bench.{handle, freshRow, word, table, poolA, poolF}
+use Rattle.theory_case_rows.specs.Computes.{checks, regions, takes}
+use Rattle.theory_case_rows.specs.Bench.{handle, freshRow, word, poolA, poolF, rows}
 
 -- bit 7 set after A: what is asked, and what document 01 says of it: the answer, every word and number, and the list
 unfoldable pub Sets : ℕ → ℕ → Bool → Modified → St → List ℕ → Type 0
@@ -51,14 +39,7 @@ abbrev pub StillEdited : Type 0
 StillEdited = Sets 0x1000 0x2000 false (Tables 3) (word 2 1 0x4000_1483 poolF) (7 ∷ 7 ∷ [])
 
 pub case-I : WholeEdited × PartEdited × StillEdited
-unfolding sizeAt down up putPart allBelow allFrom alignUp addressOf flagsOf kindOf linkOf only el1Flags inPool leads subOf rounded entryLast
-    entryIndex chunkEnd met chunksIn
-    chunks rootNumber numberOf firstFrom lowestFree used free putTable zeros rising takeAt takeFound takeTable maxTables shaped flagSet
-    plainFlags fits leafb namesb hangsb
-    tableb linkb refersb slotb soundb endFits span inRange verify valid tableWord leafWord whole fillOf splitEntry belowOf below edited
-    ofKind editWord eachOf eachChunk
-    putNumber ownChunk ownRange own onward downChunk ownWork modifyRange houseRule mayChange adding splitsIn breach ifBlock surveyPart
-    surveyWhole surveyEntry surveySub
-    surveyChunk surveyRange askedEdit settable verifyBits thenRegion verifyEdit verifySurvey answerOf editTables orElse modifySound
-    modifyCall handle freshRow word table poolA poolF Sets
+unfolding checks regions takes rows edited ofKind editWord eachOf eachChunk putNumber ownChunk ownRange own inFound downChunk ownWork
+    modifyRange houseRule mayChange adding splitsIn breach ifBlock surveyPart surveyWhole surveyEntry surveySub surveyChunk surveyRange
+    askedEdit settable verifyBits firstRefused verifyEdit verifySurvey answerOf editTables modifySound modifyCall Sets
 case-I = (refl, refl, refl)

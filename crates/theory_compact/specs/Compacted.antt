@@ -5,7 +5,7 @@ use Prim.Native.Nat.{ℕ, suc, _+_, _-_, _≤_, _<_}
 use native.Mathlib.Omega.{arith}
 use Rattle.laws.specs.Test.{is-true}
 use Rattle.pool.specs.State.{St, wordAt}
-use Rattle.pool.specs.Number.{rootNumber, used}
+use Rattle.pool.specs.Number.{used}
 use Rattle.pool.specs.Refuse.{shaped, Shaped, says-shaped, Out, out}
 use Rattle.pool.specs.Sound.{soundb}
 use Rattle.pool.specs.declared.Handle.{Handle}
@@ -13,15 +13,14 @@ use Rattle.pool.specs.declared.Counted.{Counted}
 use Rattle.pool.specs.declared.Counted.the-variants.{Tables}
 use Rattle.theory_forest.specs.Tree.{Tree}
 use Rattle.theory_forest.specs.Walk.{walkTree}
-use Rattle.theory_forest.specs.Nodes.{nodes}
 use Rattle.theory_forest.specs.Compact.{compactTree}
 use Rattle.theory_forest.specs.CompactWalk.{compact-walk}
 use Rattle.theory_tree.specs.Compact.{Tight, emptied, compact-count, compact-tight}
 use Rattle.theory_sound.specs.Codec.{shaped-placed, rootTree}
 use Rattle.theory_sound.specs.Clauses.{InUse, SoundPool}
 use Rattle.theory_sound.specs.Decide.{sound-decide}
-use Rattle.theory_sound.specs.Hanging.{root-left, used-tree}
-use Rattle.theory_sound.specs.Step.{used-inside}
+use Rattle.theory_sound.specs.Hanging.{used-tree}
+use Rattle.theory_sound.specs.Step.{used-inside, root-ready, Leaves, root-leaves, leaves-used}
 use Rattle.arm.specs.Arm.{bits, flagsIn, says}
 use Rattle.arm.specs.Walk.{slot-below}
 use Rattle.theory_walk.specs.AsBefore.{walkOf, hole, shown}
@@ -29,7 +28,7 @@ use Rattle.theory_walk.specs.Any.{slotsTaken, reachedAt}
 use Rattle.theory_walk.specs.Walked.{walk-of-tree}
 use Rattle.compact_spec.specs.Call.{compacted, compactCall, call-compacted}
 use Rattle.theory_compact.specs.Empty.{not-all-zero}
-use Rattle.theory_compact.specs.Run.{Ready, Worked, pool-again, shaped-again, table-worked}
+use Rattle.theory_compact.specs.Run.{table-worked}
 use Rattle.theory_compact.specs.Tight.{NoneEmpty, tight-none, table-same}
 
 -- a word of 0 shows the same at every level
@@ -41,24 +40,19 @@ slots-below : (va depth : ℕ) → slotsTaken va depth < 512
 unfolding slotsTaken
 slots-below va depth = slot-below (3 - depth) va
 
--- at the root of a sound pool
-ready : {h : Handle} {s : St} → Shaped h s → SoundPool h s → Ready h s (3 - h .level) 0
-unfolding rootNumber
-ready shape P = record { shape = shape; pool = P; used = omega (arith, P .root); low = root-left (shaped-placed shape) P }
-
 -- a pool with no empty table but the root is left as it is
 compact-none : {h : Handle} {s : St} → Shaped h s → SoundPool h s → NoneEmpty s → compacted h s ≡ s
 unfolding compacted
-compact-none {h} shape P none = table-same (shaped-placed shape) none (3 - h .level) 0 (ready shape P)
+compact-none {h} shape P none = table-same (shaped-placed shape) none (3 - h .level) 0 (root-ready shape P)
 
 module _ {h : Handle} {s : St} (shape : Shaped h s) (P : SoundPool h s) where
-  worked : Worked (shaped-placed shape) s (compacted h s) (3 - h .level) 0 (compactTree (3 - h .level) (rootTree h s))
+  leaves : Leaves h s (compacted h s) (compactTree (3 - h .level) (rootTree h s))
   unfolding compacted
-  worked = table-worked (shaped-placed shape) (3 - h .level) s 0 (ready shape P)
+  leaves = root-leaves shape P (table-worked (shaped-placed shape) (3 - h .level) s 0 (root-ready shape P))
 
   -- the root's tree is compacted
   pub compact-of-tree : rootTree h (compacted h s) ≡ compactTree (3 - h .level) (rootTree h s)
-  compact-of-tree = worked .work .tree
+  compact-of-tree = leaves .tree
 
   -- the call is accepted, and answers with the tables in use afterwards
   pub compact-answers : compactCall h s ≡ out (Tables (used (compacted h s .ledger))) (compacted h s)
@@ -68,10 +62,10 @@ module _ {h : Handle} {s : St} (shape : Shaped h s) (P : SoundPool h s) where
 
   -- SOUND AGAIN, in lists as long as before
   pub compact-keeps-sound : SoundPool h (compacted h s)
-  compact-keeps-sound = pool-again (shaped-placed shape) P (worked .size) (worked .work .over .sound)
+  compact-keeps-sound = leaves .pool
 
   pub compact-keeps-shape : Shaped h (compacted h s)
-  compact-keeps-shape = shaped-again (shaped-placed shape) shape (worked .size)
+  compact-keeps-shape = leaves .shape
 
   -- EVERY ADDRESS WALKS AS BEFORE, to the same frame and flags
   pub compact-walks-as-before : (va : ℕ) → shown (walkOf h (compacted h s) va) ≡ shown (walkOf h s va)
@@ -99,7 +93,7 @@ module _ {h : Handle} {s : St} (shape : Shaped h s) (P : SoundPool h s) where
   -- NEVER MORE TABLES: those that are freed are counted
   pub compact-frees : used (compacted h s .ledger) + emptied (3 - h .level) (rootTree h s) ≡ used (s .ledger)
   compact-frees =
-      let after = used-tree compact-keeps-shape compact-keeps-sound ∙ ap nodes compact-of-tree in
+      let after = leaves-used leaves in
       let before = used-tree shape P in
       let balance = compact-count (3 - h .level) (rootTree h s) in
       omega arith

@@ -1,82 +1,40 @@
 -- Compact of a table of a sound pool does on lists what it does on the table's tree.
 use mathlib.Core.Path.{_≡_, refl, sym, ap, _∙_, subst}
-use mathlib.Core.Logic.{_⊎_, inl, inr, _≢_}
-use Prim.Native.Nat.{ℕ, zero, suc, _+_, _*_, _-_, _%_, _≤_, _<_}
+use Prim.Native.Nat.{ℕ, zero, suc, _-_, _≤_, _<_}
 use native.Mathlib.Omega.{arith}
-use lib.ListN.{length-set}
 use Rattle.laws.specs.Slot.{iter}
-use Rattle.laws.specs.Test.{byBool, eq-or}
-use Rattle.entry.specs.Sub.{sub-leaf, sub-link}
-use Rattle.pool.specs.State.{St, tables, wordAt, storeAt, used-in}
-use Rattle.pool.specs.Refuse.{Shaped, shaped-keep}
+use Rattle.laws.specs.Test.{byBool}
+use Rattle.entry.specs.Sub.{subOf}
+use Rattle.entry.specs.declared.Sub.the-variants.{Table}
+use Rattle.pool.specs.State.{St, tables, wordAt, storeAt}
 use Rattle.pool.specs.declared.Handle.{Handle}
 use Rattle.pool_table.specs.Table.{clear}
 use Rattle.theory_forest.specs.Tree.{Tree}
 use Rattle.theory_forest.specs.Sound.{Codec, Refers, Sound}
-use Rattle.theory_forest.specs.Under.{refers-level, refers-over}
+use Rattle.theory_forest.specs.Under.{refers-over}
 use Rattle.theory_forest.specs.Frame.{slotTree}
 use Rattle.theory_forest.specs.Place.{below-self, over-refers}
-use Rattle.theory_forest.specs.Move.{Move, TableMove, Runs, work-skip, runs-zero, runs-suc, runs-work}
+use Rattle.theory_forest.specs.Move.{Runs, work-skip, runs-zero, runs-suc, runs-work}
 use Rattle.theory_forest.specs.Compact.{squash, compactTree, compact-leaf, compact-keep, compact-drop}
-use Rattle.theory_sound.specs.Codec.{Placed, codecOf, slotWord, view, word-in, treeFrom}
-use Rattle.theory_sound.specs.Clauses.{InUse, levelAt, SoundPool}
-use Rattle.theory_sound.specs.Generic.{pool-sound, sound-pool}
-use Rattle.theory_sound.specs.Lists.{TableInside, clear-tables, clear-words}
-use Rattle.theory_sound.specs.Step.{used-inside}
+use Rattle.theory_sound.specs.Codec.{Placed, codecOf, view, treeFrom}
+use Rattle.theory_sound.specs.Clauses.{InUse, SoundPool}
+use Rattle.theory_sound.specs.Generic.{pool-sound}
+use Rattle.theory_sound.specs.Lists.{TableInside, SameSize, size-refl, size-trans, store-size, clear-size}
+use Rattle.theory_sound.specs.Step.{not-table, used-inside, Ready, refers-ready, Step, Worked, pool-again, ready-again}
+use Rattle.theory_sound.specs.Slot.{HoldsLeaf, SlotHolds, holds-table, holds-leaf, holds}
 use Rattle.theory_sound.specs.Store.{cleared}
-use Rattle.theory_sound.specs.FreeRun.{SameSize, size-trans}
 use Rattle.compact_spec.specs.Compact.{allZero, tableWords, releaseEmpty, compactEntry, compactTable, release-kept, release-freed}
 use Rattle.compact_spec.specs.Compact.{entry-table, entry-leaf}
 use Rattle.theory_compact.specs.Empty.{empty-is}
-
--- where a run stands: at table k of a sound pool, with `depth` levels below its own
-pub record Ready (h : Handle) (s : St) (depth k : ℕ) : Type 0 where
-  pub shape : Shaped h s
-  pub pool : SoundPool h s
-  pub used : InUse s k
-  pub low : levelAt s k + depth ≡ 3
-
--- what one entry's step comes to, whatever is done one level down
-module _ {h : Handle} (rec : ℕ → St → St) (s : St) (depth k i : ℕ) (R : Ready h s (suc depth) k) (inside : i < 512) where
-  -- the slot refers to no table
-  pub entry-none : slotWord s k i % 4 ≢ 3 → s ≡ compactEntry rec h k (3 - suc depth) i s
-  entry-none other = entry-leaf rec h k (3 - suc depth) i s refl
-      (sym
-      (sub-leaf (h .base .0) (tables s) (3 - suc depth) (wordAt s k i)
-      (λ table. other (ap (λ (w : ℕ). w % 4) (word-in s k i inside) ∙ table .1))))
-
-  -- it refers to table c
-  pub entry-some : (placed : Placed h) (c : ℕ) → Refers (codecOf h placed) (view s) k i c
-      → releaseEmpty k i c (rec c s) ≡ compactEntry rec h k (3 - suc depth) i s
-  entry-some placed c r = entry-table rec h k (3 - suc depth) i s refl c
-      (rw (sym (word-in s k i inside) ∙ r .says)
-      (sub-link (h .base .0) (tables s) c (3 - suc depth) (omega arith) (R .shape .paged) (R .shape .ended) (used-in s c (r .used))))
 
 module _ {h : Handle} (placed : Placed h) where
   abbrev C : Codec
   C = codecOf h placed
 
-  -- s′ is s with work done at table k, whose tree is now t
-  pub record Worked (s s′ : St) (depth k : ℕ) (t : Tree) : Type 0 where
-    pub work : TableMove C (view s) (view s′) depth k t
-    pub size : SameSize s s′
-
-  -- .. at slot i of table k
-  record Moved (s s′ : St) (depth k i : ℕ) (t : Tree) : Type 0 where
-    move : Move C (view s) (view s′) depth k i t
-    size : SameSize s s′
-
-  -- the pool is sound again
-  pub pool-again : {s s′ : St} → SoundPool h s → SameSize s s′ → Sound C (view s′) → SoundPool h s′
-  pool-again P size S = sound-pool placed (omega (arith, P .sized, size .same-tables, size .same-words)) S
-
-  pub shaped-again : {s s′ : St} → Shaped h s → SameSize s s′ → Shaped h s′
-  shaped-again {s} {s′} shape size = shaped-keep h s s′ shape (size .same-words) (size .same-tables)
-
   -- what is still to be shown of a table one level down
   abbrev Below : ℕ → Type 0
   Below depth =
-      (s : St) (j : ℕ) → Ready h s depth j → Worked s (compactTable depth h j s) depth j (compactTree depth (treeFrom h s depth j))
+      (s : St) (j : ℕ) → Ready h s depth j → Worked h placed s (compactTable depth h j s) depth j (compactTree depth (treeFrom h s depth j))
 
   module _ (depth : ℕ) (below : Below depth) where
     abbrev rec : ℕ → St → St
@@ -92,33 +50,33 @@ module _ {h : Handle} (placed : Placed h) where
 
     module _ (s : St) (k i : ℕ) (R : Ready h s (suc depth) k) (inside : i < 512) where
       abbrev Goal : St → Type 0
-      Goal s′ = Moved s s′ (suc depth) k i (squashed (slotTree C (view s) (suc depth) k i))
+      Goal s′ = Step h placed s s′ (suc depth) k i (squashed (slotTree C (view s) (suc depth) k i))
 
       S : Sound C (view s)
       S = pool-sound placed (R .pool)
 
       -- the slot refers to no table
-      entry-plain : slotWord s k i % 4 ≢ 3 → Goal (step k i s)
-      entry-plain other =
-          subst Goal (entry-none rec s depth k i R inside other)
+      entry-plain : HoldsLeaf h s (suc depth) k i → Goal (step k i s)
+      entry-plain holds =
+          subst Goal (entry-leaf rec h k (3 - suc depth) i s refl (holds .leads))
           (record {
-            move = compact-leaf S (λ u. compactTree depth u) depth (R .low) (λ table. other (table .1));
-            size = record { same-tables = refl; same-words = refl };
+            move = compact-leaf S (λ u. compactTree depth u) depth (R .low) (not-table placed s k i inside (holds .plain));
+            size = size-refl;
           })
 
       -- it refers to table c: that is compacted, and freed if that leaves it empty
-      module _ (c : ℕ) (r : Refers C (view s) k i c) where
+      module _ (c : ℕ) (r : Refers C (view s) k i c) (leads : subOf (h .base .0) (tables s) (3 - suc depth) (wordAt s k i) ≡ Table c) where
         abbrev after : St
         after = compactTable depth h c s
 
-        worked : Worked s after depth c (compactTree depth (treeFrom h s depth c))
-        worked = below s c (record { shape = R .shape; pool = R .pool; used = r .used; low = omega (arith, R .low, refers-level r) })
+        worked : Worked h placed s after depth c (compactTree depth (treeFrom h s depth c))
+        worked = below s c (refers-ready placed R r)
 
         goes : releaseEmpty k i c after ≡ step k i s
-        goes = entry-some rec s depth k i R inside placed c r
+        goes = entry-table rec h k (3 - suc depth) i s refl c leads
 
         pool : SoundPool h after
-        pool = pool-again (R .pool) (worked .size) (worked .work .over .sound)
+        pool = pool-again (worked .size) placed (R .pool) (worked .work .over .sound)
 
         still : Refers C (view after) k i c
         still = over-refers S (R .used) r (worked .work .over)
@@ -131,11 +89,8 @@ module _ {h : Handle} (placed : Placed h) where
 
         freed : SameSize after (clear c (storeAt k i 0 after))
         freed =
-            let stored = length-set (after .words) (512 * k + i) 0 in
-            record {
-              same-tables = clear-tables c (storeAt k i 0 after);
-              same-words = clear-words c (storeAt k i 0 after) (omega (arith, at, stored)) ∙ stored;
-            }
+            let stored = store-size after k i 0 in
+            size-trans stored (clear-size c (storeAt k i 0 after) (omega (arith, at, stored .same-words)))
 
         entry-refers : Goal (step k i s)
         entry-refers = byBool (allZero (tableWords after c))
@@ -152,11 +107,11 @@ module _ {h : Handle} (placed : Placed h) where
             }))
 
       entry-moves : Goal (step k i s)
-      entry-moves = go (eq-or (slotWord s k i % 4) 3)
+      entry-moves = go (holds placed R i inside)
         where
-          go : (slotWord s k i % 4 ≡ 3) ⊎ (slotWord s k i % 4 ≢ 3) → Goal (step k i s)
-          go (inl both) = let to = S .names k i (R .used) (omega (arith, R .low), both) in entry-refers (to .0) (to .1)
-          go (inr other) = entry-plain other
+          go : SlotHolds placed s depth k i → Goal (step k i s)
+          go (holds-table c r both leads shows) = entry-refers c r leads
+          go (holds-leaf other plain) = entry-plain plain
 
     -- ---- the first n entries
 
@@ -168,17 +123,12 @@ module _ {h : Handle} (placed : Placed h) where
     unfolding iter
     ran s k zero small R = record {
       runs = runs-zero (pool-sound placed (R .pool)) (suc depth) k (λ i. squashed (slotTree C (view s) (suc depth) k i));
-      size = record { same-tables = refl; same-words = refl };
+      size = size-refl;
     }
     ran s k (suc n) small R =
         let before = ran s k n (omega arith) R in
-        let own = before .runs .over .ledger k (R .used) below-self in
-        let now : Ready h (iter (step k) n s) (suc depth) k = record {
-          shape = shaped-again (R .shape) (before .size);
-          pool = pool-again (R .pool) (before .size) (before .runs .over .sound);
-          used = rw own (R .used);
-          low = rw own (R .low);
-        } in
+        let over = before .runs .over in
+        let now = ready-again (before .size) placed R (over .sound) (over .ledger k (R .used) below-self) in
         let next = entry-moves (iter (step k) n s) k n now (omega arith) in
         record {
           runs = runs-suc (pool-sound placed (R .pool)) (R .used) (R .low) (before .runs)
@@ -190,7 +140,7 @@ module _ {h : Handle} (placed : Placed h) where
   pub table-worked : (depth : ℕ) → Below depth
   unfolding compactTable compactTree
   table-worked zero s k R =
-      record { work = work-skip (pool-sound placed (R .pool)) 0 k; size = record { same-tables = refl; same-words = refl } }
+      record { work = work-skip (pool-sound placed (R .pool)) 0 k; size = size-refl }
   table-worked (suc depth) s k R =
       let all = ran depth (table-worked depth) s k 512 (omega arith) R in
       record { work = runs-work (λ i t. squash (λ u. compactTree depth u) t) (all .runs); size = all .size }

@@ -1,11 +1,10 @@
 -- A pool with no empty table but the root: so its tree says, and so its words; compact changes nothing in it.
 use mathlib.Core.Path.{_≡_, refl, sym, ap, _∙_, subst}
 use mathlib.Core.Bool.{false}
-use mathlib.Core.Logic.{_⊎_, inl, inr, _≢_}
-use Prim.Native.Nat.{ℕ, zero, suc, _-_, _%_, _<_}
+use mathlib.Core.Logic.{_≢_}
+use Prim.Native.Nat.{ℕ, zero, suc, _-_, _<_}
 use native.Mathlib.Omega.{arith}
 use Rattle.laws.specs.Slot.{iter}
-use Rattle.laws.specs.Test.{eq-or}
 use Rattle.pool.specs.State.{St, numberAt}
 use Rattle.pool.specs.declared.Handle.{Handle}
 use Rattle.theory_forest.specs.Tree.{treeAt-node}
@@ -19,10 +18,11 @@ use Rattle.theory_sound.specs.Codec.{Placed, codecOf, slotWord, view, rootTree}
 use Rattle.theory_sound.specs.Clauses.{InUse, SoundPool}
 use Rattle.theory_sound.specs.Generic.{pool-sound}
 use Rattle.theory_sound.specs.Hanging.{root-left, root-under}
-use Rattle.theory_sound.specs.Step.{used-inside}
+use Rattle.theory_sound.specs.Step.{used-inside, Ready, refers-ready}
+use Rattle.theory_sound.specs.Slot.{SlotHolds, holds-table, holds-leaf, holds}
 use Rattle.compact_spec.specs.Compact.{allZero, tableWords, releaseEmpty, compactEntry, compactTable, release-kept}
+use Rattle.compact_spec.specs.Compact.{entry-table, entry-leaf}
 use Rattle.theory_compact.specs.Empty.{empty-is}
-use Rattle.theory_compact.specs.Run.{Ready, entry-none, entry-some}
 
 -- ---- what the tree says of the tables under its top
 
@@ -74,23 +74,16 @@ module _ {h : Handle} (placed : Placed h) {s : St} (none : NoneEmpty s) where
   -- one entry, where nothing is done one level down
   entry-same : (rec : ℕ → St → St) (depth k i : ℕ) → Ready h s (suc depth) k → i < 512 → ((j : ℕ) → Ready h s depth j → rec j s ≡ s)
       → compactEntry rec h k (3 - suc depth) i s ≡ s
-  entry-same rec depth k i R inside below = go (eq-or (slotWord s k i % 4) 3)
+  entry-same rec depth k i R inside below = go (holds placed R i inside)
     where
-      S : Sound (codecOf h placed) (view s)
-      S = pool-sound placed (R .pool)
-
-      go : (slotWord s k i % 4 ≡ 3) ⊎ (slotWord s k i % 4 ≢ 3) → compactEntry rec h k (3 - suc depth) i s ≡ s
-      go (inl both) =
-          let to = S .names k i (R .used) (omega (arith, R .low), both) in
-          let c = to .0 in
-          let r = to .1 in
+      go : SlotHolds placed s depth k i → compactEntry rec h k (3 - suc depth) i s ≡ s
+      go (holds-table c r both leads shows) =
           let other : c ≢ 0 =
           λ e. root-not-hung {C = codecOf h placed} {s = view s} {k = c} (e, ap (numberAt s) e ∙ R .pool .root) (r .hung) in
-          sym (entry-some rec s depth k i R inside placed c r)
-          ∙ ap (releaseEmpty k i c)
-          (below c (record { shape = R .shape; pool = R .pool; used = r .used; low = omega (arith, R .low, refers-level r) }))
+          sym (entry-table rec h k (3 - suc depth) i s refl c leads)
+          ∙ ap (releaseEmpty k i c) (below c (refers-ready placed R r))
           ∙ sym (release-kept k i c s (none c other (r .used)))
-      go (inr other) = sym (entry-none rec s depth k i R inside other)
+      go (holds-leaf other plain) = sym (entry-leaf rec h k (3 - suc depth) i s refl (plain .leads))
 
   pub table-same : (depth k : ℕ) → Ready h s depth k → compactTable depth h k s ≡ s
   unfolding compactTable

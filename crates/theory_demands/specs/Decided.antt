@@ -8,7 +8,7 @@ use lib.Bits.{bitAnd}
 use lib.Dec.{T}
 use lib.ListN.{length}
 use borrow.Author.Tests.{le-leb, lt-leb, le-ltb, lt-ltb}
-use Rattle.laws.specs.Size.{sizeAt, size-high}
+use Rattle.laws.specs.Size.{span, span-high}
 use Rattle.laws.specs.Test.{eqb-cases, eq-or, le-or}
 use Rattle.address.specs.declared.VirtualAddress.{VirtualAddress}
 use Rattle.entry.specs.Word.{only}
@@ -26,7 +26,7 @@ use Rattle.theory_sound.specs.Clauses.{SoundPool}
 use Rattle.theory_sound.specs.Decide.{sound-exactly}
 use Rattle.region_verify.specs.Verify.{endFits, inRange, verify, refused-never, lower-start, lower-end, lower-in, upper-start, upper-in}
 use Rattle.region_verify.specs.Verify.{verify-backwards, verify-forwards}
-use Rattle.look_up.specs.Call.{spanned, span-lower, span-upper}
+use Rattle.look_up.specs.Call.{spanned}
 use Rattle.map_verify.specs.Ask.{frameAsked, frame-part, frame-past, frame-fits}
 use Rattle.theory_demands.specs.Slip.{Misshaped, BadEnd, OutsideSet, Backwards, BeyondRange, BeyondSpan, BadFrame}
 
@@ -71,24 +71,25 @@ module _ (h : Handle) (s : St) (fits : shaped h s ≡ true) where
 pub range-told : (range : VaRange) (level : ℕ) (r : MemoryRegion)
     → ((a : VirtualAddress) × (inRange range level r ≡ Refused (AddressRange a)) × BeyondRange range level r a)
     ⊎ ((inRange range level r ≡ Accepted) × ((a : VirtualAddress) → ¬ (BeyondRange range level r a)))
-range-told Lower level r = go (le-or (2 ^ 63) (r .start .0)) (le-or (r .end .0) (512 * sizeAt level))
+unfolding span
+range-told Lower level r = go (le-or (2 ^ 63) (r .start .0)) (le-or (r .end .0) (span level))
   where
-    go : (2 ^ 63 ≤ r .start .0) ⊎ (r .start .0 < 2 ^ 63) → (r .end .0 ≤ 512 * sizeAt level) ⊎ (512 * sizeAt level < r .end .0)
+    go : (2 ^ 63 ≤ r .start .0) ⊎ (r .start .0 < 2 ^ 63) → (r .end .0 ≤ span level) ⊎ (span level < r .end .0)
         → ((a : VirtualAddress) × (inRange Lower level r ≡ Refused (AddressRange a)) × BeyondRange Lower level r a)
         ⊎ ((inRange Lower level r ≡ Accepted) × ((a : VirtualAddress) → ¬ (BeyondRange Lower level r a)))
     go (inl l) m = inl (r .start, sym (lower-start Lower level r refl refl l), inl (l, refl))
     go (inr l) (inr m) = inl (r .end, sym (lower-end Lower level r refl refl l m), inr (l, m, refl))
     go (inr l) (inl m) =
         inr (sym (lower-in Lower level r refl refl l m), λ a x. ⊎-elim (λ p. omega (arith, p .0)) (λ p. omega (arith, p .1)) x)
-range-told Upper level r = go (le-or (2 ^ 64 - 512 * sizeAt level) (r .start .0))
+range-told Upper level r = go (le-or (2 ^ 64 - span level) (r .start .0))
   where
-    go : (2 ^ 64 - 512 * sizeAt level ≤ r .start .0) ⊎ (r .start .0 < 2 ^ 64 - 512 * sizeAt level)
+    go : (2 ^ 64 - span level ≤ r .start .0) ⊎ (r .start .0 < 2 ^ 64 - span level)
         → ((a : VirtualAddress) × (inRange Upper level r ≡ Refused (AddressRange a)) × BeyondRange Upper level r a)
         ⊎ ((inRange Upper level r ≡ Accepted) × ((a : VirtualAddress) → ¬ (BeyondRange Upper level r a)))
     go (inl l) =
-        let z = size-high level in
+        let z = span-high level in
         inr (sym (upper-in Upper level r refl refl (omega arith)), λ a x. ⊎-elim (λ p. omega arith) (λ p. omega arith) (x .0))
-    go (inr l) = let z = size-high level in inl (r .start, sym (upper-start Upper level r refl refl (omega arith)), (inr l, refl))
+    go (inr l) = let z = span-high level in inl (r .start, sym (upper-start Upper level r refl refl (omega arith)), (inr l, refl))
 
 pub record RegionStands (h : Handle) (r : MemoryRegion) : Type 0 where
   pub forwards : ¬ (Backwards r)
@@ -134,21 +135,13 @@ set-told h flags = ⊎-elim (λ x. inr (x .1, λ n. n (x .0))) (λ x. inl (x .1,
 -- 6, look up
 pub span-told : (range : VaRange) (level va : ℕ)
     → ((spanned range level va ≡ false) × BeyondSpan range level va) ⊎ ((spanned range level va ≡ true) × (¬ (BeyondSpan range level va)))
-span-told Lower level va = ⊎-elim
-    (λ l. inl (sym (span-lower Lower level va (sizeAt level) refl refl) ∙ le-ltb va (512 * sizeAt level) l, l))
-    (λ l. inr (sym (span-lower Lower level va (sizeAt level) refl refl) ∙ lt-ltb va (512 * sizeAt level) l, λ m. omega arith))
-    (le-or (512 * sizeAt level) va)
-span-told Upper level va =
-    let z = size-high level in
-    ⊎-elim
-    (λ l. inr (
-      sym (span-upper Upper level va (sizeAt level) refl refl)
-          ∙ lt-ltb (18446744073709551615 - 512 * sizeAt level) va (omega arith),
-      λ m. omega arith,
-    ))
-    (λ l. inl
-    (sym (span-upper Upper level va (sizeAt level) refl refl) ∙ le-ltb (18446744073709551615 - 512 * sizeAt level) va (omega arith), l))
-    (le-or (2 ^ 64 - 512 * sizeAt level) va)
+unfolding spanned
+span-told Lower level va =
+    ⊎-elim (λ l. inl (le-ltb va (span level) l, l)) (λ l. inr (lt-ltb va (span level) l, λ m. omega arith)) (le-or (span level) va)
+span-told Upper level va = ⊎-elim
+    (λ l. inr (le-leb (2 ^ 64 - span level) va l, λ m. omega arith))
+    (λ l. inl (lt-leb (2 ^ 64 - span level) va l, l))
+    (le-or (2 ^ 64 - span level) va)
 
 -- 7
 pub frame-told : (frame : ℕ) (r : MemoryRegion) → let length = r .end .0 - r .start .0 in

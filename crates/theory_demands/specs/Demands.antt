@@ -24,7 +24,7 @@ use Rattle.list.specs.Call.{listCall}
 use Rattle.list.specs.declared.Listed.the-variants as listed
 use Rattle.map_spec.specs.Call.{mapCall}
 use Rattle.theory_map.specs.Terms.{MapArguments, Maps, Valid, InMapRegion, frameFor, RegionsApart, InTurn, none, next, InSpan}
-use Rattle.theory_map.specs.Call.{call-shaped}
+use Rattle.theory_map.specs.Call.{call-leaves}
 use Rattle.theory_map.specs.Mapped.{map-keeps-sound, map-region-walks, map-elsewhere-as-before}
 use Rattle.modify.specs.declared.Modified.the-variants as modified
 use Rattle.modify.specs.Call.{Modifying, modifyCall}
@@ -86,23 +86,23 @@ module _ (h : Handle) (s : St) (start end set clear : ℕ) (live : Bool) (list :
 -- ---- DEMAND 2, after an accepted map: "each table in use hangs from the root exactly once"
 
 module _ {h : Handle} {c : MapArguments} {s s′ : St} {n : ℕ} (maps : Maps h c s n s′) where
-  -- by a path of slots from the root ..
+  -- a path of slots leads from the root to each table in use;
   pub map-tables-hang : {j : ℕ} → InUse s′ j → (slots : List ℕ) × Follows h s′ 0 slots j
-  map-tables-hang inUse = reach (call-shaped maps) (map-keeps-sound maps) inUse
+  map-tables-hang inUse = reach (call-leaves maps .shape) (map-keeps-sound maps) inUse
 
-  -- .. and by no other;
+  -- one path alone leads from the root to a table;
   pub map-tables-hang-once : {j : ℕ} {slots slots′ : List ℕ} → Follows h s′ 0 slots j → Follows h s′ 0 slots′ j → slots ≡ slots′
-  map-tables-hang-once a b = one-path (call-shaped maps) (map-keeps-sound maps) a b
+  map-tables-hang-once a b = one-path (call-leaves maps .shape) (map-keeps-sound maps) a b
 
-  -- one slot of the tables in use refers to it, none to the root and none to a free table;
+  -- one slot of the tables in use refers to a table in use other than the root, none to the root and none to a free table;
   pub map-one-slot : {j : ℕ} → j ≢ 0 → InUse s′ j → OneSlot h s′ j
-  map-one-slot other inUse = refer-once (call-shaped maps) (map-keeps-sound maps) other inUse
+  map-one-slot other inUse = refer-once (call-leaves maps .shape) (map-keeps-sound maps) other inUse
 
   pub map-root-unreferred : {k i : ℕ} → ¬ (Leads h s′ k i 0)
-  map-root-unreferred leads = root-unreferred (call-shaped maps) (map-keeps-sound maps) leads
+  map-root-unreferred leads = root-unreferred (call-leaves maps .shape) (map-keeps-sound maps) leads
 
   pub map-free-unreferred : {k i j : ℕ} → numberAt s′ j ≡ 0 → ¬ (Leads h s′ k i j)
-  map-free-unreferred free leads = free-unreferred (call-shaped maps) (map-keeps-sound maps) free leads
+  map-free-unreferred free leads = free-unreferred (call-leaves maps .shape) (map-keeps-sound maps) free leads
 
   -- a table that is free afterwards, freed by this call or not, is all zero
   pub map-free-zero : {k i : ℕ} → k < tables s′ → i < 512 → numberAt s′ k ≡ 0 → wordAt s′ k i ≡ 0

@@ -43,7 +43,7 @@ module _ (f : Handle → MapArguments → St → Out Counted) (meets : (h : Hand
   answers : (h : Handle) (c : MapArguments) (s : St) {a : Counted} {t : St} → mapAnswer h c s ≡ out a t → f h c s .answer ≡ a
   answers h c s e = ap (λ (x : Out Counted). x .answer) (meets h c s ∙ e)
 
-  -- it does not refuse everything,
+  -- such a function does not refuse everything
   pub not-all-refused : ¬ ((h : Handle) (c : MapArguments) (s : St) → (r : Refusal) × (f h c s .answer ≡ Refused r))
   not-all-refused all =
       let r = all (handle 1) callA (freshRow 1 8) in
@@ -51,7 +51,7 @@ module _ (f : Handle → MapArguments → St → Out Counted) (meets : (h : Hand
       let o : _≡_ {A = ℕ} 0 1 = cc in
       omega arith
 
-  -- or accept everything,
+  -- such a function does not accept everything
   pub not-all-accepted : ¬ ((h : Handle) (c : MapArguments) (s : St) → (n : ℕ) × (f h c s .answer ≡ Tables n))
   not-all-accepted all =
       let n = all (handle 1) callB (freshRow 1 2) in
@@ -59,7 +59,7 @@ module _ (f : Handle → MapArguments → St → Out Counted) (meets : (h : Hand
       let o : _≡_ {A = ℕ} 0 1 = cc in
       omega arith
 
-  -- or give one constant answer,
+  -- such a function does not give one constant answer
   pub not-constant : (a : Counted) → ¬ ((h : Handle) (c : MapArguments) (s : St) → f h c s .answer ≡ a)
   not-constant a all =
       let z : Tables 1 ≡ Tables 3 =
@@ -68,7 +68,7 @@ module _ (f : Handle → MapArguments → St → Out Counted) (meets : (h : Hand
       let o : _≡_ {A = ℕ} 1 3 = cc in
       omega arith
 
-  -- or do nothing
+  -- such a function does not leave every pool as it was
   pub not-idle : ¬ ((h : Handle) (c : MapArguments) (s : St) → f h c s .state ≡ s)
   not-idle all =
       let e : poolA ≡ freshRow 1 8 =

@@ -8,7 +8,7 @@ use mathlib.Core.Logic.{_⊎_, _≢_}
 use Prim.Native.Nat.{ℕ, _+_, _*_, _-_, _/_, _%_, _^_, _≤_, _<_}
 use lib.Bits.{bitAnd}
 use lib.ListN.{length}
-use Rattle.laws.specs.Size.{sizeAt}
+use Rattle.laws.specs.Size.{span}
 use Rattle.address.specs.declared.VirtualAddress.{VirtualAddress}
 use Rattle.region.specs.Region.{rounded}
 use Rattle.region.specs.declared.MemoryRegion.{MemoryRegion}
@@ -58,13 +58,13 @@ Backwards r = r .end .0 < r .start .0
 -- 6: "`AddressRange`, as `verify_region` tests it", and the address that it names
 abbrev pub BeyondRange : VaRange → ℕ → MemoryRegion → VirtualAddress → Type 0
 BeyondRange Lower level r a =
-    ((2 ^ 63 ≤ r .start .0) × (a ≡ r .start)) ⊎ ((r .start .0 < 2 ^ 63) × (512 * sizeAt level < r .end .0) × (a ≡ r .end))
-BeyondRange Upper level r a = ((r .start .0 < 2 ^ 63) ⊎ (r .start .0 < 2 ^ 64 - 512 * sizeAt level)) × (a ≡ r .start)
+    ((2 ^ 63 ≤ r .start .0) × (a ≡ r .start)) ⊎ ((r .start .0 < 2 ^ 63) × (span level < r .end .0) × (a ≡ r .end))
+BeyondRange Upper level r a = ((r .start .0 < 2 ^ 63) ⊎ (r .start .0 < 2 ^ 64 - span level)) × (a ≡ r .start)
 
 -- "look up: address outside the root's span"
 abbrev pub BeyondSpan : VaRange → ℕ → ℕ → Type 0
-BeyondSpan Lower level va = 512 * sizeAt level ≤ va
-BeyondSpan Upper level va = va < 2 ^ 64 - 512 * sizeAt level
+BeyondSpan Lower level va = span level ≤ va
+BeyondSpan Upper level va = va < 2 ^ 64 - span level
 
 -- 7: "frame not a multiple of 4096, or frame + length above 2^48"
 abbrev pub BadFrame : ℕ → MemoryRegion → Type 0

@@ -39,7 +39,7 @@ use Rattle.theory_demands.specs.Decided.{accepted-not}
 pub only-one : {A : Type 0} {x y given : A} → x ≡ given → y ≡ given → x ≡ y
 only-one e q = e ∙ sym q
 
--- so answer and state of make, map and compact, answer and page, answer and list, answer, state and list of modify
+-- part by part: answer and state of make, map and compact; answer and page; answer and list; answer, state and list of modify
 pub one-state : {B : Type 0} {r q : B} {t u : St} {x : Out B} → out r t ≡ x → out q u ≡ x → (r ≡ q) × (t ≡ u)
 one-state {B} e f = (ap (λ (y : Out B). y .answer) (only-one e f), ap (λ (y : Out B). y .state) (only-one e f))
 

@@ -114,6 +114,7 @@ pub record Clears (s s′ : State) (p i e v : ℕ) : Type 0 where
   pub ledger : (j : ℕ) → j ≢ e → s′ .ledger j ≡ s .ledger j
 
 module _ {C : Codec} {s : State} where
+  -- under a table whose words are all 0 stands no other
   pub free-empty-alone : {e d j : ℕ} → Sound C s → ((k : ℕ) → s .word e k ≡ 0) → Under C s e d j → j ≡ e
   free-empty-alone {e} {d} {j} S zeros under = go d under
     where
@@ -121,7 +122,7 @@ module _ {C : Codec} {s : State} where
       go zero under = under-zero under
       go (suc d) under = let via = under-via S under in absurd (omega (arith, refers-table (via .refers) .1, zeros (via .slot)))
 
-  -- so to clear it alone is to free its subtree
+  -- to clear a table whose words are all 0 is to free its subtree
   pub free-empty-frees : {s′ : State} {p i e v : ℕ} → Sound C s → Used s e → ((k : ℕ) → s .word e k ≡ 0)
       → Clears s s′ p i e v → Frees C s s′ p i e v
   free-empty-frees {s′} {p} {i} {e} {v} S used zeros clears = record {

@@ -70,7 +70,7 @@ module _ {C : Codec} {s : State} where
       climb zero j level used = step j used (λ h. absurd (omega (arith, h .below))) (S .hangs j used)
       climb (suc l) j level used = step j used (λ h. climb l (parent C s j) (omega (arith, h .below)) (h .used)) (S .hangs j used)
 
-  -- ---- and is reached from there by following slots
+  -- ---- every used table is reached from a root by following slots
 
   pub refers-points : {k i c : ℕ} → Used s k → Refers C s k i c → Points C s k i c
   refers-points used r = record { used = used; table = refers-table r; names = refers-child r }
@@ -92,7 +92,7 @@ module _ {C : Codec} {s : State} where
       let n = S .names k i (at .used) (at .table) in
       subst (λ (c : ℕ). Refers C s k i c) (sym (refers-child (n .1)) ∙ at .names) (n .1)
 
-  -- ---- by one path alone: the ledger names each of its slots
+  -- ---- a table is reached by one path alone: the ledger names each of its slots
 
   named : {k j : ℕ} {slots : List ℕ} → Sound C s → Reaches C s k slots j → Named C s k slots j
   unfolding path over

@@ -1,5 +1,5 @@
 -- The steps as moves: `Move s s′ left k i t` says that s′ differs from s only at slot i of table k, whose tree is now t; `TableMove` says
--- the same of a whole table, `Runs` of its first slots.
+-- so of a whole table, `Runs` of a table's first slots.
 use mathlib.Core.Path.{_≡_, refl, ap, _∙_, subst⁻¹}
 use mathlib.Core.Logic.{_⊎_, inl, inr, _≢_}
 use Prim.Native.Nat.{ℕ, suc, _≤_, _<_}

@@ -1,33 +1,34 @@
 -- What refusals 2 to 7 leave of a map: flags from the set, whole pages inside the root's span, frames below 2^48.
-use mathlib.Core.Path.{_≡_, refl, sym, ap, _∙_}
+use mathlib.Core.Path.{_≡_, subst}
 use mathlib.Core.Bool.{Bool, true, false, cond, _&&_, _||_}
-use mathlib.Core.Logic.{_⊎_, inl, inr}
-use Prim.Native.Nat.{ℕ, suc, _+_, _*_, _-_, _/_, _%_, _^_, _≤_, _<_}
+use Prim.Native.Nat.{ℕ, suc, _+_, _-_, _/_, _%_, _^_, _≤_, _<_}
 use native.Mathlib.Omega.{arith}
 use lib.Bits.{bitAnd, and-le-r}
 use lib.Dec.{eqb, eqb→eq, leb, ltb, lit<}
 use borrow.Author.Tests.{ltb-true}
 use Rattle.laws.specs.Bit.{SubBits}
-use Rattle.laws.specs.Size.{sizeAt, size-high, up, down-paged}
-use Rattle.laws.specs.Test.{byBool, le-or}
+use Rattle.laws.specs.Size.{sizeAt, span, up, down-paged}
+use Rattle.laws.specs.Test.{byBool}
 use Rattle.address.specs.Address.{alignUp}
 use Rattle.entry.specs.Word.{only}
 use Rattle.region.specs.Region.{rounded}
 use Rattle.region.specs.declared.MemoryRegion.{MemoryRegion}
-use Rattle.pool.specs.Sound.{flagSet}
+use Rattle.pool.specs.Sound.{flagSet, soundb}
 use Rattle.pool.specs.declared.Handle.{Handle}
 use Rattle.pool.specs.declared.VaRange.{VaRange}
 use Rattle.pool.specs.declared.VaRange.the-variants.{Lower, Upper}
-use Rattle.pool.specs.Refuse.{number}
+use Rattle.pool.specs.State.{St}
+use Rattle.pool.specs.Refuse.{number, firstRefused, shaped, Shaped, shaped-says}
 use Rattle.pool.specs.declared.Refusal.{Refusal}
-use Rattle.pool.specs.declared.Refusal.the-variants.{End, InvalidFlags, FlagSet, RegionBackwards, AddressRange, Frame}
+use Rattle.pool.specs.declared.Refusal.the-variants.{Shape, Unsound, End, InvalidFlags, FlagSet, RegionBackwards, AddressRange, Frame}
 use Rattle.pool.specs.declared.Outcome.{Outcome}
 use Rattle.pool.specs.declared.Outcome.the-variants.{Accepted, Refused}
-use Rattle.region_verify.specs.Verify.{endFits, span as wide, inRange, verify, lower-start, lower-end, upper-start, verify-forwards}
-use Rattle.region_verify.specs.Verify.{verified-forwards}
+use Rattle.region_verify.specs.Verify.{endFits, inRange, verify, verified-forwards, RegionInSpan, verified-span}
 use Rattle.map_rules.specs.declared.Map.{Map}
 use Rattle.map_rules.specs.Fit.{Fit}
-use Rattle.map_verify.specs.Ask.{askedMap, frameAsked, first as firstOf, verifyMap, passes, only-plain, asked-fit, up-pages}
+use Rattle.map_verify.specs.Ask.{askedMap, frameAsked, verifyMap, passes, only-plain, asked-fit, up-pages}
+use Rattle.theory_sound.specs.Clauses.{SoundPool}
+use Rattle.theory_sound.specs.Decide.{decide-sound}
 use Rattle.theory_tree.specs.Page.{pagesIn, span-size, span-suc, first, in-from}
 use Rattle.theory_tree.specs.Root.{upperRoot, upper-span}
 use Rattle.theory_tree.specs.Chunks.{Inside}
@@ -36,42 +37,20 @@ use Rattle.theory_map.specs.Leaf.{set-below}
 use Rattle.theory_map.specs.Stand.{Allowed}
 use Rattle.theory_map.specs.Pieces.{Area}
 
-pub no-refusal : {x : Outcome} {r : Refusal} → Refused r ≡ x → x ≡ Accepted → ⊥
-no-refusal e q = let z : _≡_ {A = ℕ} 0 1 = cc in omega arith
-
 -- ---- a region that refusal 6 leaves lies in the root's span
 
-lower-ends : (level : ℕ) (r : MemoryRegion) → inRange Lower level r ≡ Accepted → r .end .0 ≤ 512 * sizeAt level
-lower-ends level r ok = go (le-or (2 ^ 63) (r .start .0)) (le-or (r .end .0) (512 * sizeAt level))
-  where
-    go : (2 ^ 63 ≤ r .start .0) ⊎ (r .start .0 < 2 ^ 63) → (r .end .0 ≤ 512 * sizeAt level) ⊎ (512 * sizeAt level < r .end .0)
-        → r .end .0 ≤ 512 * sizeAt level
-    go (inl l) b = absurd (no-refusal (lower-start Lower level r refl refl l) ok)
-    go (inr l) (inl b) = b
-    go (inr l) (inr b) = absurd (no-refusal (lower-end Lower level r refl refl l b) ok)
-
-upper-starts : (level : ℕ) (r : MemoryRegion) → inRange Upper level r ≡ Accepted → 2 ^ 64 - 512 * sizeAt level ≤ r .start .0
-upper-starts level r ok = go (le-or (r .start .0) (2 ^ 64 - 1 - 512 * sizeAt level))
-  where
-    go : (r .start .0 ≤ 2 ^ 64 - 1 - 512 * sizeAt level) ⊎ (2 ^ 64 - 1 - 512 * sizeAt level < r .start .0)
-        → 2 ^ 64 - 512 * sizeAt level ≤ r .start .0
-    go (inl l) = absurd (no-refusal (upper-start Upper level r refl refl l) ok)
-    go (inr l) = let h = size-high level in omega arith
-
 -- its pages, in the root's table
-root-pages : (range : VaRange) (depth : ℕ) (r : MemoryRegion) → depth ≤ 3 → inRange range (3 - depth) r ≡ Accepted
+root-pages : (range : VaRange) (depth : ℕ) (r : MemoryRegion) → depth ≤ 3 → RegionInSpan range (3 - depth) r
     → r .start .0 ≤ r .end .0 → r .end .0 < 2 ^ 64 → r .end .0 % 4096 ≡ 0
     → (first (suc depth) (rootOf range depth) ≤ r .start .0 / 4096)
     × (r .end .0 / 4096 ≤ first (suc depth) (rootOf range depth) + pagesIn (suc depth))
-unfolding rootOf first
-root-pages Lower depth r low ok some small paged =
-    let e = lower-ends (3 - depth) r ok in
+unfolding rootOf first span
+root-pages Lower depth r low within some small paged =
     let s = span-size depth low in
     let n = span-suc depth in
     (omega arith, omega arith)
-root-pages Upper depth r low ok some small paged =
-    let b = upper-starts (3 - depth) r ok in
-    let s = in-from (suc depth) (upperRoot depth) (r .start .0 / 4096) (upper-span depth (r .start .0) low b (omega arith)) in
+root-pages Upper depth r low within some small paged =
+    let s = in-from (suc depth) (upperRoot depth) (r .start .0 / 4096) (upper-span depth (r .start .0) low within (omega arith)) in
     let e = in-from (suc depth) (upperRoot depth) (r .end .0 / 4096) (upper-span depth (r .end .0) low (omega arith) small) in
     (s .0, omega (arith, e .1))
 
@@ -88,9 +67,8 @@ pages-inside h start end frame low ok paged =
     let r : MemoryRegion = rounded start end in
     let some = verified-forwards h r ok in
     let e : h .level ≡ 3 - (3 - h .level) = omega arith in
-    let range : inRange (h .range) (3 - (3 - h .level)) r ≡ Accepted =
-    ap (λ (l : ℕ). inRange (h .range) l r) (sym e) ∙ verify-forwards h r some ∙ ok in
-    let pages = root-pages (h .range) (3 - h .level) r (omega arith) range some (aligned-below end) (up-pages end) in
+    let within : RegionInSpan (h .range) (3 - (3 - h .level)) r = subst (λ (l : ℕ). RegionInSpan (h .range) l r) e (verified-span h r ok) in
+    let pages = root-pages (h .range) (3 - h .level) r (omega arith) within some (aligned-below end) (up-pages end) in
     record { startPage = down-paged 3 start; endPage = up-pages end; framePage = paged; low = pages .0; high = pages .1 }
 
 -- flags that refusals 3 and 4 leave
@@ -134,20 +112,20 @@ pub cond-early : (b : Bool) (x y : Outcome) → Early x → Early y → Early (c
 cond-early true x y a e = a
 cond-early false x y a e = e
 
-first-early : (x y : Outcome) → Early x → Early y → Early (firstOf x y)
-unfolding firstOf
+pub first-early : (x y : Outcome) → Early x → Early y → Early (firstRefused Refused x y)
+unfolding firstRefused
 first-early Accepted y a e = e
 first-early (Refused r) y a e = a
 
 range-early : (range : VaRange) (level : ℕ) (r : MemoryRegion) → Early (inRange range level r)
 unfolding inRange
 range-early Lower level r =
-    let ends : Bool = ltb (wide level) (r .end .0) in
+    let ends : Bool = ltb (span level) (r .end .0) in
     cond-early (leb (2 ^ 63) (r .start .0)) (Refused (AddressRange (r .start))) (cond ends (Refused (AddressRange (r .end))) Accepted)
     (lit< tt)
     (cond-early ends (Refused (AddressRange (r .end))) Accepted (lit< tt) tt)
 range-early Upper level r =
-    cond-early (ltb (r .start .0) (2 ^ 63) || ltb (r .start .0) (2 ^ 64 - wide level)) (Refused (AddressRange (r .start))) Accepted
+    cond-early (ltb (r .start .0) (2 ^ 63) || ltb (r .start .0) (2 ^ 64 - span level)) (Refused (AddressRange (r .start))) Accepted
     (lit< tt) tt
 
 pub verify-early : (h : Handle) (r : MemoryRegion) → Early (verify h r)
@@ -164,7 +142,7 @@ frame-early frame length =
 pub asked-early : (h : Handle) (end : ℕ) (m : Map) → Early (verifyMap h end m)
 unfolding verifyMap
 asked-early h end m =
-    let last : Outcome = firstOf (verify h (m .region)) (frameAsked (m .frame .0) (m .region .end .0 - m .region .start .0)) in
+    let last : Outcome = firstRefused Refused (verify h (m .region)) (frameAsked (m .frame .0) (m .region .end .0 - m .region .start .0)) in
     let flags : Outcome = cond (only (flagSet h) (m .flags)) last (Refused (FlagSet (m .flags))) in
     cond-early (endFits end) (cond (eqb (m .flags / 2 % 2) 1) (Refused (InvalidFlags (m .flags))) flags) (Refused (End end))
     (cond-early (eqb (m .flags / 2 % 2) 1) (Refused (InvalidFlags (m .flags))) flags (lit< tt)
@@ -173,3 +151,27 @@ asked-early h end m =
     (frame-early (m .frame .0) (m .region .end .0 - m .region .start .0)))
     (lit< tt)))
     (lit< tt)
+
+-- ---- what refusals 1 to 8 leave, whatever the call
+
+-- `refused` is the call's answer for a refusal, `verdict` what refusals 2 to 7 say
+pub record Answers (h : Handle) (s : St) {X : Type 0} (refused : Refusal → X) (verdict : Outcome) (answer : X) : Type 0 where
+  pub misshaped : shaped h s ≡ false → refused Shape ≡ answer
+  pub stopped : shaped h s ≡ true → (r : Refusal) → verdict ≡ Refused r → refused r ≡ answer
+  pub unsound : shaped h s ≡ true → verdict ≡ Accepted → soundb h s ≡ false → refused Unsound ≡ answer
+  pub early : Early verdict
+
+-- what is answered otherwise than by refusals 1 to 8 was left by them
+pub left-by : {h : Handle} {s : St} {X : Type 0} {refused : Refusal → X} {verdict : Outcome} {answer : X}
+    → Answers h s refused verdict answer → ((r : Refusal) → number r < 9 → refused r ≡ answer → ⊥)
+    → Shaped h s × (verdict ≡ Accepted) × SoundPool h s
+left-by {h} {s} {refused = refused} {verdict = verdict} {answer = answer} answers later =
+    byBool (shaped h s) (λ e. asks e verdict refl (answers .early)) (λ e. absurd (later Shape (lit< tt) (answers .misshaped e)))
+  where
+    asks : shaped h s ≡ true → (y : Outcome) → verdict ≡ y → Early y → Shaped h s × (verdict ≡ Accepted) × SoundPool h s
+    asks e Accepted ok early =
+        let shape = shaped-says h s (rw e tt) in
+        byBool (soundb h s)
+        (λ sound. (shape, ok, decide-sound shape (rw sound tt)))
+        (λ unsound. absurd (later Unsound (lit< tt) (answers .unsound e ok unsound)))
+    asks e (Refused r) q early = absurd (later r (omega arith) (answers .stopped e r q))

@@ -5,29 +5,25 @@ use mathlib.Core.Bool.{true}
 use mathlib.Core.Logic.{_⊎_, inl, inr}
 use Prim.Native.Nat.{ℕ, _≤_, _<_}
 use native.Mathlib.Omega.{arith}
-use lib.Dec.{lit<}
-use Rattle.laws.specs.Test.{byBool, is-true, le-or}
-use Rattle.pool.specs.State.{St, tables}
+use Rattle.laws.specs.Test.{is-true, le-or}
+use Rattle.pool.specs.State.{St}
 use Rattle.pool.specs.Number.{used, free}
-use Rattle.pool.specs.Refuse.{number, shaped, Shaped, shaped-says, says-shaped, shaped-keep, Out, out}
+use Rattle.pool.specs.Refuse.{number, shaped, says-shaped, Out, out}
 use Rattle.pool.specs.Sound.{soundb}
 use Rattle.pool.specs.declared.Handle.{Handle}
 use Rattle.pool.specs.declared.Refusal.{Refusal}
-use Rattle.pool.specs.declared.Refusal.the-variants.{Shape, Unsound, WantOfRoom}
-use Rattle.pool.specs.declared.Outcome.{Outcome}
-use Rattle.pool.specs.declared.Outcome.the-variants.{Accepted, Refused}
+use Rattle.pool.specs.declared.Refusal.the-variants.{WantOfRoom}
+use Rattle.pool.specs.declared.Outcome.the-variants.{Refused}
 use Rattle.pool.specs.declared.Counted.{Counted}
 use Rattle.pool.specs.declared.Counted.the-variants as counted
 use Rattle.map_rules.specs.declared.Map.{Map}
 use Rattle.map_count_spec.specs.Needed.{needed}
 use Rattle.map_put.specs.Put.{mapRange}
-use Rattle.map_verify.specs.Ask.{verifyMap}
 use Rattle.map_spec.specs.Call.{refused, mapSound, sound-not, sound-full, sound-mapped, put-down, call-misshaped, call-refused, call-asked}
 use Rattle.theory_forest.specs.Tree.{Tree}
-use Rattle.theory_sound.specs.Clauses.{SoundPool}
 use Rattle.theory_sound.specs.Codec.{shaped-placed, rootTree}
-use Rattle.theory_sound.specs.Decide.{decide-sound, sound-decide}
-use Rattle.theory_sound.specs.Generic.{sound-pool}
+use Rattle.theory_sound.specs.Decide.{sound-decide}
+use Rattle.theory_sound.specs.Step.{Ready, root-ready, Leaves, root-leaves}
 use Rattle.theory_tree.specs.Rules.{Given}
 use Rattle.theory_tree.specs.Document.{document-is}
 use Rattle.theory_tree.specs.Needed.{document-needs}
@@ -35,11 +31,11 @@ use Rattle.theory_tree.specs.Root.{mapTree, mapMade}
 use Rattle.theory_map.specs.Terms.{MapArguments, mapAnswer, Maps, mapAsked, MapPassed, depthOf, rootIn, mapPagesOf, treeAfterMap}
 use Rattle.theory_map.specs.Terms.{madeBy}
 use Rattle.theory_map.specs.Stand.{Allowed}
-use Rattle.theory_map.specs.Moves.{Ready, Worked, root-ready, root-node}
+use Rattle.theory_map.specs.Moves.{WorkedWithin, root-node}
 use Rattle.theory_map.specs.Pieces.{doneTable, takesTable, Area}
 use Rattle.theory_map.specs.Range.{range-works}
 use Rattle.theory_map.specs.Need.{needed-is}
-use Rattle.theory_map.specs.Asked.{asked-allowed, asked-area, Early, asked-early}
+use Rattle.theory_map.specs.Asked.{asked-allowed, asked-area, asked-early, left-by}
 
 -- the state that an accepted call leaves
 abbrev pub stateAfter : Handle → MapArguments → St → St
@@ -55,7 +51,7 @@ module _ {h : Handle} {c : MapArguments} {s : St} (passed : MapPassed h c s) whe
   pub area : Area (depthOf h) (rootIn h) m
   area = asked-area h (c .start) (c .end) (c .frame) (c .flags) (c .constraints) (passed .asks) (passed .shape .level)
 
-  ready : Ready (shaped-placed (passed .shape)) s (depthOf h) 0
+  ready : Ready h s (depthOf h) 0
   ready = root-ready (passed .shape) (passed .pool)
 
   pub given : Given (mapPagesOf c)
@@ -82,23 +78,14 @@ module _ {h : Handle} {c : MapArguments} {s : St} (passed : MapPassed h c s) whe
   -- ---- with room
 
   module _ (room : madeBy h c s ≤ free (s .ledger)) where
-    worked : Worked (shaped-placed (passed .shape)) s (stateAfter h c s) (depthOf h) 0 (doneTable m (depthOf h) (rootTree h s))
+    worked : WorkedWithin (shaped-placed (passed .shape)) s (stateAfter h c s) (depthOf h) 0 (doneTable m (depthOf h) (rootTree h s))
         (takesTable m (depthOf h) (rootTree h s))
     worked =
         range-works (shaped-placed (passed .shape)) (depthOf h) (omega arith) (rootIn h) 0 m s allowed area ready
         (omega (arith, takes-made))
 
-    pub after-shaped : Shaped h (stateAfter h c s)
-    after-shaped = shaped-keep h s (stateAfter h c s) (passed .shape) (worked .same-words) (worked .same-tables)
-
-    pub after-sound : SoundPool h (stateAfter h c s)
-    after-sound = sound-pool (shaped-placed (passed .shape)) (after-shaped .sized) (worked .work .over .sound)
-
-    pub after-tree : rootTree h (stateAfter h c s) ≡ treeAfterMap h c s
-    after-tree = worked .work .tree ∙ done-tree
-
-    pub after-tables : tables (stateAfter h c s) ≡ tables s
-    after-tables = worked .same-tables
+    pub after-call : Leaves h s (stateAfter h c s) (treeAfterMap h c s)
+    after-call = subst (Leaves h s (stateAfter h c s)) done-tree (root-leaves (passed .shape) (passed .pool) (worked .worked))
 
 -- ---- what the call answers
 
@@ -129,24 +116,17 @@ module _ {h : Handle} {c : MapArguments} {s : St} (passed : MapPassed h c s) whe
 passed-by : (h : Handle) (c : MapArguments) (s : St) {x : Out Counted} → mapAnswer h c s ≡ x
     → ((r : Refusal) → number r < 9 → refused r s ≡ x → ⊥) → MapPassed h c s
 passed-by h c s {x} is later =
-    byBool (shaped h s) shape
-    (λ e. absurd (later Shape (lit< tt) (call-misshaped h (c .start) (c .end) (c .frame) (c .flags) (c .constraints) s e ∙ is)))
-  where
-    pool : shaped h s ≡ true → verifyMap h (c .end) (mapAsked c) ≡ Accepted → MapPassed h c s
-    pool e ok =
-        let shape = shaped-says h s (rw e tt) in
-        let asked = call-asked h (c .start) (c .end) (c .frame) (c .flags) (c .constraints) s e refl ok in
-        byBool (soundb h s)
-        (λ sound. record { shape = shape; asks = ok; pool = decide-sound shape (rw sound tt) })
-        (λ unsound. absurd (later Unsound (lit< tt) (sound-not h (mapAsked c) s unsound ∙ asked ∙ is)))
-
-    asks : shaped h s ≡ true → (y : Outcome) → verifyMap h (c .end) (mapAsked c) ≡ y → Early y → MapPassed h c s
-    asks e Accepted q early = pool e q
-    asks e (Refused r) q early =
-        absurd (later r (omega arith) (call-refused h (c .start) (c .end) (c .frame) (c .flags) (c .constraints) s e refl r q ∙ is))
-
-    shape : shaped h s ≡ true → MapPassed h c s
-    shape e = asks e (verifyMap h (c .end) (mapAsked c)) refl (asked-early h (c .end) (mapAsked c))
+    let left = left-by
+    (record {
+      misshaped = λ e. call-misshaped h (c .start) (c .end) (c .frame) (c .flags) (c .constraints) s e ∙ is;
+      stopped = λ e r q. call-refused h (c .start) (c .end) (c .frame) (c .flags) (c .constraints) s e refl r q ∙ is;
+      unsound = λ e ok unsound. sound-not h (mapAsked c) s unsound
+          ∙ call-asked h (c .start) (c .end) (c .frame) (c .flags) (c .constraints) s e refl ok
+          ∙ is;
+      early = asked-early h (c .end) (mapAsked c);
+    })
+    later in
+    record { shape = left .0; asks = left .1; pool = left .2 }
 
 -- ---- refused 9
 
@@ -195,14 +175,5 @@ module _ {h : Handle} {c : MapArguments} {s s′ : St} {n : ℕ} (maps : Maps h 
       e ∙ ap (λ (x : St). used (x .ledger)) (sym call-state)
 
   -- the pool that it leaves
-  pub call-shaped : Shaped h s′
-  call-shaped = subst (Shaped h) (sym call-state) (after-shaped call-passed call-room)
-
-  pub call-sound : SoundPool h s′
-  call-sound = subst (SoundPool h) (sym call-state) (after-sound call-passed call-room)
-
-  pub call-tree : rootTree h s′ ≡ treeAfterMap h c s
-  call-tree = ap (rootTree h) call-state ∙ after-tree call-passed call-room
-
-  pub call-tables : tables s′ ≡ tables s
-  call-tables = ap (λ (x : St). tables x) call-state ∙ after-tables call-passed call-room
+  pub call-leaves : Leaves h s s′ (treeAfterMap h c s)
+  call-leaves = subst (λ (x : St). Leaves h s x (treeAfterMap h c s)) (sym call-state) (after-call call-passed call-room)

@@ -21,18 +21,19 @@ use Rattle.map_put.specs.Put.{mapRange}
 use Rattle.map_put.specs.Laws.{drop-table}
 use Rattle.map_put.specs.Range.{mapStep, chunk-write, chunk-keep, chunk-drop, chunk-into}
 use Rattle.theory_forest.specs.Tree.{Tree, leaf, node}
-use Rattle.theory_forest.specs.Sound.{TableWord, Refers}
-use Rattle.theory_forest.specs.Keep.{slot-leaf}
+use Rattle.theory_forest.specs.Sound.{Refers}
 use Rattle.theory_sound.specs.Clauses.{levelAt}
-use Rattle.theory_sound.specs.Codec.{Placed, codecOf, view, word-in, treeFrom}
+use Rattle.theory_sound.specs.Codec.{Placed, codecOf, view, treeFrom}
+use Rattle.theory_sound.specs.Step.{Ready}
+use Rattle.theory_sound.specs.Slot.{slotShows, HoldsLeaf, page-holds, SlotHolds, holds-table, holds-leaf, holds}
 use Rattle.theory_tree.specs.Visit.{down as goDown, opened, splits, fillTree}
 use Rattle.theory_tree.specs.Shown.{FineTree}
-use Rattle.theory_map.specs.Leaf.{slot-fine}
+use Rattle.theory_map.specs.Leaf.{slot-fine, holds-fine}
 use Rattle.theory_map.specs.Rule.{saysOf, LeafRule, keeps, writes, splits as leaf-splits, TableRule, drops, enters, page-rule}
 use Rattle.theory_map.specs.Rule.{leaf-rule, table-rule}
 use Rattle.theory_map.specs.Stand.{Allowed, Piece, write-stands}
-use Rattle.theory_map.specs.Moves.{slotShows, Ready, Slotted, Worked, kept, stored, dropped}
-use Rattle.theory_map.specs.Down.{SlotHolds, holds-table, holds-leaf, holds, opens}
+use Rattle.theory_map.specs.Moves.{StepWithin, WorkedWithin, kept, stored, dropped}
+use Rattle.theory_map.specs.Down.{opens}
 use Rattle.theory_map.specs.Pieces.{doneTo, takes, doneTable, takesTable, done-keep, done-write, done-down, takes-down, Area}
 use Rattle.theory_map.specs.Pieces.{piece-area}
 
@@ -52,13 +53,13 @@ module _ {h : Handle} (placed : Placed h) where
   -- a map of a table with `depth` levels below its own does on lists what it does on the table's tree
   abbrev pub Works : ℕ → Type 0
   Works depth =
-      (q k : ℕ) (m : Map) (s : St) → Allowed h (m .flags) → Area depth q m → Ready placed s depth k
+      (q k : ℕ) (m : Map) (s : St) → Allowed h (m .flags) → Area depth q m → Ready h s depth k
       → takesTable m depth (treeFrom h s depth k) ≤ free (s .ledger)
-      → Worked placed s (mapRange depth h k m s) depth k (doneTable m depth (treeFrom h s depth k))
+      → WorkedWithin placed s (mapRange depth h k m s) depth k (doneTable m depth (treeFrom h s depth k))
       (takesTable m depth (treeFrom h s depth k))
 
   module _ (q k : ℕ) (m : Map) (s : St) (depth : ℕ) (allowed : Allowed h (m .flags)) (piece : Piece depth q m)
-      (R : Ready placed s depth k) where
+      (R : Ready h s depth k) where
     abbrev pub level : ℕ
     level = 3 - depth
 
@@ -70,36 +71,30 @@ module _ {h : Handle} (placed : Placed h) where
 
     -- what is to be shown, if the slot shows t
     abbrev pub Done : Tree → Type 0
-    Done t = Slotted placed s (mapStep h k level m s) depth k i (doneTo m depth t) (takes m depth t)
+    Done t = StepWithin placed s (mapStep h k level m s) depth k i (doneTo m depth t) (takes m depth t)
 
     inside : i < 512
     inside = slot-below level (m .region .start .0)
 
-    fine : FineTree depth (slotShows h s depth k i)
-    fine = slot-fine placed (R .pool) depth k i (R .used) (R .low) inside
-
     -- ---- the slot holds no table
 
-    module _ (old : ¬ (TableWord (levelAt s k) w)) where
-      shows-leaf : slotShows h s depth k i ≡ leaf w
-      shows-leaf = slot-leaf (codecOf h placed) (view s) depth k i (R .low) (word-in s k i inside) old
-
+    module _ (plain : HoldsLeaf h s depth k i) where
       by-leaf : LeafRule level m depth w → (ruleOf level m w ≡ Down → saysOf m depth (leaf w) ≡ goDown → Done (leaf w)) → Done (leaf w)
       by-leaf (keeps r e) down =
-          subst₂ (λ (s′ : St) (t : Tree). Slotted placed s s′ depth k i t (takes m depth (leaf w)))
-          (chunk-keep h k level m s refl refl r) (shows-leaf ∙ sym (done-keep m depth (leaf w) e))
+          subst₂ (λ (s′ : St) (t : Tree). StepWithin placed s s′ depth k i t (takes m depth (leaf w)))
+          (chunk-keep h k level m s refl refl r) (plain .shows ∙ sym (done-keep m depth (leaf w) e))
           (kept placed R i (takes m depth (leaf w)))
       by-leaf (writes x r e) down =
-          subst₂ (λ (s′ : St) (t : Tree). Slotted placed s s′ depth k i t (takes m depth (leaf w)))
+          subst₂ (λ (s′ : St) (t : Tree). StepWithin placed s s′ depth k i t (takes m depth (leaf w)))
           (chunk-write h k level m s refl refl x r) (sym (done-write m depth x (leaf w) e))
-          (stored placed R i (takes m depth (leaf w)) x inside old
-          (write-stands h depth q (levelAt s k) x m (leaf w) allowed piece (R .low) (subst (FineTree depth) shows-leaf fine) e))
+          (stored placed R i (takes m depth (leaf w)) x inside (plain .plain)
+          (write-stands h depth q (levelAt s k) x m (leaf w) allowed piece (R .low) (holds-fine placed R i inside plain) e))
       by-leaf (leaf-splits r e) down = down r e
 
   -- ---- above the lowest level
 
   module _ (q k : ℕ) (m : Map) (s : St) (depth : ℕ) (works : Works depth) (allowed : Allowed h (m .flags)) (piece : Piece (suc depth) q m)
-      (R : Ready placed s (suc depth) k) where
+      (R : Ready h s (suc depth) k) where
     abbrev l : ℕ
     l = 3 - suc depth
 
@@ -110,7 +105,7 @@ module _ {h : Handle} (placed : Placed h) where
     x = wordAt s k j
 
     abbrev Goal : Tree → Type 0
-    Goal t = Slotted placed s (mapStep h k l m s) (suc depth) k j (doneTo m (suc depth) t) (takes m (suc depth) t)
+    Goal t = StepWithin placed s (mapStep h k l m s) (suc depth) k j (doneTo m (suc depth) t) (takes m (suc depth) t)
 
     slot : j < 512
     slot = slot-below l (m .region .start .0)
@@ -137,11 +132,11 @@ module _ {h : Handle} (placed : Placed h) where
         let W = works q (O .table) m (O .state) allowed (piece-area piece) (O .ready)
         (subst (λ (u : Tree). takesTable m depth u ≤ free (O .state .ledger)) (sym (O .shows)) (omega arith)) in
         let W′ = subst
-        (λ (u : Tree). Worked placed (O .state) (mapRange depth h (O .table) m (O .state)) depth (O .table) (doneTable m depth u)
+        (λ (u : Tree). WorkedWithin placed (O .state) (mapRange depth h (O .table) m (O .state)) depth (O .table) (doneTable m depth u)
         (takesTable m depth u))
         (O .shows) W in
-        subst (λ (s′ : St). Slotted placed s s′ (suc depth) k j (doneTo m (suc depth) t) (takes m (suc depth) t)) (goes-in r (O .found))
-        (subst₂ (λ (u : Tree) (c : ℕ). Slotted placed s (mapRange depth h (O .table) m (O .state)) (suc depth) k j u c)
+        subst (λ (s′ : St). StepWithin placed s s′ (suc depth) k j (doneTo m (suc depth) t) (takes m (suc depth) t)) (goes-in r (O .found))
+        (subst₂ (λ (u : Tree) (c : ℕ). StepWithin placed s (mapRange depth h (O .table) m (O .state)) (suc depth) k j u c)
         (sym (done-down m depth t e)) (sym all) (O .back W′))
 
     -- ---- a table
@@ -154,13 +149,13 @@ module _ {h : Handle} (placed : Placed h) where
           → takes m (suc depth) (slotShows h s (suc depth) k j) ≤ free (s .ledger)
           → Goal (slotShows h s (suc depth) k j)
       by-table shows (drops rule says) room =
-          let fine = subst (FineTree (suc depth)) shows (slot-fine placed (R .pool) (suc depth) k j (R .used) (R .low) slot) in
+          let fine = subst (FineTree (suc depth)) shows (slot-fine placed R j slot) in
           let put : freeTree depth h e (storeAt k j (m .flags) s) ≡ mapStep h k l m s =
           ap (λ (d : ℕ). freeTree d h e (storeAt k j (m .flags) s)) (sym last)
           ∙ drop-table h l x (storeAt k j (m .flags) s) refl e leads
           ∙ chunk-drop h k l m s refl refl (m .flags) rule in
           subst Goal (sym shows)
-          (subst₂ (λ (s′ : St) (t : Tree). Slotted placed s s′ (suc depth) k j t (takes m (suc depth) (node g))) put
+          (subst₂ (λ (s′ : St) (t : Tree). StepWithin placed s s′ (suc depth) k j t (takes m (suc depth) (node g))) put
           (sym (done-write m (suc depth) (m .flags) (node g) says))
           (dropped placed R j slot (takes m (suc depth) (node g)) (m .flags) r
           (write-stands h (suc depth) q (levelAt s k) (m .flags) m (node g) allowed piece (R .low) fine says)))
@@ -172,27 +167,28 @@ module _ {h : Handle} (placed : Placed h) where
         go : SlotHolds placed s depth k j → Goal (slotShows h s (suc depth) k j)
         go (holds-table e r both leads shows) =
             by-table e r leads shows (table-rule m depth x (omega (arith, R .low)) (λ i. slotShows h s depth e i) both) room
-        go (holds-leaf old other shows) =
-            subst Goal (sym shows) (by-leaf q k m s (suc depth) allowed piece R old (leaf-rule m depth x (omega (arith, R .low)) other)
+        go (holds-leaf other plain) =
+            let shows = plain .shows in
+            subst Goal (sym shows) (by-leaf q k m s (suc depth) allowed piece R plain (leaf-rule m depth x (omega (arith, R .low)) other)
             (λ r e. subst Goal shows (by-down room r (ap (saysOf m (suc depth)) shows ∙ e))))
 
   -- ---- ONE CHUNK
 
   abbrev pub ChunkWorks : ℕ → Type 0
   ChunkWorks depth =
-      (q k : ℕ) (m : Map) (s : St) → Allowed h (m .flags) → Piece depth q m → Ready placed s depth k
+      (q k : ℕ) (m : Map) (s : St) → Allowed h (m .flags) → Piece depth q m → Ready h s depth k
       → let i = entryIndex (3 - depth) (m .region .start .0) in
       takes m depth (slotShows h s depth k i) ≤ free (s .ledger)
-      → Slotted placed s (mapStep h k (3 - depth) m s) depth k i (doneTo m depth (slotShows h s depth k i))
+      → StepWithin placed s (mapStep h k (3 - depth) m s) depth k i (doneTo m depth (slotShows h s depth k i))
       (takes m depth (slotShows h s depth k i))
 
   -- at the lowest level nothing goes down
   pub page-works : ChunkWorks 0
   page-works q k m s allowed piece R room =
       let x : ℕ = wordAt s k (entryIndex 3 (m .region .start .0)) in
-      let old : ¬ (TableWord (levelAt s k) x) = λ table. omega (arith, R .low, table .0) in
-      subst (Done q k m s 0 allowed piece R) (sym (shows-leaf q k m s 0 allowed piece R old))
-      (by-leaf q k m s 0 allowed piece R old (page-rule m x) (λ r e. absurd (never x r)))
+      let plain = page-holds placed R (i q k m s 0 allowed piece R) (inside q k m s 0 allowed piece R) in
+      subst (Done q k m s 0 allowed piece R) (sym (plain .shows))
+      (by-leaf q k m s 0 allowed piece R plain (page-rule m x) (λ r e. absurd (never x r)))
     where
       never : (x : ℕ) → ruleOf 3 m x ≡ Down → ⊥
       never x r = let z : _≡_ {A = ℕ} 0 1 = cc (rule-page 3 m x (omega arith), r) in omega arith

@@ -8,16 +8,17 @@ use Rattle.laws.specs.Bit.{SubBits}
 use Rattle.laws.specs.Size.{sizeAt}
 use Rattle.entry.specs.Word.{addressOf, el1Flags, plainFlags}
 use Rattle.pool.specs.State.{St, wordAt}
-use Rattle.pool.specs.Number.{levelOf, rootNumber}
+use Rattle.pool.specs.Number.{levelOf}
 use Rattle.pool.specs.Sound.{flagSet, leafb}
 use Rattle.pool.specs.declared.Handle.{Handle}
-use Rattle.theory_forest.specs.Tree.{treeAt-node, entry}
+use Rattle.theory_forest.specs.Tree.{treeAt-node}
 use Rattle.theory_forest.specs.Sound.{TableWord}
 use Rattle.theory_sound.specs.Clauses.{InUse, levelAt, LeafWord, SoundPool}
 use Rattle.theory_sound.specs.Codec.{Placed, codecOf, childOf, slotWord, treeFrom, rootTree}
 use Rattle.theory_sound.specs.Generic.{leaf-says, pool-sound}
-use Rattle.theory_sound.specs.Hanging.{root-left}
-use Rattle.theory_sound.specs.Step.{Stands}
+use Rattle.theory_sound.specs.Hanging.{root-used, root-left}
+use Rattle.theory_sound.specs.Step.{Stands, Ready}
+use Rattle.theory_sound.specs.Slot.{slotShows, HoldsLeaf}
 use Rattle.theory_tree.specs.Page.{pagesIn, entry-rest}
 use Rattle.theory_tree.specs.Word.{frameIn, address-frame}
 use Rattle.theory_tree.specs.Fine.{Fine, sound-fine}
@@ -43,19 +44,18 @@ module _ {h : Handle} (placed : Placed h) {s : St} (P : SoundPool h s) where
   pub table-fine : (depth k : ℕ) → InUse s k → levelAt s k + depth ≡ 3 → FineTable depth (treeFrom h s depth k)
   table-fine depth k used low = tree-fine {C = codecOf h placed} (pool-sound placed P) good depth k used low
 
-  -- slot by slot
-  pub slot-fine : (depth k i : ℕ) → InUse s k → levelAt s k + depth ≡ 3 → i < 512
-      → FineTree depth (entry (childOf (h .base .0)) depth (slotWord s) (slotWord s k i))
-  slot-fine depth k i used low inside =
-      subst (FineTable depth) (treeAt-node (childOf (h .base .0)) depth (slotWord s) k) (table-fine depth k used low) i inside
-
-  -- the root is in use
-  pub root-used : InUse s 0
-  unfolding rootNumber
-  root-used = omega (arith, P .root)
-
   pub root-fine : FineTable (3 - h .level) (rootTree h s)
-  root-fine = table-fine (3 - h .level) 0 root-used (root-left placed P)
+  root-fine = table-fine (3 - h .level) 0 (root-used P) (root-left placed P)
+
+module _ {h : Handle} (placed : Placed h) {s : St} {depth k : ℕ} (R : Ready h s depth k) (i : ℕ) (inside : i < 512) where
+  -- slot by slot
+  pub slot-fine : FineTree depth (slotShows h s depth k i)
+  slot-fine =
+      subst (FineTable depth) (treeAt-node (childOf (h .base .0)) depth (slotWord s) k)
+      (table-fine placed (R .pool) depth k (R .used) (R .low)) i inside
+
+  pub holds-fine : HoldsLeaf h s depth k i → Fine depth (wordAt s k i)
+  holds-fine plain = subst (FineTree depth) (plain .shows) slot-fine
 
 -- the flags of a leaf are from the set
 pub leaf-from : {h : Handle} {s : St} → SoundPool h s → (k i : ℕ) → i < 512 → InUse s k → ¬ (TableWord (levelAt s k) (wordAt s k i))

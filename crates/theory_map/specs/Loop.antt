@@ -1,6 +1,6 @@
 -- Something done with each chunk of a table's region, one after the other: where each does on lists what it does on the tree of its slot,
 -- all of them do so on the table's tree, with no more tables than the tree's count.
-use mathlib.Core.Path.{_≡_, refl, sym, ap, _∙_}
+use mathlib.Core.Path.{_≡_, sym, ap, _∙_}
 use mathlib.Core.Bool.{true, false, cond}
 use mathlib.Core.List.{List, [], _∷_}
 use mathlib.Core.Logic.{_⊎_, inl, inr, _≢_}
@@ -21,11 +21,14 @@ use Rattle.theory_forest.specs.Place.{at-over, over-trans}
 use Rattle.theory_forest.specs.Move.{work-skip}
 use Rattle.theory_sound.specs.Codec.{Placed, childOf, slotWord, view, treeFrom}
 use Rattle.theory_sound.specs.Generic.{pool-sound}
+use Rattle.theory_sound.specs.Lists.{size-refl, size-trans}
+use Rattle.theory_sound.specs.Step.{Ready, step-ready}
+use Rattle.theory_sound.specs.Slot.{slotShows}
 use Rattle.theory_tree.specs.Page.{child}
 use Rattle.theory_tree.specs.Chunks.{atSlot, sweep, index-slot}
 use Rattle.theory_tree.specs.Needed.{slotTree, tallied}
 use Rattle.theory_map.specs.Stand.{Piece}
-use Rattle.theory_map.specs.Moves.{slotShows, Ready, Slotted, Worked, slotted-ready}
+use Rattle.theory_map.specs.Moves.{StepWithin, WorkedWithin}
 use Rattle.theory_map.specs.Pieces.{slotAt, Pieces, tallied-from}
 
 -- a table's slot
@@ -41,8 +44,8 @@ through f (c ∷ cs) frame x = through f cs (frame + (c .end .0 - c .start .0)) 
 module _ {h : Handle} (placed : Placed h) where
   -- ---- a table after a step at one of its slots
 
-  module _ {s s′ : St} {depth k i cost : ℕ} (change : Tree → Tree) (R : Ready placed s depth k)
-      (S : Slotted placed s s′ depth k i (change (slotShows h s depth k i)) cost) where
+  module _ {s s′ : St} {depth k i cost : ℕ} (change : Tree → Tree) (R : Ready h s depth k)
+      (S : StepWithin placed s s′ depth k i (change (slotShows h s depth k i)) cost) where
     others : (j : ℕ) → j ≢ i → slotShows h s′ depth k j ≡ slotShows h s depth k j
     others j other = change-slot (pool-sound placed (R .pool)) (view s′) depth (S .step .move .at .words) (R .used) (R .low) other
 
@@ -68,15 +71,16 @@ module _ {h : Handle} (placed : Placed h) where
     -- each chunk does on lists what it does on the tree of its slot
     abbrev pub EachWorks : Type 0
     EachWorks =
-        (c : MemoryRegion) (p : ℕ) (x : S) → Piece depth (child q (slotAt depth c)) (chunkMap m c p) → Ready placed (stateOf x) depth k
+        (c : MemoryRegion) (p : ℕ) (x : S) → Piece depth (child q (slotAt depth c)) (chunkMap m c p) → Ready h (stateOf x) depth k
         → let i = entryIndex (3 - depth) (c .start .0) in let t = slotShows h (stateOf x) depth k i in
-        count c p t ≤ free (stateOf x .ledger) → Slotted placed (stateOf x) (stateOf (each c p x)) depth k i (eachTree c p t) (count c p t)
+        count c p t ≤ free (stateOf x .ledger)
+        → StepWithin placed (stateOf x) (stateOf (each c p x)) depth k i (eachTree c p t) (count c p t)
 
     -- the first chunk of some done: what the others find
     pub record Stepped (c : MemoryRegion) (cs : List MemoryRegion) (p : ℕ) (x : S) : Type 0 where
       pub slotted : let i = entryIndex (3 - depth) (c .start .0) in let u = slotShows h (stateOf x) depth k i in
-          Slotted placed (stateOf x) (stateOf (each c p x)) depth k i (eachTree c p u) (count c p u)
-      pub ready : Ready placed (stateOf (each c p x)) depth k
+          StepWithin placed (stateOf x) (stateOf (each c p x)) depth k i (eachTree c p u) (count c p u)
+      pub ready : Ready h (stateOf (each c p x)) depth k
       pub same : (j : ℕ) → suc (slotAt depth c) ≤ j
           → slotTree (treeFrom h (stateOf (each c p x)) depth k) j ≡ slotTree (treeFrom h (stateOf x) depth k) j
       pub rest : let p′ = p + (c .end .0 - c .start .0) in
@@ -85,7 +89,7 @@ module _ {h : Handle} (placed : Placed h) where
           ≤ free (stateOf (each c p x) .ledger)
 
     pub stepped : depth ≤ 3 → EachWorks → (c : MemoryRegion) (cs : List MemoryRegion) (a p : ℕ) (x : S) → Pieces depth q m a p (c ∷ cs)
-        → Ready placed (stateOf x) depth k
+        → Ready h (stateOf x) depth k
         → tallied depth count (c ∷ cs) p (treeFrom h (stateOf x) depth k) ≤ free (stateOf x .ledger) → Stepped c cs p x
     unfolding tallied
     stepped low works c cs a p x all R room =
@@ -95,7 +99,7 @@ module _ {h : Handle} (placed : Placed h) where
         let t : Tree = treeFrom h s depth k in
         let s₁ : St = stateOf (each c p x) in
         let here : count c p (slotTree t i) ≡ count c p (slotShows h s depth k i) = ap (count c p) (slot-of h s depth k i) in
-        let S : Slotted placed s s₁ depth k i (eachTree c p (slotShows h s depth k i)) (count c p (slotShows h s depth k i)) =
+        let S : StepWithin placed s s₁ depth k i (eachTree c p (slotShows h s depth k i)) (count c p (slotShows h s depth k i)) =
         works c p x (all .0 .piece) R (omega arith) in
         let index = index-slot depth (c .start .0) low in
         let same : (j : ℕ) → suc (slotAt depth c) ≤ j → slotTree (treeFrom h s₁ depth k) j ≡ slotTree t j =
@@ -103,16 +107,16 @@ module _ {h : Handle} (placed : Placed h) where
         let rest : tallied depth count cs p′ (treeFrom h s₁ depth k) ≡ tallied depth count cs p′ t =
         tallied-from depth q m low count cs (suc (slotAt depth c)) p′ (treeFrom h s₁ depth k) t (all .1) same in
         let spare = S .spare in
-        record { slotted = S; ready = slotted-ready placed R S; same = same; rest = rest; room = omega arith }
+        record { slotted = S; ready = step-ready R (S .step); same = same; rest = rest; room = omega arith }
 
     pub loop : depth ≤ 3 → EachWorks → (cs : List MemoryRegion) (a p : ℕ) (x : S) → Pieces depth q m a p cs
-        → Ready placed (stateOf x) depth k
+        → Ready h (stateOf x) depth k
         → let t = treeFrom h (stateOf x) depth k in
         tallied depth count cs p t ≤ free (stateOf x .ledger)
-        → Worked placed (stateOf x) (stateOf (through each cs p x)) depth k (sweep depth eachTree cs p t) (tallied depth count cs p t)
+        → WorkedWithin placed (stateOf x) (stateOf (through each cs p x)) depth k (sweep depth eachTree cs p t) (tallied depth count cs p t)
     unfolding through sweep tallied
     loop low works [] a p x all R room =
-        record { work = work-skip (pool-sound placed (R .pool)) depth k; same-tables = refl; same-words = refl; spare = omega arith }
+        record { worked = record { work = work-skip (pool-sound placed (R .pool)) depth k; size = size-refl }; spare = omega arith }
     loop low works (c ∷ cs) a p x all R room =
         let p′ : ℕ = p + (c .end .0 - c .start .0) in
         let first = stepped low works c cs a p x all R room in
@@ -121,11 +125,12 @@ module _ {h : Handle} (placed : Placed h) where
         let sound = pool-sound placed (R .pool) in
         let here = ap (count c p) (slot-of h (stateOf x) depth k (entryIndex (3 - depth) (c .start .0))) in
         record {
-          work = record {
-            over = over-trans sound (at-over sound (R .used) (S .step .move .at)) (W .work .over);
-            tree = W .work .tree ∙ ap (sweep depth eachTree cs p′) (table-after (eachTree c p) R S);
+          worked = record {
+            work = record {
+              over = over-trans sound (at-over sound (R .used) (S .step .move .at)) (W .worked .work .over);
+              tree = W .worked .work .tree ∙ ap (sweep depth eachTree cs p′) (table-after (eachTree c p) R S);
+            };
+            size = size-trans (S .step .size) (W .worked .size);
           };
-          same-tables = W .same-tables ∙ S .step .same-tables;
-          same-words = W .same-words ∙ S .step .same-words;
           spare = omega (arith, S .spare, W .spare, first .rest, here);
         }

@@ -4,7 +4,7 @@
 use mathlib.Core.Path.{_≡_, refl, sym, ap, _∙_}
 use mathlib.Core.List.{List, [], _∷_, map, List·Permᴰ·swap, Permᴰ·symm}
 use mathlib.Core.Logic.{_↔_}
-use Prim.Native.Nat.{ℕ, suc, _+_, _/_, _%_, _≤_, _<_}
+use Prim.Native.Nat.{ℕ, _+_, _/_, _%_, _≤_, _<_}
 use native.Mathlib.Omega.{arith}
 use Rattle.entry.specs.Word.{valid-of, valid-none}
 use Rattle.pool.specs.State.{St}
@@ -16,24 +16,22 @@ use Rattle.pool.specs.declared.Counted.{Counted}
 use Rattle.pool.specs.declared.Counted.the-variants.{Refused}
 use Rattle.map_count_spec.specs.Needed.{needed}
 use Rattle.map_verify.specs.Ask.{askedMap}
-use Rattle.theory_forest.specs.Tree.{Tree}
-use Rattle.theory_forest.specs.Nodes.{nodes}
 use Rattle.theory_sound.specs.Clauses.{SoundPool}
 use Rattle.theory_sound.specs.Codec.{shaped-placed, rootTree}
 use Rattle.theory_sound.specs.Hanging.{used-tree}
+use Rattle.theory_sound.specs.Step.{leaves-used}
 use Rattle.theory_walk.specs.AsBefore.{walkOf, mapped, hole, shown}
-use Rattle.theory_tree.specs.Walk.{seen}
+use Rattle.theory_tree.specs.Shown.{FineTable}
 use Rattle.theory_tree.specs.Order.{Reorders, Each, Pairs, each-reorders, pairs-reorders, madeAll}
 use Rattle.theory_tree.specs.Demands.{region-mapped, region-holes, others-as-before, tables-after, valid-map-frees-none}
 use Rattle.theory_map.specs.Terms.{MapArguments, mapAnswer, Maps, mapAsked, Asks, ShapedSound, MapPassed, InMapRegion, frameFor}
-use Rattle.theory_map.specs.Terms.{Valid, RegionsApart, InTurn, next, InSpan, depthOf, rootIn, mapPagesOf, treeAfterMap}
+use Rattle.theory_map.specs.Terms.{Valid, RegionsApart, InTurn, next, InSpan, depthOf, rootIn, mapPagesOf}
 use Rattle.theory_map.specs.Terms.{madeBy, freedBy}
 use Rattle.theory_map.specs.Leaf.{root-fine}
-use Rattle.theory_map.specs.Shown.{inBytes, walk-shown}
+use Rattle.theory_map.specs.Shown.{inBytes, walk-shown, leaves-shown}
 use Rattle.theory_map.specs.Call.{stateAfter, given, needed-made, call-full, call-maps, full-passed, full-more, call-passed}
-use Rattle.theory_map.specs.Call.{call-room, call-count, call-shaped, call-sound}
-use Rattle.theory_map.specs.Call.{call-tree}
-use Rattle.theory_map.specs.Place.{region-page, page-region, region-spans, frame-is, span-spans}
+use Rattle.theory_map.specs.Call.{call-room, call-count, call-leaves}
+use Rattle.theory_map.specs.Place.{region-paged, frame-is, span-spans}
 use Rattle.theory_map.specs.Order.{apart-flip, order-accepted, order-walks, order-tables, order-shown, turn-enough}
 
 -- ---- DEMAND 2
@@ -41,56 +39,45 @@ use Rattle.theory_map.specs.Order.{apart-flip, order-accepted, order-wal
 module _ {h : Handle} {c : MapArguments} {s s′ : St} {n : ℕ} (maps : Maps h c s n s′) where
   -- the pool is sound afterwards;
   pub map-keeps-sound : SoundPool h s′
-  map-keeps-sound = call-sound maps
+  map-keeps-sound = call-leaves maps .pool
 
-  -- what is shown afterwards
-  after-shown : (va : ℕ) → shown (walkOf h s′ va) ≡ inBytes (seen (suc (depthOf h)) (treeAfterMap h c s) (va / 4096))
-  after-shown va =
-      walk-shown (call-shaped maps) (call-sound maps) va
-      ∙ ap (λ (t : Tree). inBytes (seen (suc (depthOf h)) t (va / 4096))) (call-tree maps)
+  passed : MapPassed h c s
+  passed = call-passed maps
+
+  fine : FineTable (depthOf h) (rootTree h s)
+  fine = root-fine (shaped-placed (passed .shape)) (passed .pool)
 
   module _ (va : ℕ) where
     -- each page of the region walks to its frame and flags;
     pub map-region-walks : InMapRegion c va → Valid c → shown (walkOf h s′ va) ≡ mapped (c .flags) (frameFor c va)
     unfolding askedMap inBytes
     map-region-walks at v =
-        let passed = call-passed maps in
-        after-shown va
-        ∙ ap inBytes
-        (region-mapped (depthOf h) (rootIn h) (rootTree h s) (root-fine (shaped-placed (passed .shape)) (passed .pool)) (mapPagesOf c)
-        (given passed) (va / 4096)
-        (region-spans passed va at) (region-page passed va at) (valid-of (c .flags) v))
+        leaves-shown (call-leaves maps) va
+        (region-mapped (depthOf h) (rootIn h) (rootTree h s) fine (mapPagesOf c) (given passed) (va / 4096)
+        (region-paged passed .spans va at) (region-paged passed .page va at) (valid-of (c .flags) v))
         ∙ ap (mapped (c .flags)) (frame-is passed va at)
 
-    -- without VALID it is a hole with the call's flags;
+    -- without VALID each page of the region is a hole with the call's flags;
     pub map-region-holes : InMapRegion c va → c .flags % 2 ≡ 0 → shown (walkOf h s′ va) ≡ hole (c .flags)
     unfolding askedMap inBytes
     map-region-holes at v =
-        let passed = call-passed maps in
-        after-shown va
-        ∙ ap inBytes
-        (region-holes (depthOf h) (rootIn h) (rootTree h s) (root-fine (shaped-placed (passed .shape)) (passed .pool)) (mapPagesOf c)
-        (given passed) (va / 4096)
-        (region-spans passed va at) (region-page passed va at) (valid-none (c .flags) v))
+        leaves-shown (call-leaves maps) va
+        (region-holes (depthOf h) (rootIn h) (rootTree h s) fine (mapPagesOf c) (given passed) (va / 4096)
+        (region-paged passed .spans va at) (region-paged passed .page va at) (valid-none (c .flags) v))
 
     -- every other address of the span walks as before;
     pub map-elsewhere-as-before : InSpan h va → ¬ (InMapRegion c va) → shown (walkOf h s′ va) ≡ shown (walkOf h s va)
     map-elsewhere-as-before at other =
-        let passed = call-passed maps in
-        after-shown va
-        ∙ ap inBytes
-        (others-as-before (depthOf h) (rootIn h) (rootTree h s) (root-fine (shaped-placed (passed .shape)) (passed .pool))
-        (mapPagesOf c) (given passed) (va / 4096)
-        (span-spans h va (passed .shape .level) at) (λ of. other (page-region passed va of)))
+        leaves-shown (call-leaves maps) va
+        (others-as-before (depthOf h) (rootIn h) (rootTree h s) fine (mapPagesOf c) (given passed) (va / 4096)
+        (span-spans h va (passed .shape .level) at) (λ of. other (region-paged passed .address va of)))
         ∙ sym (walk-shown (passed .shape) (passed .pool) va)
 
   -- the answer is the tables in use afterwards: those before, with those made, less those freed
   pub map-tables-in-use : (n ≡ used (s′ .ledger)) × (used (s′ .ledger) + freedBy h c s ≡ used (s .ledger) + madeBy h c s)
   map-tables-in-use =
-      let passed = call-passed maps in
       let before = used-tree (passed .shape) (passed .pool) in
-      let after = used-tree (call-shaped maps) (call-sound maps) in
-      let tree = ap nodes (call-tree maps) in
+      let after = leaves-used (call-leaves maps) in
       let count = tables-after (depthOf h) (rootIn h) (rootTree h s) (mapPagesOf c) in
       (call-count maps, omega arith)
 
@@ -133,14 +120,14 @@ module _ (h : Handle) (c : MapArguments) (s : St) where
 -- ---- DEMAND 3: VALID calls whose regions share no page
 
 pub record EitherOrder (h : Handle) (cs ds : List MapArguments) (s : St) : Type 0 where
-  -- all are accepted in one order exactly when all are in the other;
+  -- all are accepted in one order exactly when all are in the other
   pub accepted : ((s′ : St) × InTurn h cs s s′) ↔ ((t′ : St) × InTurn h ds s t′)
-  -- then every address has the same walk answer, level included,
+  -- after either order every address has the same walk answer, level included
   pub walks : (s′ t′ : St) → InTurn h cs s s′ → InTurn h ds s t′ → (va : ℕ) → walkOf h s′ va ≡ walkOf h t′ va
-  -- and equally many tables are in use
+  -- after either order equally many tables are in use
   pub tables : (s′ t′ : St) → InTurn h cs s s′ → InTurn h ds s t′ → used (s′ .ledger) ≡ used (t′ .ledger)
 
--- any number of them, in any order (Q-13), in a pool that refusals 1 and 8 leave;
+-- any number of VALID calls, in any order (Q-13), in a pool that refusals 1 and 8 leave
 pub maps-any-order : (h : Handle) (cs ds : List MapArguments) (s : St) → ShapedSound h s → Reorders cs ds → Pairs RegionsApart cs
     → Each Valid cs → EitherOrder h cs ds s
 maps-any-order h cs ds s law reorders apart valid = record {
@@ -153,7 +140,7 @@ maps-any-order h cs ds s law reorders apart valid = record {
   tables = λ s′ t′ turn turn′. order-tables law reorders apart turn turn′ valid;
 }
 
--- two of them, whatever the pool
+-- two VALID calls, whatever the pool
 pub maps-commute : (h : Handle) (c d : MapArguments) (s : St) → RegionsApart c d → Valid c → Valid d
     → EitherOrder h (c ∷ d ∷ []) (d ∷ c ∷ []) s
 maps-commute h c d s apart vc vd = record {

@@ -1,17 +1,16 @@
 -- Refusal 9's count on lists is the count on trees: the new tables that the document's loop takes.
-use mathlib.Core.Path.{_≡_, refl, sym, ap, ap₂, subst, _∙_}
+use mathlib.Core.Path.{_≡_, refl, sym, ap, ap₂, _∙_}
 use mathlib.Core.List.{List, [], _∷_}
-use mathlib.Core.Logic.{_⊎_, inl, inr, _≢_}
+use mathlib.Core.Logic.{_≢_}
 use Prim.Native.Nat.{ℕ, zero, suc, _+_, _-_, _%_, _≤_, _<_}
 use native.Mathlib.Omega.{arith}
 use lib.ListN.{getD}
-use Rattle.laws.specs.Test.{eq-or}
-use Rattle.entry.specs.Sub.{subOf, sub-leaf, sub-link}
+use Rattle.entry.specs.Sub.{subOf}
 use Rattle.entry.specs.declared.Sub.the-variants.{Table, Leaf}
 use Rattle.address_slot.specs.Slot.{entryIndex}
 use Rattle.region.specs.Chunks.{chunks}
 use Rattle.region.specs.declared.MemoryRegion.{MemoryRegion}
-use Rattle.pool.specs.State.{St, tables, wordAt, used-in}
+use Rattle.pool.specs.State.{St, tables, wordAt}
 use Rattle.pool.specs.declared.Handle.{Handle}
 use Rattle.map_rules.specs.declared.Map.{Map}
 use Rattle.map_rules.specs.declared.Rule.{Rule}
@@ -21,20 +20,17 @@ use Rattle.map_count_spec.specs.Needed.{ifDown, sumOf, sumChunks, childWord, ne
 use Rattle.map_count_spec.specs.Needed.{slot-below}
 use Rattle.theory_forest.specs.Tree.{Tree, leaf, node, treeAt-node}
 use Rattle.theory_forest.specs.Sound.{Refers}
-use Rattle.theory_forest.specs.Frame.{slot-refers}
-use Rattle.theory_forest.specs.Keep.{slot-leaf}
-use Rattle.theory_sound.specs.Codec.{Placed, codecOf, childOf, slotWord, view, word-in, treeFrom}
-use Rattle.theory_sound.specs.Generic.{pool-sound}
+use Rattle.theory_sound.specs.Codec.{Placed, codecOf, childOf, slotWord, view, treeFrom}
+use Rattle.theory_sound.specs.Step.{Ready, refers-ready}
+use Rattle.theory_sound.specs.Slot.{slotShows, HoldsLeaf, SlotHolds, holds-table, holds-leaf, holds}
 use Rattle.theory_tree.specs.Word.{fillWord}
 use Rattle.theory_tree.specs.Fine.{Fine, fine-fill}
 use Rattle.theory_tree.specs.Visit.{keep, write, counted, fillTree}
 use Rattle.theory_tree.specs.Slots.{fill-node, fill-slot}
-use Rattle.theory_tree.specs.Shown.{FineTree}
 use Rattle.theory_tree.specs.Needed as trees
 use Rattle.theory_tree.specs.Document.{documentRule}
-use Rattle.theory_map.specs.Leaf.{slot-fine}
+use Rattle.theory_map.specs.Leaf.{holds-fine}
 use Rattle.theory_map.specs.Rule.{saysOf, LeafRule, keeps, writes, splits, TableRule, drops, enters, leaf-rule, table-rule, fill-at}
-use Rattle.theory_map.specs.Moves.{slotShows, Ready, entered-ready}
 use Rattle.theory_map.specs.Pieces.{takes, takesTable}
 use Rattle.theory_map.specs.Chunk.{takes-split, takes-enter}
 use Rattle.theory_map.specs.Loop.{slot-of}
@@ -155,9 +151,9 @@ module _ {h : Handle} (placed : Placed h) where
   -- what is known of the tables one level down
   abbrev Counts : ℕ → Type 0
   Counts depth =
-      (k : ℕ) (m : Map) (s : St) → Ready placed s depth k → needTable neededLeaf depth h s k m ≡ takesTable m depth (treeFrom h s depth k)
+      (k : ℕ) (m : Map) (s : St) → Ready h s depth k → needTable neededLeaf depth h s k m ≡ takesTable m depth (treeFrom h s depth k)
 
-  module _ (depth k : ℕ) (m : Map) (s : St) (R : Ready placed s (suc depth) k) (counts : Counts depth) where
+  module _ (depth k : ℕ) (m : Map) (s : St) (R : Ready h s (suc depth) k) (counts : Counts depth) where
     abbrev level : ℕ
     level = 3 - suc depth
 
@@ -176,51 +172,32 @@ module _ {h : Handle} (placed : Placed h) where
     abbrev needs : ℕ
     needs = needChunk (λ j n. needTable neededLeaf depth h s j n) (λ c y. neededLeaf (suc depth) c y) h s k level m
 
-    by-leaf : x % 4 ≢ 3 → needs ≡ takes m (suc depth) (slotShows h s (suc depth) k i)
-    by-leaf other = go (leaf-rule m depth x low other) ∙ ap (takes m (suc depth)) (sym shows)
+    by-leaf : x % 4 ≢ 3 → HoldsLeaf h s (suc depth) k i → needs ≡ takes m (suc depth) (slotShows h s (suc depth) k i)
+    by-leaf other plain = go (leaf-rule m depth x low other) ∙ ap (takes m (suc depth)) (sym (plain .shows))
       where
-        shows : slotShows h s (suc depth) k i ≡ leaf x
-        shows = slot-leaf (codecOf h placed) (view s) (suc depth) k i (R .low) (word-in s k i inside) (λ table. other (table .1))
-
-        fine : Fine (suc depth) x
-        fine = subst (FineTree (suc depth)) shows (slot-fine placed (R .pool) (suc depth) k i (R .used) (R .low) inside)
-
         go : LeafRule level m (suc depth) x → needs ≡ takes m (suc depth) (leaf x)
         go (keeps r e) = chunk-not _ _ h s k level m Keep r if-keep ∙ sym (takes-keep m (suc depth) (leaf x) e)
         go (writes y r e) = chunk-not _ _ h s k level m (Write y) r (if-write y) ∙ sym (takes-write m (suc depth) y (leaf x) e)
         go (splits r e) =
-            chunk-leaf _ _ h s k level m r (sym (sub-leaf (h .base .0) (tables s) level x (λ table. other (table .1))))
-            ∙ leaf-needs (suc depth) m x low fine
+            chunk-leaf _ _ h s k level m r (plain .leads) ∙ leaf-needs (suc depth) m x low (holds-fine placed R i inside plain)
 
-    by-table : (e : ℕ) → Refers (codecOf h placed) (view s) k i e → x % 4 ≡ 3 → needs ≡ takes m (suc depth) (slotShows h s (suc depth) k i)
-    by-table e r both =
-        go (table-rule m depth x low (λ j. slotShows h s depth e j) both) ∙ ap (takes m (suc depth)) (sym (slot-refers depth r ∙ is-node))
-      where
-        is-node : treeFrom h s depth e ≡ node (λ j. slotShows h s depth e j)
-        is-node = treeAt-node (childOf (h .base .0)) depth (slotWord s) e
-
-        leads : subOf (h .base .0) (tables s) level x ≡ Table e
-        leads =
-            rw (sym (word-in s k i inside) ∙ r .says)
-            (sub-link (h .base .0) (tables s) e level (omega arith) (R .shape .paged) (R .shape .ended) (used-in s e (r .used)))
-
-        go : TableRule level m (suc depth) x (λ j. slotShows h s depth e j)
-            → needs ≡ takes m (suc depth) (node (λ j. slotShows h s depth e j))
-        go (drops rule says) =
-            chunk-not _ _ h s k level m (Drop (m .flags)) rule (if-drop (m .flags)) ∙ sym (takes-write m (suc depth) (m .flags) _ says)
-        go (enters rule says) =
-            chunk-table _ _ h s k level m e rule leads ∙ counts e m s (entered-ready placed R i inside r) ∙ ap (takesTable m depth) is-node
-            ∙ sym (takes-enter m depth (λ j. slotShows h s depth e j) says)
+    by-table : (e : ℕ) → Refers (codecOf h placed) (view s) k i e → subOf (h .base .0) (tables s) level x ≡ Table e
+        → TableRule level m (suc depth) x (λ j. slotShows h s depth e j)
+        → needs ≡ takes m (suc depth) (node (λ j. slotShows h s depth e j))
+    by-table e r leads (drops rule says) =
+        chunk-not _ _ h s k level m (Drop (m .flags)) rule (if-drop (m .flags)) ∙ sym (takes-write m (suc depth) (m .flags) _ says)
+    by-table e r leads (enters rule says) =
+        chunk-table _ _ h s k level m e rule leads ∙ counts e m s (refers-ready placed R r)
+        ∙ ap (takesTable m depth) (treeAt-node (childOf (h .base .0)) depth (slotWord s) e)
+        ∙ sym (takes-enter m depth (λ j. slotShows h s depth e j) says)
 
     chunk-needs : needs ≡ takes m (suc depth) (slotShows h s (suc depth) k i)
-    chunk-needs = go (eq-or (x % 4) 3)
+    chunk-needs = go (holds placed R i inside)
       where
-        go : (x % 4 ≡ 3) ⊎ (x % 4 ≢ 3) → needs ≡ takes m (suc depth) (slotShows h s (suc depth) k i)
-        go (inl both) =
-            let n = pool-sound placed (R .pool) .names k i (R .used)
-            (omega (arith, R .low), ap (λ (y : ℕ). y % 4) (word-in s k i inside) ∙ both) in
-            by-table (n .0) (n .1) both
-        go (inr other) = by-leaf other
+        go : SlotHolds placed s depth k i → needs ≡ takes m (suc depth) (slotShows h s (suc depth) k i)
+        go (holds-table e r both leads shows) =
+            by-table e r leads (table-rule m depth x low (λ j. slotShows h s depth e j) both) ∙ ap (takes m (suc depth)) (sym shows)
+        go (holds-leaf other plain) = by-leaf other plain
 
   tally-none : (m : Map) (cs : List MemoryRegion) (p : ℕ) (t : Tree) → trees.tallied 0 (λ d x u. count m 0 d x u) cs p t ≡ 0
   unfolding trees.tallied trees.needed
@@ -236,7 +213,7 @@ module _ {h : Handle} (placed : Placed h) where
       ∙ ap (takes (chunkMap m c p) (suc depth)) (sym (slot-of h s (suc depth) k (entryIndex (3 - suc depth) (c .start .0)))))
 
   -- REFUSAL 9'S COUNT
-  pub needed-is : (depth k : ℕ) (m : Map) (s : St) → Ready placed s depth k
+  pub needed-is : (depth k : ℕ) (m : Map) (s : St) → Ready h s depth k
       → needed depth h s k m ≡ takesTable m depth (treeFrom h s depth k)
   unfolding needed
   needed-is depth k m s R = table-needs depth k m s R

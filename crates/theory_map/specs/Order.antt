@@ -29,15 +29,14 @@ use Rattle.theory_map.specs.Terms.{MapArguments, Maps, Asks, ShapedSound
 use Rattle.theory_map.specs.Terms.{depthOf, rootIn, mapPagesOf}
 use Rattle.theory_map.specs.Leaf.{root-fine}
 use Rattle.theory_map.specs.Shown.{inBytes, walk-shown}
-use Rattle.theory_map.specs.Call.{stateAfter, given, call-maps, call-passed, call-room, call-shaped, call-sound, call-tree}
-use Rattle.theory_map.specs.Call.{call-tables}
-use Rattle.theory_map.specs.Place.{page-region, span-spans}
+use Rattle.theory_map.specs.Call.{stateAfter, given, call-maps, call-passed, call-room, call-leaves}
+use Rattle.theory_map.specs.Place.{region-paged, span-spans}
 
 passes : {h : Handle} {c : MapArguments} {s : St} → ShapedSound h s → Asks h c → MapPassed h c s
 passes law asks = record { shape = law .shape; asks = asks; pool = law .pool }
 
 pub turn-lawful : {h : Handle} {c : MapArguments} {s s′ : St} {n : ℕ} → Maps h c s n s′ → ShapedSound h s′
-turn-lawful maps = record { shape = call-shaped maps; pool = call-sound maps }
+turn-lawful maps = record { shape = call-leaves maps .shape; pool = call-leaves maps .pool }
 
 -- what is free is what the tree leaves of the pool
 spare : {h : Handle} {s : St} → ShapedSound h s → free (s .ledger) ≡ tables s - nodes (rootTree h s)
@@ -57,7 +56,7 @@ module _ (h : Handle) where
   turn-room law none = tt
   turn-room law (next {cs = cs} maps rest) = (
     omega (arith, call-room maps, spare law),
-    subst₂ (λ (n : ℕ) (t : Tree). roomFor n cs t) (call-tables maps) (call-tree maps)
+    subst₂ (λ (n : ℕ) (t : Tree). roomFor n cs t) (call-leaves maps .size .same-tables) (call-leaves maps .tree)
         (turn-room (turn-lawful maps) rest),
   )
 
@@ -65,7 +64,7 @@ module _ (h : Handle) where
       → rootTree h s′ ≡ run (depthOf h) (rootIn h) (map mapPagesOf cs) (rootTree h s)
   unfolding run
   turn-tree none = refl
-  turn-tree (next {cs = cs} maps rest) = turn-tree rest ∙ ap (run (depthOf h) (rootIn h) (map mapPagesOf cs)) (call-tree maps)
+  turn-tree (next {cs = cs} maps rest) = turn-tree rest ∙ ap (run (depthOf h) (rootIn h) (map mapPagesOf cs)) (call-leaves maps .tree)
 
   turn-sound : {cs : List MapArguments} {s s′ : St} → ShapedSound h s → InTurn h cs s s′ → ShapedSound h s′
   turn-sound law none = law
@@ -82,7 +81,7 @@ module _ (h : Handle) where
       record { answers = call-maps (passes law (asks .0)) (omega (arith, room .0, spare law)) } in
       after maps
       (room-turn cs t (turn-lawful maps) (asks .1)
-      (subst₂ (λ (n : ℕ) (u : Tree). roomFor n cs u) (sym (call-tables maps)) (sym (call-tree maps)) (room .1)))
+      (subst₂ (λ (n : ℕ) (u : Tree). roomFor n cs u) (sym (call-leaves maps .size .same-tables)) (sym (call-leaves maps .tree)) (room .1)))
     where
       after : {t : St} {n : ℕ} → Maps h c s n t → (s′ : St) × InTurn h cs t s′ → (s′ : St) × InTurn h (c ∷ cs) s s′
       after maps (s′, rest) = (s′, next maps rest)
@@ -94,8 +93,8 @@ module _ (h : Handle) where
   pages-apart one two apart page a b e f =
       let same : page * 4096 / 4096 ≡ page = omega arith in
       apart (page * 4096)
-      (page-region one (page * 4096) (record { from = omega arith; below = omega arith }))
-      (page-region two (page * 4096) (record { from = omega arith; below = omega arith }))
+      (region-paged one .address (page * 4096) (record { from = omega arith; below = omega arith }))
+      (region-paged two .address (page * 4096) (record { from = omega arith; below = omega arith }))
 
   module _ (s : St) (law : ShapedSound h s) where
     all-given : (cs : List MapArguments) → Each (Asks h) cs → Each Given (map mapPagesOf cs)

@@ -23,14 +23,14 @@ use Rattle.theory_map.specs.Stand.{Piece}
 
 -- ---- the document's loop on trees, for a map of one chunk or of a table's region
 
--- the entry after it, and the new tables that it takes
+-- an entry after a map of one chunk, and the new tables that the map takes
 abbrev pub doneTo : Map → ℕ → Tree → Tree
 doneTo m depth t = chunked (documentRule (m .flags) (m .blocks)) depth (m .region) (m .frame .0) t
 
 abbrev pub takes : Map → ℕ → Tree → ℕ
 takes m depth t = needed (documentRule (m .flags) (m .blocks)) depth (m .region) (m .frame .0) t
 
--- .. and of a table
+-- a table after a map of its region, and the new tables that the map takes
 abbrev pub doneTable : Map → ℕ → Tree → Tree
 doneTable m depth t = chunkedTable (documentRule (m .flags) (m .blocks)) depth (m .region) (m .frame .0) t
 

@@ -1,10 +1,10 @@
 -- Addresses of the call's region and of the root's span, in pages of the root's tree.
-use mathlib.Core.Path.{_≡_, refl, ap, _∙_}
+use mathlib.Core.Path.{_≡_, ap, _∙_}
 use mathlib.Core.Bool.{true}
 use Prim.Native.Nat.{ℕ, suc, _+_, _*_, _-_, _/_, _^_, _≤_, _<_}
 use native.Mathlib.Omega.{arith}
-use borrow.Author.Tests.{ltb-true}
-use Rattle.laws.specs.Size.{sizeAt, size-high, down}
+use borrow.Author.Tests.{leb-true, ltb-true}
+use Rattle.laws.specs.Size.{span, down}
 use Rattle.region.specs.Region.{rounded}
 use Rattle.region.specs.Chunks.{Holds}
 use Rattle.region.specs.declared.MemoryRegion.{MemoryRegion}
@@ -13,7 +13,7 @@ use Rattle.pool.specs.declared.Handle.{Handle}
 use Rattle.pool.specs.declared.VaRange.{VaRange}
 use Rattle.pool.specs.declared.VaRange.the-variants.{Lower, Upper}
 use Rattle.map_verify.specs.Ask.{askedMap}
-use Rattle.look_up.specs.Call.{spanned, span-lower, span-upper}
+use Rattle.look_up.specs.Call.{spanned}
 use Rattle.theory_tree.specs.Page.{pagesIn, first, In, in-of}
 use Rattle.theory_tree.specs.Chunks.{Inside}
 use Rattle.theory_tree.specs.Root.{lower-span, upper-span}
@@ -23,34 +23,32 @@ use Rattle.theory_map.specs.Call.{area}
 
 -- ---- the pages of a region
 
-module _ (r : MemoryRegion) {b n p : ℕ} (I : Inside b n (r .start .0) (r .end .0) p) (va : ℕ) where
-  pub in-page : Holds r va → OfRegion (r .start .0 / 4096) (r .end .0 / 4096) (va / 4096)
-  in-page at = record { from = omega (arith, at .from, I .startPage); below = omega (arith, at .below, I .endPage) }
+-- the addresses of a region are those of the pages `from` to `upto`, and they lie in the root's span
+pub record Paged (h : Handle) (r : MemoryRegion) (from upto : ℕ) : Type 0 where
+  pub page : (va : ℕ) → Holds r va → OfRegion from upto (va / 4096)
+  pub address : (va : ℕ) → OfRegion from upto (va / 4096) → Holds r va
+  pub spans : (va : ℕ) → Holds r va → In (suc (depthOf h)) (rootIn h) (va / 4096)
 
-  pub page-in : OfRegion (r .start .0 / 4096) (r .end .0 / 4096) (va / 4096) → Holds r va
-  page-in of = record { from = omega (arith, of .from, I .startPage); below = omega (arith, of .below, I .endPage) }
-
-pub page-spans : (depth q : ℕ) {start end p page : ℕ} → Inside (first (suc depth) q) (pagesIn (suc depth)) start end p
-    → OfRegion (start / 4096) (end / 4096) page → In (suc depth) q page
-page-spans depth q {page = page} I of = in-of (suc depth) q page (omega (arith, I .low, of .from)) (omega (arith, I .high, of .below))
+pub paged : (h : Handle) (r : MemoryRegion) {p : ℕ}
+    → Inside (first (suc (depthOf h)) (rootIn h)) (pagesIn (suc (depthOf h))) (r .start .0) (r .end .0) p
+    → Paged h r (r .start .0 / 4096) (r .end .0 / 4096)
+paged h r I = record {
+  page = λ va at. record { from = omega (arith, at .from, I .startPage); below = omega (arith, at .below, I .endPage) };
+  address = λ va of. record { from = omega (arith, of .from, I .startPage); below = omega (arith, of .below, I .endPage) };
+  spans = λ va at. in-of (suc (depthOf h)) (rootIn h) (va / 4096) (omega (arith, I .low, at .from, I .startPage))
+      (omega (arith, I .high, at .below, I .endPage));
+}
 
 -- ---- the call's region
 
-module _ {h : Handle} {c : MapArguments} {s : St} (passed : MapPassed h c s) (va : ℕ) where
-  pub region-page : InMapRegion c va → OfRegion (mapPagesOf c .from) (mapPagesOf c .upto) (va / 4096)
+module _ {h : Handle} {c : MapArguments} {s : St} (passed : MapPassed h c s) where
+  pub region-paged : Paged h (rounded (c .start) (c .end)) (mapPagesOf c .from) (mapPagesOf c .upto)
   unfolding askedMap
-  region-page at = in-page (rounded (c .start) (c .end)) (area passed .inside) va at
+  region-paged = paged h (rounded (c .start) (c .end)) (area passed .inside)
 
-  pub page-region : OfRegion (mapPagesOf c .from) (mapPagesOf c .upto) (va / 4096) → InMapRegion c va
-  unfolding askedMap
-  page-region of = page-in (rounded (c .start) (c .end)) (area passed .inside) va of
-
-  pub region-spans : InMapRegion c va → In (suc (depthOf h)) (rootIn h) (va / 4096)
-  region-spans at = page-spans (depthOf h) (rootIn h) (area passed .inside) (region-page at)
-
-  pub frame-is : InMapRegion c va → (mapPagesOf c .frame + (va / 4096 - mapPagesOf c .from)) * 4096 ≡ frameFor c va
+  pub frame-is : (va : ℕ) → InMapRegion c va → (mapPagesOf c .frame + (va / 4096 - mapPagesOf c .from)) * 4096 ≡ frameFor c va
   unfolding askedMap down
-  frame-is at =
+  frame-is va at =
       let I = area passed .inside in
       let a = I .startPage in
       let b = I .framePage in
@@ -61,14 +59,9 @@ module _ {h : Handle} {c : MapArguments} {s : St} (passed : MapPassed h c s) (va
 
 root-spans : (range : VaRange) (depth va : ℕ) → depth ≤ 3 → spanned range (3 - depth) va ≡ true → va < 2 ^ 64
     → In (suc depth) (rootOf range depth) (va / 4096)
-unfolding rootOf
-root-spans Lower depth va low e word =
-    lower-span depth va low (ltb-true va (512 * sizeAt (3 - depth)) (span-lower Lower (3 - depth) va (sizeAt (3 - depth)) refl refl ∙ e))
-root-spans Upper depth va low e word =
-    let h = size-high (3 - depth) in
-    let l = ltb-true (18446744073709551615 - 512 * sizeAt (3 - depth)) va
-    (span-upper Upper (3 - depth) va (sizeAt (3 - depth)) refl refl ∙ e) in
-    upper-span depth va low (omega arith) word
+unfolding rootOf spanned
+root-spans Lower depth va low e word = lower-span depth va low (ltb-true va (span (3 - depth)) e)
+root-spans Upper depth va low e word = upper-span depth va low (leb-true (2 ^ 64 - span (3 - depth)) va e) word
 
 pub span-spans : (h : Handle) (va : ℕ) → h .level ≤ 3 → InSpan h va → In (suc (depthOf h)) (rootIn h) (va / 4096)
 span-spans h va low at =

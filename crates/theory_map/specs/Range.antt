@@ -5,41 +5,42 @@ use mathlib.Core.List.{List, [], _∷_}
 use Prim.Native.Nat.{ℕ, zero, suc, _+_, _-_, _≤_}
 use native.Mathlib.Omega.{arith}
 use Rattle.region.specs.Chunks.{chunks}
+use Rattle.region.specs.Each.{eachOf, eachChunk}
 use Rattle.region.specs.declared.MemoryRegion.{MemoryRegion}
 use Rattle.pool.specs.State.{St}
 use Rattle.pool.specs.declared.Handle.{Handle}
 use Rattle.map_rules.specs.declared.Map.{Map}
 use Rattle.map_rules.specs.Rules.{chunkMap}
-use Rattle.map_put.specs.Put.{eachOf, eachChunk, mapRange}
+use Rattle.map_put.specs.Put.{framed, framedChunk, eachMapChunk, mapRange}
 use Rattle.map_put.specs.Range.{mapStep, map-open}
 use Rattle.theory_sound.specs.Codec.{Placed, treeFrom}
 use Rattle.theory_tree.specs.Page.{child}
 use Rattle.theory_tree.specs.Chunks.{chunked, chunkedTable}
 use Rattle.theory_tree.specs.Needed.{needed, neededTable}
 use Rattle.theory_tree.specs.Document.{documentRule}
-use Rattle.theory_map.specs.Moves.{Worked}
+use Rattle.theory_map.specs.Moves.{WorkedWithin}
 use Rattle.theory_map.specs.Pieces.{doneTable, takesTable, slotAt, pieces}
 use Rattle.theory_map.specs.Chunk.{Works, ChunkWorks, page-works, chunk-works}
 use Rattle.theory_map.specs.Loop.{through, loop}
 
-through-is : (f : MemoryRegion → ℕ → St → St) (cs : List MemoryRegion) (p : ℕ) (s : St) → through f cs p s ≡ eachOf f cs p s
-unfolding through eachOf
-through-is f [] p s = refl
-through-is f (c ∷ cs) p s = through-is f cs (p + (c .end .0 - c .start .0)) (f c p s)
+through-is : (f : Map → St → St) (m : Map) (cs : List MemoryRegion) (p : ℕ) (s : St)
+    → through (λ c frame t. f (chunkMap m c frame) t) cs p s ≡ eachOf (framedChunk f m) cs (framed p s) .state
+unfolding through eachOf framedChunk
+through-is f m [] p s = refl
+through-is f m (c ∷ cs) p s = through-is f m cs (p + (c .end .0 - c .start .0)) (f (chunkMap m c p) s)
 
 each-is : (level : ℕ) (f : Map → St → St) (m : Map) (s : St)
     → through (λ c frame t. f (chunkMap m c frame) t) (chunks level (m .region .start .0) (m .region .end .0)) (m .frame .0) s
-    ≡ eachChunk level f m s
-unfolding eachChunk
-each-is level f m s =
-    through-is (λ c frame t. f (chunkMap m c frame) t) (chunks level (m .region .start .0) (m .region .end .0)) (m .frame .0) s
+    ≡ eachMapChunk level f m s
+unfolding eachMapChunk eachChunk
+each-is level f m s = through-is f m (chunks level (m .region .start .0) (m .region .end .0)) (m .frame .0) s
 
 module _ {h : Handle} (placed : Placed h) where
   table-works : (depth : ℕ) → depth ≤ 3 → ChunkWorks placed depth → Works placed depth
   unfolding chunkedTable neededTable
   table-works depth low works q k m s allowed area R room =
       subst
-      (λ (s′ : St). Worked placed s s′ depth k (doneTable m depth (treeFrom h s depth k)) (takesTable m depth (treeFrom h s depth k)))
+      (λ (s′ : St). WorkedWithin placed s s′ depth k (doneTable m depth (treeFrom h s depth k)) (takesTable m depth (treeFrom h s depth k)))
       is
       (loop placed (λ (x : St). x) (λ c p t. mapStep h k (3 - depth) (chunkMap m c p) t)
       (λ c p u. chunked (documentRule (m .flags) (m .blocks)) depth c p u)

@@ -15,6 +15,7 @@ use Rattle.theory_forest.specs.Tree.{Tree, leaf, node}
 use Rattle.theory_forest.specs.Walk.{Ends, walkTree}
 use Rattle.theory_sound.specs.Clauses.{SoundPool}
 use Rattle.theory_sound.specs.Codec.{shaped-placed, rootTree}
+use Rattle.theory_sound.specs.Step.{Leaves}
 use Rattle.arm.specs.Arm.{frameOf, flagsIn, at, says}
 use Rattle.arm.specs.Walk.{index-is, flags-is, frame-is, says-hole, says-block, says-page}
 use Rattle.theory_walk.specs.AsBefore.{walkOf, Shown, mapped, hole, shown}
@@ -109,7 +110,7 @@ walk-same f g zero (node u) same = refl
 walk-same f g (suc n) (node u) same =
     ap (λ (i : ℕ). walkTree f n (u i)) (same n (omega arith)) ∙ walk-same f g n (u (g n)) (λ l h. same l (omega arith))
 
--- in a fine tree it ends in a fine word
+-- the walk of a fine tree ends in a fine word
 pub record FineEnds (depth : ℕ) (e : Ends) : Type 0 where
   pub fine : Fine (e .depth) (e .word)
   pub low : e .depth ≤ depth
@@ -121,7 +122,7 @@ ends-fine f zero (node u) slots fine = absurd fine
 ends-fine f (suc depth) (node u) slots fine =
     let e = ends-fine f depth (u (f depth)) slots (fine (f depth) (slots depth)) in record { fine = e .fine; low = omega (arith, e .low) }
 
--- .. below the root
+-- the walk of a fine table ends in a fine word below it
 pub table-ends : (f : ℕ → ℕ) (depth : ℕ) (t : Tree) → ((l : ℕ) → f l < 512) → FineTable depth t → FineEnds depth (walkTree f (suc depth) t)
 unfolding walkTree
 table-ends f depth (leaf w) slots fine = absurd fine
@@ -148,3 +149,11 @@ module _ {h : Handle} {s : St} (shape : Shaped h s) (P : SoundPool h s) (va : �
       let ends = table-ends (slotOfPage (va / 4096)) depth (rootTree h s) (slot-lt (va / 4096)) (root-fine (shaped-placed shape) P) in
       ap shown (walk-of-tree shape P va) ∙ ap (λ (x : Ends). shown (says va (reachedAt x))) same ∙ ends-shown va e depth (omega arith) ends
       ∙ ap inBytes (seen-ends (suc depth) (rootTree h s) (va / 4096))
+
+-- what is shown where a call left the tree t at the root
+pub leaves-shown : {h : Handle} {s s′ : St} {t : Tree} → Leaves h s s′ t → (va : ℕ) {x : Seen}
+    → seen (suc (3 - h .level)) t (va / 4096) ≡ x → shown (walkOf h s′ va) ≡ inBytes x
+leaves-shown {h} left va e =
+    walk-shown (left .shape) (left .pool) va
+    ∙ ap (λ (t : Tree). inBytes (seen (suc (3 - h .level)) t (va / 4096))) (left .tree)
+    ∙ ap inBytes e

@@ -6,7 +6,7 @@ use native.Mathlib.Omega.{arith}
 use lib.Dec.{eqb, lit<}
 use borrow.Author.Tests.{eqb-false}
 use Rattle.entry.specs.Word.{only}
-use Rattle.region.specs.declared.MemoryRegion.{MemoryRegion}
+use Rattle.pool.specs.Refuse.{firstRefused}
 use Rattle.pool.specs.Sound.{flagSet}
 use Rattle.pool.specs.declared.Handle.{Handle}
 use Rattle.pool.specs.declared.Refusal.{Refusal}
@@ -15,13 +15,13 @@ use Rattle.pool.specs.declared.Outcome.{Outcome}
 use Rattle.pool.specs.declared.Outcome.the-variants.{Accepted, Refused}
 use Rattle.region_verify.specs.Verify.{endFits, verify, verified-forwards}
 use Rattle.modify_entry.specs.declared.Edit.{Edit}
-use Rattle.modify_verify.specs.Permit.{askedEdit, settable, settable-says, verifyBits, thenRegion, verifyEdit, asked-span}
+use Rattle.modify_verify.specs.Permit.{askedEdit, settable, settable-says, verifyBits, verifyEdit, asked-span}
 use Rattle.theory_map.specs.Terms.{rootOf}
 use Rattle.theory_map.specs.Stand.{Allowed}
 use Rattle.theory_map.specs.Pieces.{Area}
-use Rattle.theory_map.specs.Asked.{pages-inside, flags-allowed, Early, cond-early, verify-early}
+use Rattle.theory_map.specs.Asked.{pages-inside, flags-allowed, Early, cond-early, first-early, verify-early}
 use Rattle.theory_modify.specs.Word.{Bits}
-use Rattle.theory_modify.specs.Range.{areaOf}
+use Rattle.theory_modify.specs.Pass.{areaOf}
 
 -- ---- the tests that are passed
 
@@ -33,10 +33,10 @@ passes-if : (b : Bool) (r : Refusal) (x : Outcome) → cond b x (Refused r) ≡ 
 passes-if true r x e = (refl, e)
 passes-if false r x e = let z : _≡_ {A = ℕ} 0 1 = cc in absurd (omega arith)
 
-passes-region : (x : Outcome) (h : Handle) (r : MemoryRegion) → thenRegion x h r ≡ Accepted → (x ≡ Accepted) × (verify h r ≡ Accepted)
-unfolding thenRegion
-passes-region Accepted h r e = (refl, e)
-passes-region (Refused x) h r e = let z : _≡_ {A = ℕ} 0 1 = cc in absurd (omega arith)
+passes-both : (x y : Outcome) → firstRefused Refused x y ≡ Accepted → (x ≡ Accepted) × (y ≡ Accepted)
+unfolding firstRefused
+passes-both Accepted y e = (refl, e)
+passes-both (Refused r) y e = let z : _≡_ {A = ℕ} 0 1 = cc in absurd (omega arith)
 
 not-one : (n : ℕ) → eqb (n % 2) 1 ≡ false → n % 2 ≡ 0
 not-one n e = let k = eqb-false (n % 2) 1 e in omega arith
@@ -59,7 +59,7 @@ module _ (h : Handle) (start end set clear : ℕ) (live : Bool) (ok : verifyEdit
 
   asked-passes : (verifyBits h (e .set) (e .clear) ≡ Accepted) × (verify h (e .region) ≡ Accepted)
   unfolding verifyEdit
-  asked-passes = passes-region (verifyBits h (e .set) (e .clear)) h (e .region) (passes-if (endFits end) (End end) _ ok .1)
+  asked-passes = passes-both (verifyBits h (e .set) (e .clear)) (verify h (e .region)) (passes-if (endFits end) (End end) _ ok .1)
 
   pub asked-bits : Bits h e
   asked-bits = let b = bits-pass h (e .set) (e .clear) (asked-passes .0) in record { set = b .0; clear = b .1 }
@@ -76,11 +76,6 @@ module _ (h : Handle) (start end set clear : ℕ) (live : Bool) (ok : verifyEdit
 
 -- ---- refusals 2 to 6 are none of the later ones
 
-region-early : (x : Outcome) (h : Handle) (r : MemoryRegion) → Early x → Early (thenRegion x h r)
-unfolding thenRegion
-region-early Accepted h r early = verify-early h r
-region-early (Refused x) h r early = early
-
 bits-early : (h : Handle) (set clear : ℕ) → Early (verifyBits h set clear)
 unfolding verifyBits
 bits-early h set clear =
@@ -95,5 +90,6 @@ bits-early h set clear =
 pub asked-early : (h : Handle) (end : ℕ) (e : Edit) → Early (verifyEdit h end e)
 unfolding verifyEdit
 asked-early h end e =
-    cond-early (endFits end) (thenRegion (verifyBits h (e .set) (e .clear)) h (e .region)) (Refused (End end))
-    (region-early (verifyBits h (e .set) (e .clear)) h (e .region) (bits-early h (e .set) (e .clear))) (lit< tt)
+    let bits : Outcome = verifyBits h (e .set) (e .clear) in
+    cond-early (endFits end) (firstRefused Refused bits (verify h (e .region))) (Refused (End end))
+    (first-early bits (verify h (e .region)) (bits-early h (e .set) (e .clear)) (verify-early h (e .region))) (lit< tt)

@@ -6,16 +6,17 @@ use mathlib.Core.List.{List, _++_}
 use mathlib.Core.Logic.{_⊎_, inl, inr}
 use Prim.Native.Nat.{ℕ, suc, _/_, _%_, _^_, _≤_, _<_}
 use native.Mathlib.Omega.{arith}
-use lib.Dec.{lit<, lit≤}
+use lib.Dec.{lit≤}
 use lib.ListN.{length, drop}
 use Rattle.laws.specs.Test.{byBool, is-true, le-or}
+use Rattle.region.specs.Region.{rounded}
 use Rattle.pool.specs.State.{St}
 use Rattle.pool.specs.Number.{used, free}
-use Rattle.pool.specs.Refuse.{number, shaped, Shaped, shaped-says, says-shaped}
+use Rattle.pool.specs.Refuse.{number, shaped, says-shaped}
 use Rattle.pool.specs.Sound.{soundb}
 use Rattle.pool.specs.declared.Handle.{Handle}
 use Rattle.pool.specs.declared.Refusal.{Refusal}
-use Rattle.pool.specs.declared.Refusal.the-variants.{Shape, Unsound, WantOfRoom, HouseRule, Short}
+use Rattle.pool.specs.declared.Refusal.the-variants.{WantOfRoom, HouseRule, Short}
 use Rattle.pool.specs.declared.Outcome.{Outcome}
 use Rattle.pool.specs.declared.Outcome.the-variants.{Accepted, Refused}
 use Rattle.modify_entry.specs.declared.Edit.{Edit}
@@ -23,31 +24,33 @@ use Rattle.modify_entry.specs.Own.{Numbered, numbered}
 use Rattle.modify_range.specs.Range.{Work, work, modifyRange}
 use Rattle.modify.specs.declared.Modified.{Modified}
 use Rattle.modify.specs.declared.Modified.the-variants as modified
-use Rattle.modify_verify.specs.Permit.{askedEdit, verifyEdit, verifySurvey, survey-full, survey-off, survey-broken, survey-short}
+use Rattle.modify_verify.specs.Permit.{askedEdit, verifySurvey, survey-full, survey-off, survey-broken, survey-short}
 use Rattle.modify_verify.specs.Permit.{survey-accepted}
 use Rattle.modify.specs.Call.{Modifying, modifying, refused, answerOf, editTables, modifySound, sound-not, sound-refused, sound-edited}
 use Rattle.modify.specs.Call.{call-misshaped, call-refused, call-asked}
 use Rattle.modify.specs.Call.{nothing}
 use Rattle.theory_forest.specs.Tree.{Tree}
-use Rattle.theory_sound.specs.Clauses.{SoundPool}
 use Rattle.theory_sound.specs.Codec.{shaped-placed, rootTree}
-use Rattle.theory_sound.specs.Decide.{decide-sound, sound-decide}
+use Rattle.theory_sound.specs.Decide.{sound-decide}
+use Rattle.theory_sound.specs.Step.{Ready, root-ready, Leaves, root-leaves}
+use Rattle.theory_sound.specs.Slot.{slotShows}
 use Rattle.theory_tree.specs.Modify.{GivenModify, modifyTree, modifyMade}
 use Rattle.theory_tree.specs.Walk.{seen}
 use Rattle.theory_tree.specs.DocumentModify.{document-modifies, document-modify-needs}
 use Rattle.theory_map.specs.Terms.{depthOf, rootIn}
 use Rattle.theory_map.specs.Leaf.{slot-fine}
-use Rattle.theory_map.specs.Moves.{slotShows, Ready, Worked, worked-shaped, worked-pool, root-ready, root-node}
+use Rattle.theory_map.specs.Moves.{root-node}
 use Rattle.theory_map.specs.Pieces.{Area}
-use Rattle.theory_map.specs.Asked.{Early}
+use Rattle.theory_map.specs.Place.{Paged, paged}
+use Rattle.theory_map.specs.Asked.{left-by}
 use Rattle.theory_modify.specs.Terms.{ModifyArguments, modifyAnswer, modifyAccepted, Modifies, editAsked, ModifyPassed, surveyed}
 use Rattle.theory_modify.specs.Terms.{modifyPagesOf, treeAfterModify, madeByModify, numbersOf}
 use Rattle.theory_modify.specs.Numbers.{tableNumbers, occurs, firstPage}
 use Rattle.theory_modify.specs.Word.{Bits}
-use Rattle.theory_modify.specs.Range.{editTable, editTakes, areaOf, range-edits}
+use Rattle.theory_modify.specs.Pass.{areaOf, TableEdited}
+use Rattle.theory_modify.specs.Range.{editTable, editTakes, range-edits}
 use Rattle.theory_modify.specs.Splits.{survey-splits}
 use Rattle.theory_modify.specs.Notes.{putAll, put-off, put-live}
-use Rattle.theory_modify.specs.Listing.{range-lists}
 use Rattle.theory_modify.specs.Counted.{survey-numbers}
 use Rattle.theory_modify.specs.Once.{numbers-once}
 use Rattle.theory_modify.specs.Listed.{changes, region-tells}
@@ -67,7 +70,12 @@ module _ {h : Handle} {c : ModifyArguments} {s : St} (passed : ModifyPassed h c 
   pub area : Area (depthOf h) (rootIn h) (areaOf e 0)
   area = asked-area h (c .start) (c .end) (c .set) (c .clear) (c .live) (passed .asks) (passed .shape .level)
 
-  pub ready : Ready (shaped-placed (passed .shape)) s (depthOf h) 0
+  -- its region, in pages of the root's tree
+  pub region-paged : Paged h (rounded (c .start) (c .end)) (modifyPagesOf c .from) (modifyPagesOf c .upto)
+  unfolding askedEdit
+  region-paged = paged h (rounded (c .start) (c .end)) (area .inside)
+
+  pub ready : Ready h s (depthOf h) 0
   ready = root-ready (passed .shape) (passed .pool)
 
   pub given : GivenModify (modifyPagesOf c)
@@ -116,33 +124,26 @@ module _ {h : Handle} {c : ModifyArguments} {s : St} (passed : ModifyPassed h c 
       ≡ changes (e .set) (e .clear) (seen (suc (depthOf h)) t y)) (sym (root-node h s))
       (region-tells (e .set) (e .clear) (bits .set .plain) (bits .clear .plain) y (depthOf h) (rootIn h) (areaOf e 0)
       (λ i. slotShows h s (depthOf h) 0 i) (omega arith) area
-      (λ j inside. slot-fine placed (passed .pool) (depthOf h) 0 j (ready .used) (ready .low) inside)
+      (λ j inside. slot-fine placed ready j inside)
       (asked-forwards h (c .start) (c .end) (c .set) (c .clear) (c .live) (passed .asks)) above under)
 
   -- ---- with room
 
   module _ (room : madeByModify h c s ≤ free (s .ledger)) (list : List ℕ) where
-    worked : Worked (shaped-placed (passed .shape)) s (workAfter h c s list .state) (depthOf h) 0
-        (editTable e (depthOf h) 0 (rootTree h s)) (editTakes e (depthOf h) 0 (rootTree h s))
-    worked =
+    root-edited : TableEdited (shaped-placed (passed .shape)) (c .live) (work s list 0) (workAfter h c s list) (depthOf h) 0
+        (editTable e (depthOf h) 0 (rootTree h s)) (editTakes e (depthOf h) 0 (rootTree h s)) (numbersOf h c s)
+    unfolding askedEdit
+    root-edited =
         range-edits (shaped-placed (passed .shape)) (depthOf h) (omega arith) (rootIn h) 0 0 e (work s list 0) bits area ready
         (omega (arith, takes-made))
 
-    pub after-shaped : Shaped h (workAfter h c s list .state)
-    after-shaped = worked-shaped (shaped-placed (passed .shape)) ready worked
-
-    pub after-sound : SoundPool h (workAfter h c s list .state)
-    after-sound = worked-pool (shaped-placed (passed .shape)) ready worked
-
     pub after-list : numbered (workAfter h c s list .count) (workAfter h c s list .list)
         ≡ putAll (c .live) (numbersOf h c s) (numbered 0 list)
-    unfolding askedEdit
-    after-list =
-        range-lists (shaped-placed (passed .shape)) (depthOf h) (omega arith) (rootIn h) 0 0 e (work s list 0) bits area ready
-        (omega (arith, takes-made))
+    after-list = root-edited .puts
 
-    pub after-tree : rootTree h (workAfter h c s list .state) ≡ treeAfterModify h c s
-    after-tree = worked .work .tree ∙ done-tree
+    pub after-call : Leaves h s (workAfter h c s list .state) (treeAfterModify h c s)
+    after-call =
+        subst (Leaves h s (workAfter h c s list .state)) done-tree (root-leaves (passed .shape) (passed .pool) (root-edited .works .worked))
 
 -- ---- what the call answers
 
@@ -264,24 +265,17 @@ module _ {h : Handle} {c : ModifyArguments} {s : St} (passed : ModifyPassed h c 
 passed-by : (h : Handle) (c : ModifyArguments) (s : St) (list : List ℕ) {x : Modifying} → modifyAnswer h c s list ≡ x
     → ((r : Refusal) → number r < 9 → refused r s list ≡ x → ⊥) → ModifyPassed h c s
 passed-by h c s list {x} is later =
-    byBool (shaped h s) shape
-    (λ e. absurd (later Shape (lit< tt) (call-misshaped h (c .start) (c .end) (c .set) (c .clear) (c .live) s list e ∙ is)))
-  where
-    pool : shaped h s ≡ true → verifyEdit h (c .end) (editAsked c) ≡ Accepted → ModifyPassed h c s
-    pool e ok =
-        let shape = shaped-says h s (rw e tt) in
-        let asks = call-asked h (c .start) (c .end) (c .set) (c .clear) (c .live) s list e refl ok in
-        byBool (soundb h s)
-        (λ sound. record { shape = shape; asks = ok; pool = decide-sound shape (rw sound tt) })
-        (λ unsound. absurd (later Unsound (lit< tt) (sound-not h (editAsked c) s list unsound ∙ asks ∙ is)))
-
-    asks : shaped h s ≡ true → (y : Outcome) → verifyEdit h (c .end) (editAsked c) ≡ y → Early y → ModifyPassed h c s
-    asks e Accepted q early = pool e q
-    asks e (Refused r) q early =
-        absurd (later r (omega arith) (call-refused h (c .start) (c .end) (c .set) (c .clear) (c .live) s list e refl r q ∙ is))
-
-    shape : shaped h s ≡ true → ModifyPassed h c s
-    shape e = asks e (verifyEdit h (c .end) (editAsked c)) refl (asked-early h (c .end) (editAsked c))
+    let left = left-by
+    (record {
+      misshaped = λ e. call-misshaped h (c .start) (c .end) (c .set) (c .clear) (c .live) s list e ∙ is;
+      stopped = λ e r q. call-refused h (c .start) (c .end) (c .set) (c .clear) (c .live) s list e refl r q ∙ is;
+      unsound = λ e ok unsound. sound-not h (editAsked c) s list unsound
+          ∙ call-asked h (c .start) (c .end) (c .set) (c .clear) (c .live) s list e refl ok
+          ∙ is;
+      early = asked-early h (c .end) (editAsked c);
+    })
+    later in
+    record { shape = left .0; asks = left .1; pool = left .2 }
 
 -- ---- refused 9, 10, 11
 
@@ -381,14 +375,8 @@ module _ {h : Handle} {c : ModifyArguments} {s s′ : St} {list list′ : List �
   pub call-list : list′ ≡ w .list
   call-list = ap (λ (x : Modifying). x .list) done
 
-  pub call-shaped : Shaped h s′
-  call-shaped = subst (Shaped h) (sym call-state) (after-shaped call-passed (call-clear .room) list)
-
-  pub call-sound : SoundPool h s′
-  call-sound = subst (SoundPool h) (sym call-state) (after-sound call-passed (call-clear .room) list)
-
-  pub call-tree : rootTree h s′ ≡ treeAfterModify h c s
-  call-tree = ap (rootTree h) call-state ∙ after-tree call-passed (call-clear .room) list
+  pub call-leaves : Leaves h s s′ (treeAfterModify h c s)
+  call-leaves = subst (λ (x : St). Leaves h s x (treeAfterModify h c s)) (sym call-state) (after-call call-passed (call-clear .room) list)
 
   -- the answer
   accepted-same : (live : Bool) (a b x y : ℕ) → modifyAccepted live a b ≡ modifyAccepted live x y → (a ≡ x) × (live ≡ true → b ≡ y)

@@ -4,55 +4,51 @@ use mathlib.Core.Path.{_≡_, refl, sym, ap, ap₂, subst, _∙_}
 use mathlib.Core.Bool.{true, false, true≢false}
 use mathlib.Core.List.{List, [], _∷_, _++_, append-nil}
 use mathlib.Core.Logic.{_⊎_, inl, inr, _≢_}
-use Prim.Native.Nat.{ℕ, zero, suc, _+_, _-_, _%_, _≤_, _<_}
+use Prim.Native.Nat.{ℕ, zero, suc, _+_, _-_, _%_, _≤_}
 use native.Mathlib.Omega.{arith}
 use lib.ListN.{length, length-append}
 use borrow.Author.Tests.{eq-eqb, ne-eqb}
 use Rattle.laws.specs.Size.{sizeAt, size-page}
 use Rattle.laws.specs.Test.{byBool, eq-or}
 use Rattle.entry.specs.Word.{kindOf, kind-block, valid, valid-yes, flags-valid, edited}
-use Rattle.entry.specs.Sub.{sub-leaf}
 use Rattle.entry.specs.declared.Kind.{Kind}
 use Rattle.entry.specs.declared.Kind.the-variants.{Table as table, Block, Page, Hole}
 use Rattle.address_slot.specs.Slot.{entryIndex}
 use Rattle.region.specs.Region.{whole}
 use Rattle.region.specs.Chunks.{chunks}
+use Rattle.region.specs.Each.{eachOf, eachChunk}
 use Rattle.region.specs.declared.MemoryRegion.{MemoryRegion}
-use Rattle.pool.specs.State.{St, tables, wordAt}
+use Rattle.pool.specs.State.{St}
 use Rattle.pool.specs.declared.Handle.{Handle}
 use Rattle.map_rules.specs.declared.Map.{Map}
 use Rattle.map_rules.specs.Rules.{chunkMap}
 use Rattle.map_count_spec.specs.Needed.{slot-below}
 use Rattle.modify_entry.specs.declared.Edit.{Edit}
-use Rattle.modify_entry.specs.Word.{editWord}
-use Rattle.modify_entry.specs.Each.{eachOf, eachChunk, chunkEdit}
+use Rattle.modify_entry.specs.Word.{chunkEdit, editWord}
 use Rattle.modify_survey.specs.declared.Survey.{Survey}
 use Rattle.modify_survey.specs.House.{mayChange}
 use Rattle.modify_survey.specs.Find.{splitsIn, breach, ifBlock, surveyPart, surveyWhole, surveyEntry, surveyChunk, surveyRange, entry-whole}
 use Rattle.modify_survey.specs.Find.{entry-part}
-use Rattle.theory_forest.specs.Tree.{Tree, leaf, treeAt-node}
-use Rattle.theory_forest.specs.Keep.{slot-leaf}
-use Rattle.theory_sound.specs.Codec.{Placed, codecOf, childOf, slotWord, view, word-in, treeFrom}
+use Rattle.theory_forest.specs.Tree.{Tree, leaf, node}
+use Rattle.theory_sound.specs.Codec.{Placed, treeFrom}
+use Rattle.theory_sound.specs.Step.{Ready}
+use Rattle.theory_sound.specs.Slot.{slotShows}
 use Rattle.theory_tree.specs.Page.{child}
 use Rattle.theory_tree.specs.Word.{fillWord}
 use Rattle.theory_tree.specs.Visit.{fillTree, opens-leaf, opens-node}
 use Rattle.theory_tree.specs.Fine.{Fine}
-use Rattle.theory_tree.specs.Shown.{FineTree}
 use Rattle.theory_tree.specs.Split.{fill-address}
 use Rattle.theory_tree.specs.Needed.{slotTree}
-use Rattle.theory_map.specs.Leaf.{slot-fine}
 use Rattle.theory_map.specs.Stand.{Piece}
-use Rattle.theory_map.specs.Moves.{slotShows, Ready, entered-ready}
 use Rattle.theory_map.specs.Pieces.{Area, slotAt, Pieces, pieces}
 use Rattle.theory_map.specs.Need.{slot-fill}
-use Rattle.theory_map.specs.Down.{SlotHolds, holds-table, holds-leaf, holds}
 use Rattle.theory_map.specs.Loop.{slot-of}
 use Rattle.theory_modify.specs.Word.{hole-stays, valid-edited}
-use Rattle.theory_modify.specs.Range.{areaOf}
-use Rattle.theory_modify.specs.Splits.{chunk-leaf, chunk-table}
+use Rattle.theory_modify.specs.Pass.{areaOf}
+use Rattle.theory_modify.specs.Entry.{survey-page, survey-slot}
 use Rattle.theory_modify.specs.Numbers.{gathered, changedNumber, ownNumbers, lowerNumbers, tableNumbers}
-use Rattle.theory_modify.specs.Gathered.{number-changed, number-same, number-hole, own-whole, own-part, own-none, lower-whole}
-use Rattle.theory_modify.specs.Gathered.{lower-part, lower-into, leaf-number, leaf-page}
+use Rattle.theory_modify.specs.Gathered.{number-changed, number-same, number-hole, own-on, own-here, lower-own}
+use Rattle.theory_modify.specs.Gathered.{lower-on, leaf-page}
 use Rattle.theory_modify.specs.Gathered.{gathered-both, gathered-none}
 
 -- ---- a split of a hole lists nothing
@@ -62,7 +58,7 @@ module _ (set clear : ℕ) where
   fill-hole depth w i low v = ap valid (fill-address depth w i low ∙ rw v) ∙ flags-valid w ∙ v
 
   page-number : (c : MemoryRegion) (w : ℕ) → ownNumbers set clear 0 c (leaf w) ≡ changedNumber set clear c w
-  page-number c w = sym (leaf-page set clear c (leaf w)) ∙ leaf-number set clear c w
+  page-number c w = sym (leaf-page set clear c (leaf w))
 
   pub hole-none : (depth : ℕ) (c : MemoryRegion) (w : ℕ) → suc depth ≤ 3 → valid w ≡ false
       → tableNumbers set clear depth c (fillTree depth w) ≡ []
@@ -81,8 +77,8 @@ module _ (set clear : ℕ) where
       ap (lowerNumbers set clear (λ b u. tableNumbers set clear depth b u) depth d)
       (slot-fill (suc depth) w i (slot-below (3 - suc depth) (d .start .0)))
       ∙ byBool (whole (3 - suc depth) d)
-      (λ e. lower-whole set clear (λ b u. tableNumbers set clear depth b u) depth d x e)
-      (λ e. lower-part set clear (λ b u. tableNumbers set clear depth b u) depth d x e
+      (λ e. lower-own set clear (λ b u. tableNumbers set clear depth b u) depth d (leaf x) e)
+      (λ e. lower-on set clear (λ b u. tableNumbers set clear depth b u) depth d (leaf x) e
       ∙ ap (tableNumbers set clear depth d) (opens-leaf depth x)
       ∙ hole-none depth d x (omega arith) (fill-hole (suc depth) w i low v))))
       (gathered-none (suc depth) (ownNumbers set clear (suc depth)) cs (fillTree (suc depth) w) (λ d.
@@ -90,8 +86,8 @@ module _ (set clear : ℕ) where
       let x : ℕ = fillWord (suc depth) w i in
       ap (ownNumbers set clear (suc depth) d) (slot-fill (suc depth) w i (slot-below (3 - suc depth) (d .start .0)))
       ∙ byBool (whole (3 - suc depth) d)
-      (λ e. own-whole set clear depth d x e ∙ number-hole set clear d x (fill-hole (suc depth) w i low v))
-      (λ e. own-part set clear depth d x e)))
+      (λ e. own-here set clear depth d (leaf x) e ∙ number-hole set clear d x (fill-hole (suc depth) w i low v))
+      (λ e. own-on set clear depth d (leaf x) e)))
 
 -- ---- what a survey adds, where the house rule is kept
 
@@ -232,8 +228,8 @@ module _ (h : Handle) (e : Edit) (c : MemoryRegion) (w : ℕ) (v : Survey) where
             let is = entry-whole h level (chunkEdit e c) w v a in
             subst (λ (xs : List ℕ). AddsNumbers v (surveyEntry h level (chunkEdit e c) w v) (length xs))
             (sym
-            (ap₂ (λ (x y : List ℕ). x ++ y) (lower-whole (e .set) (e .clear) rec depth c w a)
-            (own-whole (e .set) (e .clear) depth c w a)))
+            (ap₂ (λ (x y : List ℕ). x ++ y) (lower-own (e .set) (e .clear) rec depth c (leaf w) a)
+            (own-here (e .set) (e .clear) depth c (leaf w) a)))
             (subst (λ (x : Survey). AddsNumbers v x (length (changedNumber (e .set) (e .clear) c w))) is
             (changed-adds (suc depth) low fine (ap (λ (x : Survey). x .broken) is ∙ ok)))
 
@@ -248,9 +244,9 @@ module _ (h : Handle) (e : Edit) (c : MemoryRegion) (w : ℕ) (v : Survey) where
             (λ n. n) in
             subst (λ (xs : List ℕ). AddsNumbers v (surveyEntry h level (chunkEdit e c) w v) (length xs))
             (sym (ap₂ (λ (x y : List ℕ). x ++ y)
-            (lower-part (e .set) (e .clear) rec depth c w a ∙ ap (rec c) (opens-leaf depth w)
+            (lower-on (e .set) (e .clear) rec depth c (leaf w) a ∙ ap (rec c) (opens-leaf depth w)
             ∙ hole-none (e .set) (e .clear) depth c w low hole)
-            (own-part (e .set) (e .clear) depth c w a)))
+            (own-on (e .set) (e .clear) depth c (leaf w) a)))
             (subst (λ (x : Survey). AddsNumbers v x 0) is (part-adds level c w v kept))
 
 -- ---- a table of a sound pool
@@ -267,11 +263,11 @@ page-whole q m piece =
 module _ {h : Handle} (placed : Placed h) where
   abbrev Counts : ℕ → Type 0
   Counts depth =
-      (q k p : ℕ) (e : Edit) (s : St) (v : Survey) → Area depth q (areaOf e p) → Ready placed s depth k
+      (q k p : ℕ) (e : Edit) (s : St) (v : Survey) → Area depth q (areaOf e p) → Ready h s depth k
       → surveyRange depth h s k e v .broken ≡ false
       → AddsNumbers v (surveyRange depth h s k e v) (length (tableNumbers (e .set) (e .clear) depth (e .region) (treeFrom h s depth k)))
 
-  chunk-adds : (depth q k : ℕ) (e : Edit) (s : St) → Ready placed s (suc depth) k → Counts depth → (c : MemoryRegion) (p : ℕ) (v : Survey)
+  chunk-adds : (depth q k : ℕ) (e : Edit) (s : St) → Ready h s (suc depth) k → Counts depth → (c : MemoryRegion) (p : ℕ) (v : Survey)
       → Piece (suc depth) q (areaOf (chunkEdit e c) p)
       → let i = entryIndex (3 - suc depth) (c .start .0) in
       let x = surveyChunk (λ j n y. surveyRange depth h s j n y) h s k (3 - suc depth) e c v in
@@ -280,42 +276,24 @@ module _ {h : Handle} (placed : Placed h) where
       (length
       (lowerNumbers (e .set) (e .clear) (λ d u. tableNumbers (e .set) (e .clear) depth d u) depth c (slotShows h s (suc depth) k i)
       ++ ownNumbers (e .set) (e .clear) (suc depth) c (slotShows h s (suc depth) k i)))
-  chunk-adds depth q k e s R counts c p v piece ok = go (holds placed R i inside)
+  chunk-adds depth q k e s R counts c p v piece ok =
+      survey-slot placed (λ j n y. surveyRange depth h s j n y) s k e c v
+      (λ (x : Survey) (u : Tree). x .broken ≡ false → AddsNumbers v x (length (numbers u))) depth R
+      (λ w fine kept. leaf-adds h e c w v depth (omega (arith, R .low)) fine kept)
+      (λ j f ready tree kept. subst (λ (xs : List ℕ). AddsNumbers v (surveyRange depth h s j (chunkEdit e c) v) (length xs))
+      (sym
+      (ap₂ (λ (a b : List ℕ). a ++ b)
+      (lower-on (e .set) (e .clear) rec depth c (node f) refl ∙ ap (rec c) (opens-node depth f ∙ sym tree))
+      (own-on (e .set) (e .clear) depth c (node f) refl)
+      ∙ append-nil (rec c (treeFrom h s depth j))))
+      (counts q j p (chunkEdit e c) s v (record { inside = piece .inside; room = piece .room }) ready kept))
+      ok
     where
-      i : ℕ
-      i = entryIndex (3 - suc depth) (c .start .0)
-
-      inside : i < 512
-      inside = slot-below (3 - suc depth) (c .start .0)
-
       rec : MemoryRegion → Tree → List ℕ
       rec d u = tableNumbers (e .set) (e .clear) depth d u
 
-      x : Survey
-      x = surveyChunk (λ j n y. surveyRange depth h s j n y) h s k (3 - suc depth) e c v
-
       numbers : Tree → List ℕ
       numbers u = lowerNumbers (e .set) (e .clear) rec depth c u ++ ownNumbers (e .set) (e .clear) (suc depth) c u
-
-      go : SlotHolds placed s depth k i → AddsNumbers v x (length (numbers (slotShows h s (suc depth) k i)))
-      go (holds-table j r both leads shows) =
-          let is = chunk-table (λ a n y. surveyRange depth h s a n y) h s k (3 - suc depth) e c v j leads in
-          let adds = counts q j p (chunkEdit e c) s v (record { inside = piece .inside; room = piece .room })
-          (entered-ready placed R i inside r)
-          (sym (ap (λ (y : Survey). y .broken) is) ∙ ok) in
-          let tree = treeAt-node (childOf (h .base .0)) depth (slotWord s) j in
-          let same : numbers (slotShows h s (suc depth) k i) ≡ rec c (treeFrom h s depth j) =
-          ap numbers shows ∙ ap₂ (λ (a b : List ℕ). a ++ b) (lower-into (e .set) (e .clear) rec depth c _ ∙ ap (rec c) (opens-node depth _))
-          (own-none (e .set) (e .clear) (suc depth) c _) ∙ append-nil (rec c _) ∙ ap (rec c) (sym tree) in
-          subst (λ (xs : List ℕ). AddsNumbers v x (length xs)) (sym same)
-          (subst (λ (y : Survey). AddsNumbers v y (length (rec c (treeFrom h s depth j)))) (sym is) adds)
-      go (holds-leaf old other shows) =
-          let is = chunk-leaf (λ a n y. surveyRange depth h s a n y) h s k (3 - suc depth) e c v
-          (sym (sub-leaf (h .base .0) (tables s) (3 - suc depth) _ (λ q. other (q .1)))) in
-          let fine = subst (FineTree (suc depth)) shows (slot-fine placed (R .pool) (suc depth) k i (R .used) (R .low) inside) in
-          subst (λ (u : Tree). AddsNumbers v x (length (numbers u))) (sym shows)
-          (subst (λ (y : Survey). AddsNumbers v y (length (numbers (leaf (wordAt s k i))))) (sym is)
-          (leaf-adds h e c (wordAt s k i) v depth (omega (arith, R .low)) fine (sym (ap (λ (y : Survey). y .broken) is) ∙ ok)))
 
   -- THE NUMBERS
   pub survey-numbers : (depth : ℕ) → depth ≤ 3 → Counts depth
@@ -329,17 +307,11 @@ module _ {h : Handle} (placed : Placed h) where
           → AddsNumbers x (surveyChunk (λ j n z. z) h s k 3 e c x)
           (length (ownNumbers (e .set) (e .clear) 0 c (slotTree (treeFrom h s 0 k) (entryIndex 3 (c .start .0)))))
       page c y x piece kept =
-          let i : ℕ = entryIndex 3 (c .start .0) in
-          let inside = slot-below 3 (c .start .0) in
-          let is = chunk-leaf (λ j n z. z) h s k 3 e c x (sym (sub-leaf (h .base .0) (tables s) 3 _ (λ q. omega (arith, q .0)))) in
-          let shows = slot-leaf (codecOf h placed) (view s) 0 k i (R .low) (word-in s k i inside)
-          (λ table. omega (arith, R .low, table .0)) in
-          let fine = subst (FineTree 0) shows (slot-fine placed (R .pool) 0 k i (R .used) (R .low) inside) in
           subst (λ (u : Tree). AddsNumbers x (surveyChunk (λ j n z. z) h s k 3 e c x) (length (ownNumbers (e .set) (e .clear) 0 c u)))
-          (sym (slot-of h s 0 k i ∙ shows))
-          (subst (λ (z : Survey). AddsNumbers x z (length (ownNumbers (e .set) (e .clear) 0 c (leaf (wordAt s k i))))) (sym is)
-          (page-adds h e c (wordAt s k i) x fine (page-whole (child q (slotAt 0 c)) (chunkMap (areaOf e p) c y) piece)
-          (sym (ap (λ (z : Survey). z .broken) is) ∙ kept)))
+          (sym (slot-of h s 0 k (entryIndex 3 (c .start .0))))
+          (survey-page placed (λ j n z. z) s k e c x
+          (λ (z : Survey) (u : Tree). z .broken ≡ false → AddsNumbers x z (length (ownNumbers (e .set) (e .clear) 0 c u))) R
+          (λ w fine. page-adds h e c w x fine (page-whole (child q (slotAt 0 c)) (chunkMap (areaOf e p) c y) piece)) kept)
   survey-numbers (suc depth) low q k p e s v area R ok =
       let t : Tree = treeFrom h s (suc depth) k in
       let cs : List MemoryRegion = chunks (3 - suc depth) (e .region .start .0) (e .region .end .0) in

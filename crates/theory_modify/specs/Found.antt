@@ -11,19 +11,17 @@ use borrow.Author.Tests.{eq-eqb}
 use Rattle.laws.specs.Size.{sizeAt}
 use Rattle.laws.specs.Test.{byBool, eq-or, le-or, both}
 use Rattle.entry.specs.Word.{kindOf, only, kind-clear, valid, valid-no, edited}
-use Rattle.entry.specs.Sub.{sub-leaf}
 use Rattle.address_slot.specs.Slot.{entryIndex}
 use Rattle.region.specs.Region.{region, whole}
 use Rattle.region.specs.Chunks.{chunks, Tiles, none, more, chunks-tile}
+use Rattle.region.specs.Each.{eachOf, eachChunk}
 use Rattle.region.specs.declared.MemoryRegion.{MemoryRegion}
-use Rattle.pool.specs.State.{St, tables, wordAt}
+use Rattle.pool.specs.State.{St}
 use Rattle.pool.specs.declared.Handle.{Handle}
 use Rattle.map_rules.specs.declared.Map.{Map}
 use Rattle.map_rules.specs.Rules.{chunkMap}
-use Rattle.map_count_spec.specs.Needed.{slot-below}
 use Rattle.modify_entry.specs.declared.Edit.{Edit}
-use Rattle.modify_entry.specs.Word.{ofKind, editWord}
-use Rattle.modify_entry.specs.Each.{eachOf, eachChunk, chunkEdit}
+use Rattle.modify_entry.specs.Word.{chunkEdit, ofKind, editWord}
 use Rattle.modify_survey.specs.declared.Survey.{Survey}
 use Rattle.modify_survey.specs.House.{mayChange}
 use Rattle.modify_survey.specs.Find.{splitsIn, breach, breach-kept, breach-first, surveyPart, surveyWhole, surveyEntry, surveyChunk}
@@ -31,21 +29,18 @@ use Rattle.modify_survey.specs.Find.{surveyRange, part-block, part-other, whole
 use Rattle.modify_survey.specs.Find.{whole-allowed, whole-breach, entry-whole, entry-part}
 use Rattle.theory_forest.specs.Tree.{Tree, leaf, node, treeAt-node}
 use Rattle.theory_forest.specs.Walk.{Ends, walkTree}
-use Rattle.theory_forest.specs.Keep.{slot-leaf}
-use Rattle.theory_sound.specs.Codec.{Placed, codecOf, childOf, slotWord, view, word-in, treeFrom}
+use Rattle.theory_sound.specs.Codec.{Placed, childOf, slotWord, treeFrom}
+use Rattle.theory_sound.specs.Step.{Ready}
+use Rattle.theory_sound.specs.Slot.{slotShows}
 use Rattle.theory_tree.specs.Page.{pagesIn, first, child, child-order, slotOfPage, slot-lt, end-rest, multiple-child, in-of, in-rest}
 use Rattle.theory_tree.specs.Page.{entry-rest}
 use Rattle.theory_tree.specs.Fine.{Fine}
-use Rattle.theory_tree.specs.Shown.{FineTree}
 use Rattle.theory_tree.specs.Chunks.{index-slot}
-use Rattle.theory_map.specs.Leaf.{slot-fine}
 use Rattle.theory_map.specs.Stand.{Piece}
-use Rattle.theory_map.specs.Moves.{slotShows, Ready, entered-ready}
 use Rattle.theory_map.specs.Pieces.{Area, slotAt, Pieces, pieces}
-use Rattle.theory_map.specs.Down.{SlotHolds, holds-table, holds-leaf, holds}
 use Rattle.theory_modify.specs.Word.{hole-stays}
-use Rattle.theory_modify.specs.Range.{areaOf}
-use Rattle.theory_modify.specs.Splits.{chunk-leaf, chunk-table}
+use Rattle.theory_modify.specs.Pass.{areaOf}
+use Rattle.theory_modify.specs.Entry.{survey-page, survey-slot}
 use Rattle.theory_modify.specs.Counted.{valid-block, page-whole}
 use Rattle.theory_modify.specs.Listed.{slot-in}
 
@@ -427,7 +422,7 @@ module _ {h : Handle} (placed : Placed h) where
 
   abbrev Scans : ℕ → Type 0
   Scans depth =
-      (q k p : ℕ) (e : Edit) (s : St) (v : Survey) → Area depth q (areaOf e p) → Ready placed s depth k
+      (q k p : ℕ) (e : Edit) (s : St) (v : Survey) → Area depth q (areaOf e p) → Ready h s depth k
       → e .region .start .0 ≤ e .region .end .0
       → Finds (BreaksIn e (suc depth) (treeFrom h s depth k)) (e .region .start .0 / 4096) (e .region .end .0 / 4096) v
       (surveyRange depth h s k e v)
@@ -447,37 +442,16 @@ module _ {h : Handle} (placed : Placed h) where
       (walk-leaf (slotOfPage y) depth w) at)
       (leaf-finds h e c w v depth q p low fine piece)
 
-  chunk-finds : (depth q k : ℕ) (e : Edit) (s : St) → Ready placed s (suc depth) k → Scans depth → (c : MemoryRegion) (p : ℕ) (v : Survey)
+  chunk-finds : (depth q k : ℕ) (e : Edit) (s : St) → Ready h s (suc depth) k → Scans depth → (c : MemoryRegion) (p : ℕ) (v : Survey)
       → Piece (suc depth) q (areaOf (chunkEdit e c) p)
       → ChunkFinds (suc depth) e c (slotShows h s (suc depth) k (entryIndex (3 - suc depth) (c .start .0))) v
       (surveyChunk (λ j n y. surveyRange depth h s j n y) h s k (3 - suc depth) e c v)
-  chunk-finds depth q k e s R scans c p v piece = go (holds placed R i inside)
-    where
-      i : ℕ
-      i = entryIndex (3 - suc depth) (c .start .0)
-
-      inside : i < 512
-      inside = slot-below (3 - suc depth) (c .start .0)
-
-      x : Survey
-      x = surveyChunk (λ j n y. surveyRange depth h s j n y) h s k (3 - suc depth) e c v
-
-      go : SlotHolds placed s depth k i → ChunkFinds (suc depth) e c (slotShows h s (suc depth) k i) v x
-      go (holds-table j r both leads shows) =
-          let is = chunk-table (λ a n y. surveyRange depth h s a n y) h s k (3 - suc depth) e c v j leads in
-          let found = scans q j p (chunkEdit e c) s v (record { inside = piece .inside; room = piece .room })
-          (entered-ready placed R i inside r) (omega (arith, piece .some)) in
-          let tree : treeFrom h s depth j ≡ slotShows h s (suc depth) k i =
-          treeAt-node (childOf (h .base .0)) depth (slotWord s) j ∙ sym shows in
-          subst (λ (u : Tree). ChunkFinds (suc depth) e c u v x) tree
-          (subst (ChunkFinds (suc depth) e c (treeFrom h s depth j) v) (sym is) found)
-      go (holds-leaf old other shows) =
-          let is = chunk-leaf (λ a n y. surveyRange depth h s a n y) h s k (3 - suc depth) e c v
-          (sym (sub-leaf (h .base .0) (tables s) (3 - suc depth) _ (λ q. other (q .1)))) in
-          let fine = subst (FineTree (suc depth)) shows (slot-fine placed (R .pool) (suc depth) k i (R .used) (R .low) inside) in
-          subst (λ (u : Tree). ChunkFinds (suc depth) e c u v x) (sym shows)
-          (subst (ChunkFinds (suc depth) e c (leaf (wordAt s k i)) v) (sym is)
-          (leaf-chunk (suc depth) q p e c (wordAt s k i) v (omega (arith, R .low)) fine piece))
+  chunk-finds depth q k e s R scans c p v piece =
+      survey-slot placed (λ j n y. surveyRange depth h s j n y) s k e c v
+      (λ (x : Survey) (u : Tree). ChunkFinds (suc depth) e c u v x) depth R
+      (λ w fine. leaf-chunk (suc depth) q p e c w v (omega (arith, R .low)) fine piece)
+      (λ j f ready tree. subst (λ (u : Tree). ChunkFinds (suc depth) e c u v (surveyRange depth h s j (chunkEdit e c) v)) tree
+      (scans q j p (chunkEdit e c) s v (record { inside = piece .inside; room = piece .room }) ready (omega (arith, piece .some))))
 
   -- a table's chunks
   table-finds : (depth q k p : ℕ) (e : Edit) (s : St) (v : Survey) (f : MemoryRegion → Survey → Survey) → depth ≤ 3
@@ -506,20 +480,9 @@ module _ {h : Handle} (placed : Placed h) where
   pub survey-finds : (depth : ℕ) → depth ≤ 3 → Scans depth
   unfolding surveyRange
   survey-finds zero low q k p e s v area R some =
-      table-finds 0 q k p e s v (surveyChunk (λ j n x. x) h s k 3 e) low area some (λ c y x piece. page c y x piece)
-    where
-      page : (c : MemoryRegion) (y : ℕ) (x : Survey) → Piece 0 (child q (slotAt 0 c)) (areaOf (chunkEdit e c) y)
-          → ChunkFinds 0 e c (slotShows h s 0 k (entryIndex 3 (c .start .0))) x (surveyChunk (λ j n z. z) h s k 3 e c x)
-      page c y x piece =
-          let i : ℕ = entryIndex 3 (c .start .0) in
-          let inside = slot-below 3 (c .start .0) in
-          let is = chunk-leaf (λ j n z. z) h s k 3 e c x (sym (sub-leaf (h .base .0) (tables s) 3 _ (λ q. omega (arith, q .0)))) in
-          let shows = slot-leaf (codecOf h placed) (view s) 0 k i (R .low) (word-in s k i inside)
-          (λ table. omega (arith, R .low, table .0)) in
-          let fine = subst (FineTree 0) shows (slot-fine placed (R .pool) 0 k i (R .used) (R .low) inside) in
-          subst (λ (u : Tree). ChunkFinds 0 e c u x (surveyChunk (λ j n z. z) h s k 3 e c x)) (sym shows)
-          (subst (ChunkFinds 0 e c (leaf (wordAt s k i)) x) (sym is)
-          (leaf-chunk 0 (child q (slotAt 0 c)) y e c (wordAt s k i) x (omega arith) fine piece))
+      table-finds 0 q k p e s v (surveyChunk (λ j n x. x) h s k 3 e) low area some
+      (λ c y x piece. survey-page placed (λ j n z. z) s k e c x (λ (z : Survey) (u : Tree). ChunkFinds 0 e c u x z) R
+      (λ w fine. leaf-chunk 0 (child q (slotAt 0 c)) y e c w x (omega arith) fine piece))
   survey-finds (suc depth) low q k p e s v area R some =
       table-finds (suc depth) q k p e s v (surveyChunk (λ j n x. surveyRange depth h s j n x) h s k (3 - suc depth) e) low area some
       (λ c y x piece. chunk-finds depth (child q (slotAt (suc depth) c)) k e s R (survey-finds depth (omega arith)) c y x piece)

@@ -1,16 +1,15 @@
 -- Laws of the numbers that a modify lists: by what an entry is, after the first pass over a table, and what is gathered from a table.
 use mathlib.Core.Path.{_≡_, refl, sym, ap, ap₂, _∙_}
-use mathlib.Core.Bool.{true, false}
+use mathlib.Core.Bool.{true, false, true≢false}
 use mathlib.Core.List.{List, [], _∷_, _++_}
 use mathlib.Core.Logic.{_≢_}
-use Prim.Native.Nat.{ℕ, zero, suc, _+_, _-_, _/_, _%_, _^_, _≤_, _<_}
+use Prim.Native.Nat.{ℕ, suc, _+_, _-_, _/_, _%_, _^_, _≤_, _<_}
 use native.Mathlib.Omega.{arith}
 use lib.ListN.{length, length-append}
 use borrow.Author.Tests.{eq-eqb, ne-eqb}
 use Rattle.laws.specs.Test.{byBool}
 use Rattle.entry.specs.Word.{valid, edited}
 use Rattle.address_slot.specs.Slot.{entryIndex}
-use Rattle.region.specs.Region.{whole}
 use Rattle.region.specs.Chunks.{chunks}
 use Rattle.region.specs.declared.MemoryRegion.{MemoryRegion}
 use Rattle.map_rules.specs.declared.Map.{Map}
@@ -21,7 +20,7 @@ use Rattle.theory_tree.specs.Chunks.{atSlot, sweep, chunkedTable, index-slot}
 use Rattle.theory_tree.specs.Needed.{slotTree}
 use Rattle.theory_tree.specs.DocumentModify.{documentModify}
 use Rattle.theory_map.specs.Pieces.{slotAt, Pieces}
-use Rattle.theory_modify.specs.Passes.{downTo, down-whole, down-part, down-into}
+use Rattle.theory_modify.specs.Passes.{ownEntry, downTo, down-own, down-on}
 use Rattle.theory_modify.specs.Numbers.{gathered, changedNumber, ownNumbers, lowerNumbers}
 
 module _ (set clear : ℕ) where
@@ -38,56 +37,43 @@ module _ (set clear : ℕ) where
   unfolding changedNumber
   number-hole c w v = rw v
 
-  pub own-whole : (depth : ℕ) (c : MemoryRegion) (w : ℕ) → whole (3 - suc depth) c ≡ true
-      → ownNumbers set clear (suc depth) c (leaf w) ≡ changedNumber set clear c w
+  pub own-on : (depth : ℕ) (c : MemoryRegion) (u : Tree) → ownEntry depth c u ≡ false → ownNumbers set clear (suc depth) c u ≡ []
   unfolding ownNumbers
-  own-whole depth c w e = rw e
-
-  pub own-part : (depth : ℕ) (c : MemoryRegion) (w : ℕ) → whole (3 - suc depth) c ≡ false → ownNumbers set clear (suc depth) c (leaf w) ≡ []
-  unfolding ownNumbers
-  own-part depth c w e = rw e
-
-  pub own-none : (depth : ℕ) (c : MemoryRegion) (f : ℕ → Tree) → ownNumbers set clear depth c (node f) ≡ []
-  unfolding ownNumbers
-  own-none zero c f = refl
-  own-none (suc depth) c f = refl
+  own-on depth c (leaf w) e = rw e
+  own-on depth c (node f) e = refl
 
   module _ (rec : MemoryRegion → Tree → List ℕ) (depth : ℕ) (c : MemoryRegion) where
-    pub lower-whole : (w : ℕ) → whole (3 - suc depth) c ≡ true → lowerNumbers set clear rec depth c (leaf w) ≡ []
+    pub lower-own : (u : Tree) → ownEntry depth c u ≡ true → lowerNumbers set clear rec depth c u ≡ []
     unfolding lowerNumbers
-    lower-whole w e = rw e
+    lower-own (leaf w) e = rw e
+    lower-own (node f) e = absurd (true≢false (sym e))
 
-    pub lower-part : (w : ℕ) → whole (3 - suc depth) c ≡ false → lowerNumbers set clear rec depth c (leaf w) ≡ rec c (opened depth (leaf w))
+    pub lower-on : (u : Tree) → ownEntry depth c u ≡ false → lowerNumbers set clear rec depth c u ≡ rec c (opened depth u)
     unfolding lowerNumbers opened
-    lower-part w e = rw e
-
-    pub lower-into : (f : ℕ → Tree) → lowerNumbers set clear rec depth c (node f) ≡ rec c (opened depth (node f))
-    unfolding lowerNumbers opened
-    lower-into f = refl
+    lower-on (leaf w) e = rw e
+    lower-on (node f) e = refl
 
   -- ---- after the first pass the leaves are the table's own entries
 
   -- an entry as the second pass finds it
-  unfoldable pub leafNumbers : MemoryRegion → Tree → List ℕ
+  abbrev pub leafNumbers : MemoryRegion → Tree → List ℕ
   leafNumbers c (leaf w) = changedNumber set clear c w
   leafNumbers c (node f) = []
 
-  pub leaf-number : (c : MemoryRegion) (w : ℕ) → leafNumbers c (leaf w) ≡ changedNumber set clear c w
-  unfolding leafNumbers
-  leaf-number c w = refl
-
-  pub leaf-none : (c : MemoryRegion) (f : ℕ → Tree) → leafNumbers c (node f) ≡ []
-  unfolding leafNumbers
-  leaf-none c f = refl
+  pub own-here : (depth : ℕ) (c : MemoryRegion) (u : Tree) → ownEntry depth c u ≡ true
+      → ownNumbers set clear (suc depth) c u ≡ leafNumbers c u
+  unfolding ownNumbers
+  own-here depth c (leaf w) e = rw e
+  own-here depth c (node f) e = refl
 
   pub leaf-page : (c : MemoryRegion) (u : Tree) → leafNumbers c u ≡ ownNumbers set clear 0 c u
-  unfolding leafNumbers ownNumbers
+  unfolding ownNumbers
   leaf-page c (leaf w) = refl
   leaf-page c (node f) = refl
 
   sweep-none : (d : MemoryRegion) (depth : ℕ) (f : MemoryRegion → ℕ → Tree → Tree) (cs : List MemoryRegion) (p : ℕ) (g : ℕ → Tree)
       → leafNumbers d (sweep depth f cs p (node g)) ≡ []
-  unfolding sweep atSlot leafNumbers
+  unfolding sweep atSlot
   sweep-none d depth f [] p g = refl
   sweep-none d depth f (c ∷ cs) p g = sweep-none d depth f cs (p + (c .end .0 - c .start .0)) _
 
@@ -106,11 +92,9 @@ module _ (set clear : ℕ) where
 
   pub leaf-after : (depth : ℕ) (c : MemoryRegion) (p : ℕ) (u : Tree)
       → leafNumbers c (downTo set clear depth c p u) ≡ ownNumbers set clear (suc depth) c u
-  leaf-after depth c p (leaf w) = byBool (whole (3 - suc depth) c)
-      (λ e. ap (leafNumbers c) (down-whole set clear depth c p w e) ∙ leaf-number c w ∙ sym (own-whole depth c w e))
-      (λ e. ap (leafNumbers c) (down-part set clear depth c p w e) ∙ open-none c depth c p (leaf w) ∙ sym (own-part depth c w e))
-  leaf-after depth c p (node f) =
-      ap (leafNumbers c) (down-into set clear depth c p f) ∙ open-none c depth c p (node f) ∙ sym (own-none (suc depth) c f)
+  leaf-after depth c p u = byBool (ownEntry depth c u)
+      (λ e. ap (leafNumbers c) (down-own set clear depth c p u e) ∙ sym (own-here depth c u e))
+      (λ e. ap (leafNumbers c) (down-on set clear depth c p u e) ∙ open-none c depth c p u ∙ sym (own-on depth c u e))
 
 -- ---- what is gathered from a table
 

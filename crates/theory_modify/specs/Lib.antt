@@ -2,22 +2,23 @@
 pub mod Numbers
 pub mod Terms
 pub mod House
--- a modify on lists is a modify on trees: one word, the two passes over a table, one table
+-- a modify on lists is a modify on trees: one word, the two passes over a table, one slot, one table
 pub mod Word
 pub mod Passes
+pub mod Entry
+pub mod Gathered
+pub mod Notes
+pub mod Pass
+pub mod Own
 pub mod Range
 pub mod Splits
 -- the list
-pub mod Gathered
-pub mod Notes
-pub mod Listing
 pub mod Counted
 pub mod Once
 pub mod Listed
 -- the call
 pub mod Asked
 pub mod Call
-pub mod Place
 -- the house rule
 pub mod Found
 pub mod Stays

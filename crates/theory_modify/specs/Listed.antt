@@ -35,8 +35,8 @@ use Rattle.theory_tree.specs.DocumentModify.{documentModify}
 use Rattle.theory_map.specs.Stand.{Piece}
 use Rattle.theory_map.specs.Pieces.{Area, slotAt, Pieces, pieces}
 use Rattle.theory_modify.specs.Numbers.{gathered, changedNumber, ownNumbers, lowerNumbers, tableNumbers, occurs, firstPage}
-use Rattle.theory_modify.specs.Gathered.{number-changed, number-same, number-hole, own-whole, own-part, own-none, lower-whole}
-use Rattle.theory_modify.specs.Gathered.{lower-part, lower-into, leaf-page, leaf-number}
+use Rattle.theory_modify.specs.Gathered.{number-changed, number-same, number-hole, own-on, own-here, lower-own}
+use Rattle.theory_modify.specs.Gathered.{lower-on, leaf-page}
 use Rattle.theory_modify.specs.Gathered.{at-slot, in-node, at-node, at-others, gathered-from, sweep-before}
 use Rattle.theory_modify.specs.Once.{occurs-append, pagesBelow, Few, nil-occurs, piece-some, gathered-few, page-few, entry-few}
 use Rattle.theory_modify.specs.Once.{table-few, occurs-both}
@@ -362,7 +362,7 @@ module _ (set clear : ℕ) where
             from = omega arith;
             count =
                 ap (occurs (firstPage 0 (after 0 c p (leaf w)) y % 2 ^ 44))
-                (sym (leaf-page set clear c (leaf w)) ∙ leaf-number set clear c w)
+                (sym (leaf-page set clear c (leaf w)))
                 ∙ changed-count 0 c w y _ fine (ap (λ (n : ℕ). n % 2 ^ 44) (here ∙ sym start)) ∙ ap changes (sym (seen-leaf 0 w y));
           }
 
@@ -387,8 +387,8 @@ module _ (set clear : ℕ) where
           record {
             from = omega arith;
             count = ap (occurs (firstPage (suc depth) (after (suc depth) c p (leaf w)) y % 2 ^ 44))
-                (ap₂ (λ (a b : List ℕ). a ++ b) (lower-whole set clear (λ d v. tableNumbers set clear depth d v) depth c w all)
-                (own-whole set clear depth c w all))
+                (ap₂ (λ (a b : List ℕ). a ++ b) (lower-own set clear (λ d v. tableNumbers set clear depth d v) depth c (leaf w) all)
+                (own-here set clear depth c (leaf w) all))
                 ∙ changed-count (suc depth) c w y _ fine (ap (λ (n : ℕ). n % 2 ^ 44) here) ∙ ap changes (sym (seen-leaf (suc depth) w y));
           }
 
@@ -417,14 +417,14 @@ module _ (set clear : ℕ) where
       up-tells : (depth : ℕ) → suc depth ≤ 3 → EachTells depth → EachTells (suc depth)
       up-tells depth low tells q m c p (node f) piece fine above under =
           goes-tells depth q p c m (node f) f low tells piece fine above under (opens-node depth f) (chunked-into depth c p f)
-          (lower-into set clear _ depth c f)
-          (own-none set clear (suc depth) c f) refl
+          (lower-on set clear _ depth c (node f) refl)
+          (own-on set clear depth c (node f) refl) refl
       up-tells depth low tells q m c p (leaf w) piece fine above under = byBool (whole (3 - suc depth) c)
           (λ e. entry-whole depth q p w c m low piece fine above under e)
           (λ e. goes-tells depth q p c m (leaf w) (fillSlot depth w) low tells piece (fine-fill-slots depth w fine) above under
           (opens-leaf depth w ∙ fill-node depth w)
           (chunked-part depth c p w e)
-          (lower-part set clear _ depth c w e) (own-part set clear depth c w e)
+          (lower-on set clear _ depth c (leaf w) e) (own-on set clear depth c (leaf w) e)
           (seen-node depth (fillSlot depth w) y
           ∙ ap (λ (t : Tree). seen depth t y) (fill-slot depth w (slotOfPage y depth) (slot-lt y depth)) ∙ seen-leaf depth _ y
           ∙ fill-seen depth w y fine

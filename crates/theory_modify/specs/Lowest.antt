@@ -34,8 +34,7 @@ use Rattle.theory_modify.specs.Terms.{treeAfterModify}
 use Rattle.theory_modify.specs.House.{reachOf, ValidEntry, Covered, Breaks, LowestBreach, Keeps}
 use Rattle.theory_modify.specs.Word.{valid-edited}
 use Rattle.theory_modify.specs.Asked.{asked-forwards}
-use Rattle.theory_modify.specs.Call.{area, ready, call-passed, call-clear, call-shaped, call-sound, call-tree}
-use Rattle.theory_modify.specs.Place.{region-page, page-region, region-spans}
+use Rattle.theory_modify.specs.Call.{area, region-paged, ready, call-passed, call-clear, call-leaves}
 use Rattle.theory_modify.specs.Found.{WithinPages, newWord, Broken, First, Finds, new-is, BreaksIn, survey-finds}
 use Rattle.theory_modify.specs.Stays.{modify-stays}
 
@@ -155,12 +154,12 @@ module _ {h : Handle} {c : ModifyArguments} {s : St} (passed : ModifyPassed h c 
     first-breaks : Breaks h c s address w
     first-breaks =
         of-page address w
-        (page-region passed address (record { from = omega (arith, f .from, back); below = omega (arith, f .below, back) }))
+        (region-paged passed .address address (record { from = omega (arith, f .from, back); below = omega (arith, f .below, back) }))
         (subst (λ (y : ℕ). Broken h (e .set) (e .clear) lo hi (ends y) y w) back (f .here))
 
     first-least : (b u : ℕ) → b < address → ¬ (Breaks h c s b u)
     unfolding address
-    first-least b u l B = f .least (b / 4096) u (region-page passed b (B .stands .region) .from) (omega arith) (to-page b u B)
+    first-least b u l B = f .least (b / 4096) u (region-paged passed .page b (B .stands .region) .from) (omega arith) (to-page b u B)
 
     first-lowest : LowestBreach h c s w
     first-lowest = record { address = address; breaks = first-breaks; least = first-least }
@@ -170,7 +169,7 @@ module _ {h : Handle} {c : ModifyArguments} {s : St} (passed : ModifyPassed h c 
     unfolding address
     lowest-first {u} L =
         let a : ℕ = L .address in
-        let page = region-page passed a (L .breaks .stands .region) in
+        let page = region-paged passed .page a (L .breaks .stands .region) in
         let broken = to-page a u (L .breaks) in
         let same : f .page ≡ a / 4096 = go (le-or (f .page) (a / 4096)) (le-or a (f .page * 4096)) in
         sym (subst (λ (y : ℕ). Broken h (e .set) (e .clear) lo hi (ends y) y w) same (f .here) .word) ∙ broken .word
@@ -179,7 +178,7 @@ module _ {h : Handle} {c : ModifyArguments} {s : St} (passed : ModifyPassed h c 
             → f .page ≡ L .address / 4096
         go (inr l) k =
             absurd
-            (f .least (L .address / 4096) u (region-page passed (L .address) (L .breaks .stands .region) .from) l
+            (f .least (L .address / 4096) u (region-paged passed .page (L .address) (L .breaks .stands .region) .from) l
             (to-page (L .address) u (L .breaks)))
         go (inl l) (inr k) = absurd (L .least (f .page * 4096) w k first-breaks)
         go (inl l) (inl k) = omega arith
@@ -187,7 +186,7 @@ module _ {h : Handle} {c : ModifyArguments} {s : St} (passed : ModifyPassed h c 
   -- where the survey is not broken no address breaks
   kept-none : surveyed h c s .broken ≡ false → Keeps h c s
   kept-none kept va u B =
-      let page = region-page passed va (B .stands .region) in
+      let page = region-paged passed .page va (B .stands .region) in
       scanned .none refl kept (va / 4096) u (page .from) (page .below) (to-page va u B)
 
   -- REFUSAL 10, BY THE WALK
@@ -239,7 +238,7 @@ module _ {h : Handle} {c : ModifyArguments} {s : St} (passed : ModifyPassed h c 
     pub kept-walk : endsOf h (treeAfterModify h c s) (va / 4096) ≡ record { word = editWord level e w; depth = ends (va / 4096) .depth }
     kept-walk =
         let y : ℕ = va / 4096 in
-        let page = region-page passed va (S .region) in
+        let page = region-paged passed .page va (S .region) in
         let v : valid (ends y .word) ≡ true = ap valid (at-word same-end) ∙ valid-of w (S .valid) in
         let W : WithinPages lo hi (ends y .depth) y =
         covered-within (ends y .depth) va (low-end va) (subst (λ (l : ℕ). Covered c l va) (sym (at-level same-end)) kept-covered) in
@@ -247,7 +246,7 @@ module _ {h : Handle} {c : ModifyArguments} {s : St} (passed : ModifyPassed h c 
         sym (valid-edited e (ends y .word) (ends y .depth) (low-end va) (ends-fine y .fine) v)
         ∙ ap₂ (λ (l x : ℕ). editWord l e x) (at-level same-end) (at-word same-end) in
         modify-stays (depthOf h) (rootIn h) (modifyPagesOf c) (rootTree h s) y (root-fine (shaped-placed (passed .shape)) (passed .pool))
-        (region-spans passed va (S .region))
+        (region-paged passed .spans va (S .region))
         (page .from) (page .below) v W
         ∙ ap (λ (x : ℕ). record { word = x; depth = ends y .depth }) new
 
@@ -269,8 +268,8 @@ module _ {h : Handle} {c : ModifyArguments} {s s′ : St} {list list′ : List �
       → (reachOf h s′ va ≡ at level (editWord level (editAsked c) w)) × (mayChange h w (editWord level (editAsked c) w) ≡ true)
       × Covered c level va
   live-safe {va} {level} {w} S = (
-    reach-ends (call-shaped modifies) (call-sound modifies) va
-        ∙ ap (λ (t : Tree). at (3 - endsOf h t (va / 4096) .depth) (endsOf h t (va / 4096) .word)) (call-tree modifies)
+    reach-ends (call-leaves modifies .shape) (call-leaves modifies .pool) va
+        ∙ ap (λ (t : Tree). at (3 - endsOf h t (va / 4096) .depth) (endsOf h t (va / 4096) .word)) (call-leaves modifies .tree)
         ∙ ap (λ (x : Ends). at (3 - x .depth) (x .word)) (kept-walk was kept va level w S)
         ∙ ap (λ (l : ℕ). at l (editWord level (editAsked c) w)) (kept-level was kept va level w S),
     kept-change was kept va level w S,

@@ -20,10 +20,10 @@ use Rattle.modify.specs.declared.Modified.the-variants.{Refused}
 use Rattle.modify_verify.specs.Permit.{askedEdit}
 use Rattle.modify.specs.Call.{Modifying, modifying}
 use Rattle.theory_forest.specs.Tree.{Tree}
-use Rattle.theory_forest.specs.Nodes.{nodes}
 use Rattle.theory_sound.specs.Clauses.{SoundPool}
 use Rattle.theory_sound.specs.Codec.{shaped-placed, rootTree}
 use Rattle.theory_sound.specs.Hanging.{used-tree}
+use Rattle.theory_sound.specs.Step.{leaves-used}
 use Rattle.theory_tree.specs.Walk.{Seen, mapped as seenMapped, hole as seenHole, seen}
 use Rattle.theory_tree.specs.Shown.{FineTable}
 use Rattle.theory_tree.specs.Demands.{modified as tree-modified, holes-stay, modify-others, modify-tables}
@@ -31,20 +31,20 @@ use Rattle.arm.specs.Arm.{at as endsAt}
 use Rattle.theory_walk.specs.AsBefore.{walkOf, Shown, mapped, hole, shown}
 use Rattle.theory_map.specs.Terms.{InSpan, depthOf, rootIn}
 use Rattle.theory_map.specs.Leaf.{root-fine}
-use Rattle.theory_map.specs.Shown.{inBytes, walk-shown}
+use Rattle.theory_map.specs.Shown.{inBytes, walk-shown, leaves-shown}
 use Rattle.theory_map.specs.Place.{span-spans}
 use Rattle.theory_modify.specs.Terms.{ModifyArguments, modifyAnswer, Modifies, editAsked, ModifyPassed, surveyed, InModifyRegion}
-use Rattle.theory_modify.specs.Terms.{flagsAfter, modifyPagesOf, treeAfterModify, madeByModify, numbersOf}
+use Rattle.theory_modify.specs.Terms.{flagsAfter, modifyPagesOf, madeByModify, numbersOf}
 use Rattle.theory_modify.specs.Numbers.{occurs, firstPage}
 use Rattle.theory_modify.specs.Listed.{changes}
-use Rattle.theory_modify.specs.Call.{workAfter, given, splits-made, numbers-made, numbers-one, numbers-tell, call-full, call-broken}
+use Rattle.theory_modify.specs.Call.{workAfter, region-paged, given, splits-made, numbers-made, numbers-one, numbers-tell, call-full}
+use Rattle.theory_modify.specs.Call.{call-broken}
 use Rattle.theory_modify.specs.Call.{call-short, call-accepted, full-back}
-use Rattle.theory_modify.specs.Call.{broken-back, short-back, call-passed, Clear, call-clear, call-shaped, call-sound, call-tree}
+use Rattle.theory_modify.specs.Call.{broken-back, short-back, call-passed, Clear, call-clear, call-leaves}
 use Rattle.theory_modify.specs.Call.{call-answer, call-off, call-on}
 use Rattle.theory_modify.specs.House.{reachOf, ValidEntry, Covered, LowestBreach, Keeps, ModifyFits}
 use Rattle.theory_modify.specs.Lowest.{survey-lowest, survey-keeps, live-safe}
 use Rattle.theory_modify.specs.Change.{bit, houseBit, house-rule-bits}
-use Rattle.theory_modify.specs.Place.{region-page, page-region, region-spans}
 
 -- ---- what a walk shows, read back
 
@@ -81,18 +81,13 @@ flags-are c f = refl
 module _ {h : Handle} {c : ModifyArguments} {s s′ : St} {list list′ : List ℕ} {n k : ℕ} (modifies : Modifies h c s list n k s′ list′) where
   -- the pool is sound afterwards;
   pub modify-keeps-sound : SoundPool h s′
-  modify-keeps-sound = call-sound modifies
+  modify-keeps-sound = call-leaves modifies .pool
 
   passed : ModifyPassed h c s
   passed = call-passed modifies
 
   fine : FineTable (depthOf h) (rootTree h s)
   fine = root-fine (shaped-placed (passed .shape)) (passed .pool)
-
-  after-shown : (va : ℕ) → shown (walkOf h s′ va) ≡ inBytes (seen (suc (depthOf h)) (treeAfterModify h c s) (va / 4096))
-  after-shown va =
-      walk-shown (call-shaped modifies) (call-sound modifies) va
-      ∙ ap (λ (t : Tree). inBytes (seen (suc (depthOf h)) t (va / 4096))) (call-tree modifies)
 
   module _ (va : ℕ) where
     before-shown : {x : Shown} → shown (walkOf h s va) ≡ x → inBytes (seen (suc (depthOf h)) (rootTree h s) (va / 4096)) ≡ x
@@ -105,11 +100,10 @@ module _ {h : Handle} {c : ModifyArguments} {s s′ : St} {list list′ : List �
       region-after : let x = edited (modifyPagesOf c .set) (modifyPagesOf c .clear) f in
           shown (walkOf h s′ va) ≡ inBytes (cond (valid x) (seenMapped x (was-page .frame)) (seenHole x))
       region-after =
-          after-shown va
-          ∙ ap inBytes
+          leaves-shown (call-leaves modifies) va
           (tree-modified (depthOf h) (rootIn h) (rootTree h s) fine (modifyPagesOf c) (given passed) (va / 4096)
-          (region-spans passed va at) f (was-page .frame)
-          (region-page passed va at) (was-page .is))
+          (region-paged passed .spans va at) f (was-page .frame)
+          (region-paged passed .page va at) (was-page .is))
 
       -- a page of the region that was mapped keeps its frame, with the flags (flags or set) without clear;
       pub modify-valid-pages : flagsAfter c f % 2 ≡ 1 → shown (walkOf h s′ va) ≡ mapped (flagsAfter c f) p
@@ -128,28 +122,25 @@ module _ {h : Handle} {c : ModifyArguments} {s s′ : St} {list list′ : List �
     pub modify-holes-stay : InModifyRegion c va → {f : ℕ} → shown (walkOf h s va) ≡ hole f → shown (walkOf h s′ va) ≡ hole f
     unfolding inBytes
     modify-holes-stay at {f} was =
-        after-shown va
-        ∙ ap inBytes
+        leaves-shown (call-leaves modifies) va
         (holes-stay (depthOf h) (rootIn h) (rootTree h s) fine (modifyPagesOf c) (given passed) (va / 4096)
-        (region-spans passed va at) f (region-page passed va at)
+        (region-paged passed .spans va at) f (region-paged passed .page va at)
         (was-hole (seen (suc (depthOf h)) (rootTree h s) (va / 4096)) f (before-shown was)))
 
     -- every other address of the span walks as before;
     pub modify-elsewhere-as-before : InSpan h va → ¬ (InModifyRegion c va) → shown (walkOf h s′ va) ≡ shown (walkOf h s va)
     modify-elsewhere-as-before at other =
-        after-shown va
-        ∙ ap inBytes
+        leaves-shown (call-leaves modifies) va
         (modify-others (depthOf h) (rootIn h) (rootTree h s) fine (modifyPagesOf c) (given passed) (va / 4096)
         (span-spans h va (passed .shape .level) at)
-        (λ of. other (page-region passed va of)))
+        (λ of. other (region-paged passed .address va of)))
         ∙ sym (walk-shown (passed .shape) (passed .pool) va)
 
   -- the answer is the tables in use afterwards: those before, with those made; none is freed
   pub modify-tables-in-use : (n ≡ used (s′ .ledger)) × (used (s′ .ledger) ≡ used (s .ledger) + madeByModify h c s)
   modify-tables-in-use =
       let before = used-tree (passed .shape) (passed .pool) in
-      let after = used-tree (call-shaped modifies) (call-sound modifies) in
-      let tree = ap nodes (call-tree modifies) in
+      let after = leaves-used (call-leaves modifies) in
       let count = modify-tables (depthOf h) (rootIn h) (rootTree h s) (modifyPagesOf c) in
       (call-answer modifies .0, omega arith)
 
@@ -163,8 +154,8 @@ module _ {h : Handle} {c : ModifyArguments} {s s′ : St} {list list′ : List �
     listed : occurs number (numbersOf h c s)
         ≡ changes (modifyPagesOf c .set) (modifyPagesOf c .clear) (seen (suc (depthOf h)) (rootTree h s) (va / 4096))
     listed =
-        let of = region-page passed va at in
-        ap (λ (t : Tree). occurs (firstPage (suc (depthOf h)) t (va / 4096) % 2 ^ 44) (numbersOf h c s)) (call-tree modifies)
+        let of = region-paged passed .page va at in
+        ap (λ (t : Tree). occurs (firstPage (suc (depthOf h)) t (va / 4096) % 2 ^ 44) (numbersOf h c s)) (call-leaves modifies .tree)
         ∙ numbers-tell passed (va / 4096) (of .from) (of .below)
 
     -- stands among the numbers once if the address was mapped and its flags change, and else not at all;
@@ -263,8 +254,8 @@ module _ (h : Handle) (c : ModifyArguments) (s : St) (list : List ℕ) where
       → ((surveyed h c s .broken ≡ true) × (surveyed h c s .word ≡ w)) ↔ LowestBreach h c s w
   house-rule-lowest passed w = survey-lowest passed w
 
-  -- so 10 is given with w exactly when none of refusals 1 to 9 is, the call is live, and w stands at the lowest address where it breaks the
-  -- house rule;
+  -- refusal 10 is given with w exactly when none of refusals 1 to 9 is, the call is live, and w stands at the lowest address where it
+  -- breaks the house rule;
   pub modify-refused-10-lowest : (w : ℕ) → (modifyAnswer h c s list ≡ modifying (Refused (HouseRule w)) s list)
       ↔ (ModifyPassed h c s × (madeByModify h c s ≤ free (s .ledger)) × (c .live ≡ true) × LowestBreach h c s w)
   modify-refused-10-lowest w = (

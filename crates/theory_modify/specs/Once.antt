@@ -9,7 +9,7 @@ use lib.Dec.{eqb, eqb→eq}
 use Rattle.laws.specs.Test.{byBool}
 use Rattle.entry.specs.Word.{valid, edited}
 use Rattle.address_slot.specs.Slot.{entryIndex}
-use Rattle.region.specs.Region.{region, whole}
+use Rattle.region.specs.Region.{region}
 use Rattle.region.specs.Chunks.{chunks, Tiles, none, more, chunks-tile}
 use Rattle.region.specs.declared.MemoryRegion.{MemoryRegion}
 use Rattle.map_rules.specs.declared.Map.{Map}
@@ -21,7 +21,8 @@ use Rattle.theory_tree.specs.Needed.{slotTree}
 use Rattle.theory_map.specs.Stand.{Piece}
 use Rattle.theory_map.specs.Pieces.{Area, slotAt, Pieces, pieces}
 use Rattle.theory_modify.specs.Numbers.{gathered, changedNumber, ownNumbers, lowerNumbers, tableNumbers, occurs}
-use Rattle.theory_modify.specs.Gathered.{own-whole, own-part, own-none, lower-whole, lower-part, lower-into, leaf-page, leaf-number}
+use Rattle.theory_modify.specs.Passes.{ownEntry}
+use Rattle.theory_modify.specs.Gathered.{own-on, own-here, lower-own, lower-on, leafNumbers, leaf-page}
 
 pub occurs-append : (x : ℕ) (xs ys : List ℕ) → occurs x (xs ++ ys) ≡ occurs x xs + occurs x ys
 unfolding occurs
@@ -67,6 +68,10 @@ module _ (set clear x : ℕ) where
   changed-few c w some =
       byBool (valid w && not (eqb (edited set clear w) w)) (λ e. rw e (one-few c some)) (λ e. rw e (none-few c (omega arith)))
 
+  leaf-few : (c : MemoryRegion) (u : Tree) → c .start .0 / 4096 < c .end .0 / 4096 → Few x c (occurs x (leafNumbers set clear c u))
+  leaf-few c (leaf w) some = changed-few c w some
+  leaf-few c (node f) some = none-few c (omega arith)
+
   -- ---- a table
 
   module _ (depth q : ℕ) (m : Map) (f : MemoryRegion → Tree → List ℕ) (t : Tree)
@@ -92,8 +97,7 @@ module _ (set clear x : ℕ) where
   piece-some piece = omega (arith, piece .some, piece .inside .startPage, piece .inside .endPage)
 
   pub page-few : (c : MemoryRegion) (u : Tree) → c .start .0 / 4096 < c .end .0 / 4096 → Few x c (occurs x (ownNumbers set clear 0 c u))
-  page-few c (leaf w) some = rw (← leaf-page set clear c (leaf w), leaf-number set clear c w) (changed-few c w some)
-  page-few c (node f) some = rw (own-none set clear 0 c f) (none-few c (omega arith))
+  page-few c u some = rw (← leaf-page set clear c u) (leaf-few c u some)
 
   pub nil-occurs : (xs : List ℕ) → occurs x (xs ++ []) ≡ occurs x xs
   nil-occurs xs = ap (occurs x) (append-nil xs)
@@ -114,13 +118,12 @@ module _ (set clear x : ℕ) where
         (once q (chunkMap m c p) v (record { inside = piece .inside; room = piece .room }) (omega (arith, piece .some)))
 
     pub entry-few : (u : Tree) → Few x c (occurs x (entryNumbers u))
-    entry-few (leaf w) = byBool (whole (3 - suc depth) c)
+    entry-few u = byBool (ownEntry depth c u)
         (λ e.
-        let same : occurs x (entryNumbers (leaf w)) ≡ occurs x (changedNumber set clear c w) =
-        ap₂ (λ (y z : List ℕ). occurs x (y ++ z)) (lower-whole set clear rec depth c w e) (own-whole set clear depth c w e) in
-        subst (Few x c) (sym same) (changed-few c w (piece-some piece)))
-        (λ e. goes-few (leaf w) (opened depth (leaf w)) (lower-part set clear rec depth c w e) (own-part set clear depth c w e))
-    entry-few (node f) = goes-few (node f) (opened depth (node f)) (lower-into set clear rec depth c f) (own-none set clear (suc depth) c f)
+        let same : occurs x (entryNumbers u) ≡ occurs x (leafNumbers set clear c u) =
+        ap₂ (λ (y z : List ℕ). occurs x (y ++ z)) (lower-own set clear rec depth c u e) (own-here set clear depth c u e) in
+        subst (Few x c) (sym same) (leaf-few c u (piece-some piece)))
+        (λ e. goes-few u (opened depth u) (lower-on set clear rec depth c u e) (own-on set clear depth c u e))
 
   pub table-few : (depth : ℕ) → depth ≤ 3 → Once depth
   unfolding tableNumbers

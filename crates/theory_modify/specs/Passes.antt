@@ -1,7 +1,7 @@
 -- The document's modify of a table is two passes over its chunks: first those that go down, then the table's own entries. On trees, where a
 -- chunk stands in a slot of its own.
 use mathlib.Core.Path.{_≡_, refl, sym, ap, _∙_}
-use mathlib.Core.Bool.{true, false, cond}
+use mathlib.Core.Bool.{Bool, true, false, cond, true≢false}
 use mathlib.Core.List.{List, [], _∷_}
 use mathlib.Core.Logic.{_⊎_, inl, inr, _≢_}
 use Prim.Native.Nat.{ℕ, suc, _+_, _-_, _≤_, _<_}
@@ -71,6 +71,11 @@ module _ (depth q : ℕ) (m : Map) (low : depth ≤ 3) where
 
 -- ---- the two passes
 
+-- a chunk's entry is edited where it stands: a whole entry that is no table; `depth` levels are below the entry's
+abbrev pub ownEntry : ℕ → MemoryRegion → Tree → Bool
+ownEntry depth c (leaf w) = whole (3 - suc depth) c
+ownEntry depth c (node f) = false
+
 module _ (set clear : ℕ) where
   -- a table's own entry: a leaf is edited if it is valid
   unfoldable pub ownTo : Tree → Tree
@@ -83,31 +88,25 @@ module _ (set clear : ℕ) where
   downTo depth c p (node f) = chunkedTable (documentModify set clear) depth c p (node f)
 
   module _ (depth : ℕ) (c : MemoryRegion) (p : ℕ) where
-    pub down-whole : (w : ℕ) → whole (3 - suc depth) c ≡ true → downTo depth c p (leaf w) ≡ leaf w
+    -- an entry that is edited where it stands
+    pub down-own : (u : Tree) → ownEntry depth c u ≡ true → downTo depth c p u ≡ u
     unfolding downTo
-    down-whole w e = rw e
+    down-own (leaf w) e = rw e
+    down-own (node f) e = absurd (true≢false (sym e))
 
     -- what goes down, with the tables that it takes
-    pub down-part : (w : ℕ) → whole (3 - suc depth) c ≡ false
-        → downTo depth c p (leaf w) ≡ chunkedTable (documentModify set clear) depth c p (opened depth (leaf w))
+    pub down-on : (u : Tree) → ownEntry depth c u ≡ false
+        → downTo depth c p u ≡ chunkedTable (documentModify set clear) depth c p (opened depth u)
     unfolding downTo opened
-    down-part w e = rw e
+    down-on (leaf w) e = rw e
+    down-on (node f) e = refl
 
-    pub down-into : (f : ℕ → Tree) → downTo depth c p (node f) ≡ chunkedTable (documentModify set clear) depth c p (opened depth (node f))
-    unfolding downTo opened
-    down-into f = refl
-
-    pub takes-part : (w : ℕ) → whole (3 - suc depth) c ≡ false
-        → needed (documentModify set clear) (suc depth) c p (leaf w)
-        ≡ splits (leaf w) + neededTable (documentModify set clear) depth c p (opened depth (leaf w))
+    pub takes-on : (u : Tree) → ownEntry depth c u ≡ false
+        → needed (documentModify set clear) (suc depth) c p u
+        ≡ splits u + neededTable (documentModify set clear) depth c p (opened depth u)
     unfolding needed neededTable documentModify counted
-    takes-part w e = rw e
-
-    pub takes-into : (f : ℕ → Tree)
-        → needed (documentModify set clear) (suc depth) c p (node f)
-        ≡ splits (node f) + neededTable (documentModify set clear) depth c p (opened depth (node f))
-    unfolding needed neededTable documentModify counted
-    takes-into f = refl
+    takes-on (leaf w) e = rw e
+    takes-on (node f) e = refl
 
   -- an edit never goes down
   edit-stops : (w : ℕ) (t u v : Tree) → obey (editRule set clear w) t u ≡ obey (editRule set clear w) t v

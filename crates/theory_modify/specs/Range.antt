@@ -1,50 +1,43 @@
--- A modify of a table of a sound pool does on lists what the document's loop does on the table's tree, with no more tables than that needs:
--- no split meets a full pool.
-use mathlib.Core.Path.{_≡_, refl, sym, ap, subst, subst₂, _∙_}
-use mathlib.Core.Bool.{true, false}
+-- A modify of a table of a sound pool does on lists what the document's loop does on the table's tree, with no more tables than that needs
+-- (no split meets a full pool), and puts into the list the numbers of the table's tree, in the document's order.
+use mathlib.Core.Path.{_≡_, refl, sym, ap, ap₂, subst, subst₂, _∙_}
+use mathlib.Core.Bool.{false}
 use mathlib.Core.List.{List, [], _∷_}
-use mathlib.Core.Logic.{_⊎_, inl, inr, _≢_}
 use Prim.Native.Nat.{ℕ, zero, suc, _+_, _-_, _≤_, _<_}
 use native.Mathlib.Omega.{arith}
-use Rattle.laws.specs.Test.{byBool, eq-or}
-use Rattle.entry.specs.Word.{valid, edited}
+use Rattle.laws.specs.Test.{byBool}
 use Rattle.address_slot.specs.Slot.{entryIndex}
-use Rattle.region.specs.Region.{whole}
 use Rattle.region.specs.Chunks.{chunks}
+use Rattle.region.specs.Each.{eachChunk}
 use Rattle.region.specs.declared.MemoryRegion.{MemoryRegion}
-use Rattle.pool.specs.State.{St, st, wordAt}
+use Rattle.pool.specs.State.{wordAt}
 use Rattle.pool.specs.Number.{free}
 use Rattle.pool.specs.declared.Handle.{Handle}
-use Rattle.map_rules.specs.declared.Map.{Map}
 use Rattle.map_count_spec.specs.Needed.{slot-below}
 use Rattle.modify_entry.specs.declared.Edit.{Edit}
-use Rattle.modify_entry.specs.Word.{editWord}
-use Rattle.modify_entry.specs.Each.{eachOf, eachChunk, chunkEdit}
-use Rattle.modify_entry.specs.Own.{Numbered, putNumber, Noted, noted, ownChunk, ownRange, own-same, own-changed}
-use Rattle.modify_range.specs.Range.{Work, work, own, ownWork, modifyRange, own-table, own-leaf, downStep, modify-pages, modify-open}
+use Rattle.modify_entry.specs.Word.{chunkEdit}
+use Rattle.modify_entry.specs.Own.{noted, ownChunk, ownRange}
+use Rattle.modify_range.specs.Range.{Work, work, own, ownWork, modifyRange, downStep, modify-pages, modify-open}
 use Rattle.modify_range.specs.Range.{step-own, step-into}
-use Rattle.theory_forest.specs.Tree.{Tree, leaf}
-use Rattle.theory_forest.specs.Sound.{TableWord}
-use Rattle.theory_forest.specs.Keep.{slot-leaf}
-use Rattle.theory_sound.specs.Clauses.{levelAt}
-use Rattle.theory_sound.specs.Codec.{Placed, codecOf, view, word-in, treeFrom}
-use Rattle.theory_sound.specs.Step.{Stands}
-use Rattle.theory_tree.specs.Page.{child}
-use Rattle.theory_tree.specs.Visit.{opened, splits}
-use Rattle.theory_tree.specs.Fine.{Fine}
-use Rattle.theory_tree.specs.Shown.{FineTree}
+use Rattle.theory_forest.specs.Tree.{Tree, node, treeAt-node}
+use Rattle.theory_sound.specs.Codec.{Placed, childOf, slotWord, treeFrom}
+use Rattle.theory_sound.specs.Step.{Ready, worked-ready}
+use Rattle.theory_sound.specs.Slot.{slotShows}
 use Rattle.theory_tree.specs.Chunks.{sweep, chunkedTable}
 use Rattle.theory_tree.specs.Needed.{tallied, needed, neededTable}
 use Rattle.theory_tree.specs.DocumentModify.{documentModify}
-use Rattle.theory_map.specs.Leaf.{slot-fine, leaf-from}
 use Rattle.theory_map.specs.Stand.{Piece}
-use Rattle.theory_map.specs.Moves.{slotShows, Ready, Slotted, Worked, kept, stored, worked-ready, worked-twice}
-use Rattle.theory_map.specs.Pieces.{Area, slotAt, pieces}
-use Rattle.theory_map.specs.Down.{SlotHolds, holds-table, holds-leaf, Opens, holds, opens}
-use Rattle.theory_map.specs.Loop.{through, loop}
-use Rattle.theory_modify.specs.Word.{Bits, table-stays, hole-stays, valid-edited, edited-stands}
-use Rattle.theory_modify.specs.Passes.{ownTo, downTo, own-valid, own-hole, own-node, down-whole, down-part, down-into, takes-part}
-use Rattle.theory_modify.specs.Passes.{takes-into, pages-pass, two-passes}
+use Rattle.theory_map.specs.Moves.{StepWithin, WorkedWithin, kept, worked-twice}
+use Rattle.theory_map.specs.Pieces.{Area, pieces}
+use Rattle.theory_map.specs.Down.{Opens, opens}
+use Rattle.theory_modify.specs.Word.{Bits}
+use Rattle.theory_modify.specs.Passes.{ownEntry, ownTo, downTo, down-own, down-on, takes-on, pages-pass, two-passes}
+use Rattle.theory_modify.specs.Entry.{own-is}
+use Rattle.theory_modify.specs.Numbers.{gathered, ownNumbers, lowerNumbers, tableNumbers}
+use Rattle.theory_modify.specs.Gathered.{lower-own, lower-on, leafNumbers, leaf-page, leaf-after, gathered-after}
+use Rattle.theory_modify.specs.Notes.{putAll, put-none, put-append}
+use Rattle.theory_modify.specs.Pass.{areaOf, notesOf, SlotEdited, TableEdited, pass}
+use Rattle.theory_modify.specs.Own.{withNotes, own-edits}
 
 -- ---- the document's loop on trees, for an edit of a table's region; p is a frame, which is not read
 
@@ -54,23 +47,14 @@ editTable e depth p t = chunkedTable (documentModify (e .set) (e .clear)) depth 
 abbrev pub editTakes : Edit → ℕ → ℕ → Tree → ℕ
 editTakes e depth p t = neededTable (documentModify (e .set) (e .clear)) depth (e .region) p t
 
--- the region of an edit as a map's
-abbrev pub areaOf : Edit → ℕ → Map
-areaOf e p = record { region = e .region; frame = record { 0 = p }; flags = 0; blocks = false }
+-- the numbers of the tables below, and those of a table's own entries
+abbrev pub editNumbers : Edit → ℕ → MemoryRegion → Tree → List ℕ
+editNumbers e depth r t = tableNumbers (e .set) (e .clear) depth r t
 
--- the loop over the chunks
-pub through-of : {S : Type 0} (f : MemoryRegion → S → S) (cs : List MemoryRegion) (p : ℕ) (x : S)
-    → through (λ c y z. f c z) cs p x ≡ eachOf f cs x
-unfolding through eachOf
-through-of f [] p x = refl
-through-of f (c ∷ cs) p x = through-of f cs (p + (c .end .0 - c .start .0)) (f c x)
+abbrev lowers : Edit → ℕ → MemoryRegion → Tree → List ℕ
+lowers e depth = lowerNumbers (e .set) (e .clear) (λ d v. editNumbers e depth d v) depth
 
-pub through-chunks : {S : Type 0} (level : ℕ) (f : MemoryRegion → S → S) (r : MemoryRegion) (p : ℕ) (x : S)
-    → through (λ c y z. f c z) (chunks level (r .start .0) (r .end .0)) p x ≡ eachChunk level f r x
-unfolding eachChunk
-through-chunks level f r p x = through-of f (chunks level (r .start .0) (r .end .0)) p x
-
-pub none-taken : (depth : ℕ) (cs : List MemoryRegion) (p : ℕ) (t : Tree) → tallied depth (λ c y u. 0) cs p t ≡ 0
+none-taken : (depth : ℕ) (cs : List MemoryRegion) (p : ℕ) (t : Tree) → tallied depth (λ c y u. 0) cs p t ≡ 0
 unfolding tallied
 none-taken depth [] p t = refl
 none-taken depth (c ∷ cs) p t = let z = none-taken depth cs (p + (c .end .0 - c .start .0)) t in omega arith
@@ -78,120 +62,42 @@ none-taken depth (c ∷ cs) p t = let z = none-taken depth cs (p + (c .end .0 - 
 module _ {h : Handle} (placed : Placed h) where
   -- ---- a table's own entries
 
-  module _ (depth k : ℕ) (e : Edit) (ledger : List ℕ) (bits : Bits h e) (c : MemoryRegion) (n : Noted)
-      (R : Ready placed (st (n .words) ledger) depth k) where
-    abbrev s : St
-    s = st (n .words) ledger
-
-    abbrev i : ℕ
-    i = entryIndex (3 - depth) (c .start .0)
-
-    abbrev w : ℕ
-    w = wordAt s k i
-
-    abbrev new : ℕ
-    new = editWord (3 - depth) e w
-
-    abbrev t : Tree
-    t = slotShows h s depth k i
-
-    abbrev Goal : Type 0
-    Goal = Slotted placed s (st (ownChunk k (3 - depth) e c n .words) ledger) depth k i (ownTo (e .set) (e .clear) t) 0
-
-    inside : i < 512
-    inside = slot-below (3 - depth) (c .start .0)
-
-    stays : new ≡ w → ownTo (e .set) (e .clear) t ≡ t → Goal
-    stays same tree =
-        subst₂ (λ (x : Noted) (u : Tree). Slotted placed s (st (x .words) ledger) depth k i u 0)
-        (own-same k (3 - depth) e c n refl refl same) (sym tree) (kept placed R i 0)
-
-    -- a leaf
-    module _ (old : ¬ (TableWord (levelAt s k) w)) (shows : t ≡ leaf w) where
-      fine : Fine depth w
-      fine = subst (FineTree depth) shows (slot-fine placed (R .pool) depth k i (R .used) (R .low) inside)
-
-      leaf-edited : valid w ≡ true → Goal
-      leaf-edited v = go (eq-or new w)
-        where
-          is : new ≡ edited (e .set) (e .clear) w
-          is = valid-edited e w depth (omega (arith, R .low)) fine v
-
-          tree : ownTo (e .set) (e .clear) t ≡ leaf new
-          tree = ap (ownTo (e .set) (e .clear)) shows ∙ own-valid (e .set) (e .clear) w v ∙ ap leaf (sym is)
-
-          go : (new ≡ w) ⊎ (new ≢ w) → Goal
-          go (inl same) = stays same (tree ∙ ap leaf same ∙ sym shows)
-          go (inr other) =
-              let l : Numbered = putNumber (e .live) _ (n .count) (n .list) in
-              subst₂ (λ (x : Noted) (u : Tree). Slotted placed s (st (x .words) ledger) depth k i u 0)
-              (own-changed k (3 - depth) e c n refl refl other refl {count = l .count} {list = l .list} refl) (sym tree)
-              (stored placed R i 0 new inside old
-              (subst (Stands h (levelAt s k)) (sym is)
-              (edited-stands e w h depth (levelAt s k) bits (R .low) fine (leaf-from (R .pool) k i inside (R .used) old) v)))
-
-      leaf-works : Goal
-      leaf-works = byBool (valid w) leaf-edited
-          (λ v. stays (hole-stays e w (3 - depth) v) (ap (ownTo (e .set) (e .clear)) shows ∙ own-hole (e .set) (e .clear) w v ∙ sym shows))
-
-  pub own-works : (depth k : ℕ) (e : Edit) (ledger : List ℕ) (bits : Bits h e) (c : MemoryRegion) (n : Noted)
-      (R : Ready placed (st (n .words) ledger) depth k)
-      → Goal depth k e ledger bits c n R
-  own-works zero k e ledger bits c n R =
-      let old : ¬ (TableWord (levelAt (st (n .words) ledger) k) (w 0 k e ledger bits c n R)) = λ table. omega (arith, R .low, table .0) in
-      leaf-works 0 k e ledger bits c n R old
-      (slot-leaf (codecOf h placed) (view (st (n .words) ledger)) 0 k (i 0 k e ledger bits c n R) (R .low)
-      (word-in (st (n .words) ledger) k (i 0 k e ledger bits c n R) (inside 0 k e ledger bits c n R)) old)
-  own-works (suc depth) k e ledger bits c n R =
-      go (holds placed R (i (suc depth) k e ledger bits c n R) (inside (suc depth) k e ledger bits c n R))
-    where
-      go : SlotHolds placed (st (n .words) ledger) depth k (i (suc depth) k e ledger bits c n R) → Goal (suc depth) k e ledger bits c n R
-      go (holds-table j r both leads shows) =
-          stays (suc depth) k e ledger bits c n R (table-stays (3 - suc depth) e _ (omega (arith, R .low)) both)
-          (ap (ownTo (e .set) (e .clear)) shows ∙ own-node (e .set) (e .clear) _ ∙ sym shows)
-      go (holds-leaf old other shows) = leaf-works (suc depth) k e ledger bits c n R old shows
-
-  own-pass : (depth q k p : ℕ) (e : Edit) (w : Work) → depth ≤ 3 → Bits h e → Area depth q (areaOf e p) → Ready placed (w .state) depth k
-      → Worked placed (w .state) (ownWork k (3 - depth) e w .state) depth k
-      (sweep depth (λ c x u. ownTo (e .set) (e .clear) u) (chunks (3 - depth) (e .region .start .0) (e .region .end .0)) p
-      (treeFrom h (w .state) depth k)) 0
+  own-pass : (depth q k p : ℕ) (e : Edit) (w : Work) → depth ≤ 3 → Bits h e → Area depth q (areaOf e p) → Ready h (w .state) depth k
+      → let t = treeFrom h (w .state) depth k in let cs = chunks (3 - depth) (e .region .start .0) (e .region .end .0) in
+      TableEdited placed (e .live) w (ownWork k (3 - depth) e w) depth k (sweep depth (λ c x u. ownTo (e .set) (e .clear) u) cs p t) 0
+      (gathered depth (leafNumbers (e .set) (e .clear)) cs t)
   unfolding ownWork ownRange
   own-pass depth q k p e w low bits area R =
       let t : Tree = treeFrom h (w .state) depth k in
       let cs : List MemoryRegion = chunks (3 - depth) (e .region .start .0) (e .region .end .0) in
-      let none : tallied depth (λ c x u. 0) cs p t ≡ 0 = none-taken depth cs p t in
-      let n : Noted = noted (w .state .words) (w .list) (w .count) in
-      let W = loop placed (λ (x : Noted). st (x .words) (w .state .ledger)) (λ c x y. ownChunk k (3 - depth) e c y)
-      (λ c x u. ownTo (e .set) (e .clear) u) (λ c x u. 0)
-      depth q k (areaOf e p) low (λ c x y piece ready enough. own-works depth k e (w .state .ledger) bits c y ready) cs 0 p n
-      (pieces depth q (areaOf e p) low p (e .region) area) R
-      (omega arith) in
-      subst₂
-      (λ (x : Noted) (cost : ℕ). Worked placed (w .state) (st (x .words) (w .state .ledger)) depth k
-      (sweep depth (λ c y u. ownTo (e .set) (e .clear) u) cs p t) cost)
-      (through-chunks (3 - depth) (ownChunk k (3 - depth) e) (e .region) p n) none W
+      let none = none-taken depth cs p t in
+      subst (λ (cost : ℕ). TableEdited placed (e .live) w (ownWork k (3 - depth) e w) depth k
+      (sweep depth (λ c x u. ownTo (e .set) (e .clear) u) cs p t) cost
+      (gathered depth (leafNumbers (e .set) (e .clear)) cs t)) none
+      (pass placed (withNotes (w .state .ledger)) (ownChunk k (3 - depth) e) (λ c x u. ownTo (e .set) (e .clear) u) (λ c x u. 0)
+      (leafNumbers (e .set) (e .clear))
+      depth q k e low (λ c x n piece ready enough. own-edits placed depth k e (w .state .ledger) c n ready bits) p
+      (noted (w .state .words) (w .list) (w .count)) area R (omega arith))
 
   -- ---- the chunks that go down
 
   -- a modify of a table with `depth` levels below its own does on lists what it does on the table's tree
   abbrev pub Edits : ℕ → Type 0
   Edits depth =
-      (q k p : ℕ) (e : Edit) (w : Work) → Bits h e → Area depth q (areaOf e p) → Ready placed (w .state) depth k
+      (q k p : ℕ) (e : Edit) (w : Work) → Bits h e → Area depth q (areaOf e p) → Ready h (w .state) depth k
       → let t = treeFrom h (w .state) depth k in
       editTakes e depth p t ≤ free (w .state .ledger)
-      → Worked placed (w .state) (modifyRange depth h k e w .state) depth k (editTable e depth p t) (editTakes e depth p t)
+      → TableEdited placed (e .live) w (modifyRange depth h k e w) depth k (editTable e depth p t) (editTakes e depth p t)
+      (editNumbers e depth (e .region) t)
 
   module _ (depth q k : ℕ) (e : Edit) (bits : Bits h e) (edits : Edits depth) (c : MemoryRegion) (p : ℕ) (x : Work)
       (piece : Piece (suc depth) q (areaOf (chunkEdit e c) p))
-      (R : Ready placed (x .state) (suc depth) k) where
+      (R : Ready h (x .state) (suc depth) k) where
     abbrev level : ℕ
     level = 3 - suc depth
 
     abbrev j : ℕ
     j = entryIndex level (c .start .0)
-
-    abbrev y : ℕ
-    y = wordAt (x .state) k j
 
     abbrev u : Tree
     u = slotShows h (x .state) (suc depth) k j
@@ -199,118 +105,132 @@ module _ {h : Handle} (placed : Placed h) where
     abbrev count : Tree → ℕ
     count v = needed (documentModify (e .set) (e .clear)) (suc depth) c p v
 
-    abbrev Down : Type 0
-    Down = Slotted placed (x .state) (downStep h k level e c x .state) (suc depth) k j (downTo (e .set) (e .clear) depth c p u) (count u)
+    abbrev Down : Work → Tree → ℕ → List ℕ → Type 0
+    Down y v n xs = SlotEdited placed (e .live) x y (suc depth) k j v n xs
+
+    abbrev Goal : Type 0
+    Goal = Down (downStep h k level e c x) (downTo (e .set) (e .clear) depth c p u) (count u) (lowers e depth c u)
 
     slot : j < 512
     slot = slot-below level (c .start .0)
 
     -- on in the table that is found
-    pub goes-down : (O : Opens placed (x .state) depth k j) → own level c y ≡ false
+    goes-down : (O : Opens placed (x .state) depth k j) → own level c (wordAt (x .state) k j) ≡ false
         → modifyRange depth h (O .table) (chunkEdit e c) (work (O .state) (x .list) (x .count)) ≡ downStep h k level e c x
     goes-down O goes =
         let last : 3 - (level + 1) ≡ depth = omega (arith, R .low) in
         ap (λ (d : ℕ). modifyRange d h (O .table) (chunkEdit e c) (work (O .state) (x .list) (x .count))) (sym last)
         ∙ step-into h k level e c x refl goes (O .found) (O .table) refl
 
-    by-down : count u ≤ free (x .state .ledger) → own level c y ≡ false
-        → downTo (e .set) (e .clear) depth c p u ≡ editTable (chunkEdit e c) depth p (opened depth u)
-        → count u ≡ splits u + editTakes (chunkEdit e c) depth p (opened depth u) → Down
-    by-down room goes tree all =
+    by-down : count u ≤ free (x .state .ledger) → ownEntry depth c u ≡ false → Goal
+    by-down room on =
+        let all = takes-on (e .set) (e .clear) depth c p u on in
         let O = opens placed R j slot (omega arith) in
         let fewer = O .room in
         let w : Work = work (O .state) (x .list) (x .count) in
-        let W = edits q (O .table) p (chunkEdit e c) w (record { set = bits .set; clear = bits .clear })
+        let w′ : Work = modifyRange depth h (O .table) (chunkEdit e c) w in
+        let E = subst
+        (λ (v : Tree). TableEdited placed (e .live) w w′ depth (O .table) (editTable (chunkEdit e c) depth p v)
+        (editTakes (chunkEdit e c) depth p v) (editNumbers e depth c v)) (O .shows)
+        (edits q (O .table) p (chunkEdit e c) w (record { set = bits .set; clear = bits .clear })
         (record { inside = piece .inside; room = piece .room }) (O .ready)
-        (subst (λ (v : Tree). editTakes (chunkEdit e c) depth p v ≤ free (O .state .ledger)) (sym (O .shows)) (omega arith)) in
-        let W′ = subst (λ (v : Tree). Worked placed (O .state) (modifyRange depth h (O .table) (chunkEdit e c) w .state) depth (O .table)
-        (editTable (chunkEdit e c) depth p v) (editTakes (chunkEdit e c) depth p v)) (O .shows) W in
-        subst (λ (z : Work). Slotted placed (x .state) (z .state) (suc depth) k j (downTo (e .set) (e .clear) depth c p u) (count u))
-        (goes-down O goes)
-        (subst₂
-        (λ (v : Tree) (n : ℕ). Slotted placed (x .state) (modifyRange depth h (O .table) (chunkEdit e c) w .state) (suc depth) k j v n)
-        (sym tree) (sym all) (O .back W′))
+        (subst (λ (v : Tree). editTakes (chunkEdit e c) depth p v ≤ free (O .state .ledger)) (sym (O .shows)) (omega arith))) in
+        subst (λ (y : Work). Down y (downTo (e .set) (e .clear) depth c p u) (count u) (lowers e depth c u))
+        (goes-down O (own-is placed R c ∙ on))
+        (record {
+          works =
+              subst₂ (λ (v : Tree) (n : ℕ). StepWithin placed (x .state) (w′ .state) (suc depth) k j v n)
+              (sym (down-on (e .set) (e .clear) depth c p u on)) (sym all) (O .back (E .works));
+          puts =
+              E .puts
+              ∙ ap (λ (xs : List ℕ). putAll (e .live) xs (notesOf x))
+              (sym (lower-on (e .set) (e .clear) (λ d v. editNumbers e depth d v) depth c u on));
+        })
 
-    pub down-works : count u ≤ free (x .state .ledger) → Down
-    unfolding whole
-    down-works room = go (holds placed R j slot)
-      where
-        set : ℕ
-        set = e .set
+    down-edits : count u ≤ free (x .state .ledger) → Goal
+    down-edits room = byBool (ownEntry depth c u)
+        (λ here. subst (λ (y : Work). Down y (downTo (e .set) (e .clear) depth c p u) (count u) (lowers e depth c u))
+        (step-own h k level e c x refl (own-is placed R c ∙ here))
+        (record {
+          works =
+              subst (λ (v : Tree). StepWithin placed (x .state) (x .state) (suc depth) k j v (count u))
+              (sym (down-own (e .set) (e .clear) depth c p u here)) (kept placed R j (count u));
+          puts =
+              sym
+              (ap (λ (xs : List ℕ). putAll (e .live) xs (notesOf x))
+              (lower-own (e .set) (e .clear) (λ d v. editNumbers e depth d v) depth c u here)
+              ∙ put-none (e .live) (notesOf x));
+        }))
+        (λ on. by-down room on)
 
-        clear : ℕ
-        clear = e .clear
-
-        go : SlotHolds placed (x .state) depth k j → Down
-        go (holds-table a r both leads shows) =
-            by-down room (sym (own-table level c y both))
-            (ap (downTo set clear depth c p) shows ∙ down-into set clear depth c p _
-            ∙ sym (ap (λ (v : Tree). editTable (chunkEdit e c) depth p (opened depth v)) shows))
-            (ap count shows ∙ takes-into set clear depth c p _
-            ∙ sym (ap (λ (v : Tree). splits v + editTakes (chunkEdit e c) depth p (opened depth v)) shows))
-        go (holds-leaf old other shows) = byBool (whole level c)
-            (λ all. subst₂ (λ (z : Work) (v : Tree). Slotted placed (x .state) (z .state) (suc depth) k j v (count u))
-            (step-own h k level e c x refl (sym (own-leaf level c y other) ∙ all))
-            (shows ∙ sym (ap (downTo set clear depth c p) shows ∙ down-whole set clear depth c p y all))
-            (kept placed R j (count u)))
-            (λ part. by-down room (sym (own-leaf level c y other) ∙ part)
-            (ap (downTo set clear depth c p) shows ∙ down-part set clear depth c p y part
-            ∙ sym (ap (λ (v : Tree). editTable (chunkEdit e c) depth p (opened depth v)) shows))
-            (ap count shows ∙ takes-part set clear depth c p y part
-            ∙ sym (ap (λ (v : Tree). splits v + editTakes (chunkEdit e c) depth p (opened depth v)) shows)))
+  down-pass : (depth q k p : ℕ) (e : Edit) (w : Work) → suc depth ≤ 3 → Edits depth → Bits h e → Area (suc depth) q (areaOf e p)
+      → Ready h (w .state) (suc depth) k
+      → let t = treeFrom h (w .state) (suc depth) k in let cs = chunks (3 - suc depth) (e .region .start .0) (e .region .end .0) in
+      editTakes e (suc depth) p t ≤ free (w .state .ledger)
+      → TableEdited placed (e .live) w (eachChunk (3 - suc depth) (downStep h k (3 - suc depth) e) (e .region) w) (suc depth) k
+      (sweep (suc depth) (downTo (e .set) (e .clear) depth) cs p t) (editTakes e (suc depth) p t)
+      (gathered (suc depth) (lowers e depth) cs t)
+  unfolding neededTable
+  down-pass depth q k p e w low edits bits area R room =
+      pass placed (λ (x : Work). x) (downStep h k (3 - suc depth) e) (downTo (e .set) (e .clear) depth)
+      (λ c x v. needed (documentModify (e .set) (e .clear)) (suc depth) c x v) (lowers e depth) (suc depth) q k e low
+      (λ c x y piece ready enough. down-edits depth _ k e bits edits c x y piece ready enough) p w area R room
 
   -- ---- a table
 
-  pub down-pass : (depth q k p : ℕ) (e : Edit) (w : Work) → suc depth ≤ 3 → Edits depth → Bits h e → Area (suc depth) q (areaOf e p)
-      → Ready placed (w .state) (suc depth) k
-      → let t = treeFrom h (w .state) (suc depth) k in let cs = chunks (3 - suc depth) (e .region .start .0) (e .region .end .0) in
-      editTakes e (suc depth) p t ≤ free (w .state .ledger)
-      → Worked placed (w .state) (eachChunk (3 - suc depth) (downStep h k (3 - suc depth) e) (e .region) w .state) (suc depth) k
-      (sweep (suc depth) (downTo (e .set) (e .clear) depth) cs p t) (editTakes e (suc depth) p t)
-  unfolding neededTable
-  down-pass depth q k p e w low edits bits area R room =
-      let t : Tree = treeFrom h (w .state) (suc depth) k in
-      let cs : List MemoryRegion = chunks (3 - suc depth) (e .region .start .0) (e .region .end .0) in
-      let W = loop placed (λ (x : Work). x .state) (λ c x y. downStep h k (3 - suc depth) e c y) (downTo (e .set) (e .clear) depth)
-      (λ c x v. needed (documentModify (e .set) (e .clear)) (suc depth) c x v) (suc depth) q k (areaOf e p) low
-      (λ c x y piece ready enough. down-works depth (child q (slotAt (suc depth) c)) k e bits edits c x y
-      (record { inside = piece .inside; some = piece .some; room = piece .room }) ready enough)
-      cs 0 p w (pieces (suc depth) q (areaOf e p) low p (e .region) area) R room in
-      subst
-      (λ (x : Work). Worked placed (w .state) (x .state) (suc depth) k (sweep (suc depth) (downTo (e .set) (e .clear) depth) cs p t)
-      (editTakes e (suc depth) p t))
-      (through-chunks (3 - suc depth) (downStep h k (3 - suc depth) e) (e .region) p w) W
-
   edits-pages : Edits 0
-  unfolding neededTable
+  unfolding neededTable tableNumbers
   edits-pages q k p e w bits area R room =
       let t : Tree = treeFrom h (w .state) 0 k in
-      let W = own-pass 0 q k p e w (omega arith) bits area R in
-      let W′ = subst₂ (λ (x : Work) (v : Tree). Worked placed (w .state) (x .state) 0 k v 0)
-      (modify-pages h k 3 e w (omega arith) (omega arith))
-      (pages-pass (e .set) (e .clear) (e .region) p t) W in
-      record { work = W′ .work; same-tables = W′ .same-tables; same-words = W′ .same-words; spare = omega (arith, W′ .spare) }
+      let cs : List MemoryRegion = chunks 3 (e .region .start .0) (e .region .end .0) in
+      let E = own-pass 0 q k p e w (omega arith) bits area R in
+      let is = modify-pages h k 3 e w (omega arith) (omega arith) in
+      let W = subst₂ (λ (x : Work) (v : Tree). WorkedWithin placed (w .state) (x .state) 0 k v 0) is
+      (pages-pass (e .set) (e .clear) (e .region) p t) (E .works) in
+      record {
+        works = record { worked = W .worked; spare = omega (arith, W .spare) };
+        puts = ap notesOf (sym is) ∙ E .puts
+            ∙ ap (λ (f : MemoryRegion → Tree → List ℕ). putAll (e .live) (gathered 0 f cs t) (notesOf w))
+            (λ i c v. leaf-page (e .set) (e .clear) c v i);
+      }
 
   edits-up : (depth : ℕ) → suc depth ≤ 3 → Edits depth → Edits (suc depth)
+  unfolding tableNumbers
   edits-up depth low edits q k p e w bits area R room =
       let level : ℕ = 3 - suc depth in
       let t : Tree = treeFrom h (w .state) (suc depth) k in
+      let is : t ≡ node (λ i. slotShows h (w .state) (suc depth) k i) =
+      treeAt-node (childOf (h .base .0)) (suc depth) (slotWord (w .state)) k in
       let mid : Work = eachChunk level (downStep h k level e) (e .region) w in
       let D = down-pass depth q k p e w low edits bits area R room in
-      let W = own-pass (suc depth) q k p e mid low bits area (worked-ready placed R D) in
+      let E = own-pass (suc depth) q k p e mid low bits area (worked-ready R (D .works .worked)) in
       let cs : List MemoryRegion = chunks level (e .region .start .0) (e .region .end .0) in
       let all = pieces (suc depth) q (areaOf e p) low p (e .region) area in
-      let tree = ap (sweep (suc depth) (λ c x u. ownTo (e .set) (e .clear) u) cs p) (D .work .tree)
+      let tree = ap (sweep (suc depth) (λ c x u. ownTo (e .set) (e .clear) u) cs p) (D .works .worked .work .tree)
       ∙ two-passes (e .set) (e .clear) (e .region) p t depth q (areaOf e p) low all in
+      let owns : MemoryRegion → Tree → List ℕ = ownNumbers (e .set) (e .clear) (suc depth) in
+      let after : gathered (suc depth) (leafNumbers (e .set) (e .clear)) cs (treeFrom h (mid .state) (suc depth) k)
+      ≡ gathered (suc depth) owns cs t =
+      ap (gathered (suc depth) (leafNumbers (e .set) (e .clear)) cs)
+      (D .works .worked .work .tree ∙ ap (sweep (suc depth) (downTo (e .set) (e .clear) depth) cs p) is)
+      ∙ gathered-after (suc depth) q (areaOf e p) low (downTo (e .set) (e .clear) depth) (leafNumbers (e .set) (e .clear)) owns
+      (leaf-after (e .set) (e .clear) depth) cs 0 p _ all
+      ∙ ap (gathered (suc depth) owns cs) (sym is) in
       let up : 3 - level ≡ suc depth = omega arith in
-      let is : ownWork k level e mid ≡ modifyRange (suc depth) h k e w =
+      let whole : ownWork k level e mid ≡ modifyRange (suc depth) h k e w =
       modify-open h k level e w (omega arith) ∙ ap (λ (d : ℕ). modifyRange d h k e w) up in
-      let V′ = worked-twice placed R D W in
       let cost : editTakes e (suc depth) p t + 0 ≡ editTakes e (suc depth) p t = omega arith in
-      subst (λ (x : Work). Worked placed (w .state) (x .state) (suc depth) k (editTable e (suc depth) p t) (editTakes e (suc depth) p t)) is
-      (subst₂ (λ (v : Tree) (n : ℕ). Worked placed (w .state) (ownWork k level e mid .state) (suc depth) k v n) tree cost V′)
+      subst (λ (x : Work). TableEdited placed (e .live) w x (suc depth) k (editTable e (suc depth) p t) (editTakes e (suc depth) p t)
+      (editNumbers e (suc depth) (e .region) t)) whole
+      (record {
+        works =
+            subst₂ (λ (v : Tree) (n : ℕ). WorkedWithin placed (w .state) (ownWork k level e mid .state) (suc depth) k v n) tree cost
+            (worked-twice placed R (D .works) (E .works));
+        puts = E .puts ∙ ap₂ (putAll (e .live)) after (D .puts)
+            ∙ sym (put-append (e .live) (gathered (suc depth) (lowers e depth) cs t) (gathered (suc depth) owns cs t) (notesOf w));
+      })
 
-  -- A MODIFY OF A TABLE
+  -- A MODIFY OF A TABLE: what it writes, and what it lists
   pub range-edits : (depth : ℕ) → depth ≤ 3 → Edits depth
   range-edits zero low = edits-pages
   range-edits (suc depth) low = edits-up depth low (range-edits depth (omega arith))

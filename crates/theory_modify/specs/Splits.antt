@@ -2,41 +2,40 @@
 use mathlib.Core.Path.{_≡_, refl, sym, ap, _∙_}
 use mathlib.Core.Bool.{true, false}
 use mathlib.Core.List.{List, [], _∷_}
-use Prim.Native.Nat.{ℕ, zero, suc, _+_, _-_, _≤_, _<_}
+use Prim.Native.Nat.{ℕ, zero, suc, _+_, _-_, _≤_}
 use native.Mathlib.Omega.{arith}
 use lib.Dec.{eqb}
 use Rattle.laws.specs.Test.{byBool}
 use Rattle.entry.specs.Word.{kindOf, valid}
-use Rattle.entry.specs.Sub.{subOf, sub-leaf}
 use Rattle.entry.specs.declared.Kind.{Kind}
 use Rattle.entry.specs.declared.Kind.the-variants.{Table as table, Block, Page, Hole}
-use Rattle.entry.specs.declared.Sub.the-variants.{Table, Leaf}
 use Rattle.address_slot.specs.Slot.{entryIndex}
 use Rattle.region.specs.Region.{whole}
 use Rattle.region.specs.Chunks.{chunks}
+use Rattle.region.specs.Each.{eachOf, eachChunk}
 use Rattle.region.specs.declared.MemoryRegion.{MemoryRegion}
-use Rattle.pool.specs.State.{St, tables, wordAt}
+use Rattle.pool.specs.State.{St}
 use Rattle.pool.specs.declared.Handle.{Handle}
 use Rattle.map_count_spec.specs.Needed.{slot-below}
 use Rattle.modify_entry.specs.declared.Edit.{Edit}
-use Rattle.modify_entry.specs.Word.{editWord}
-use Rattle.modify_entry.specs.Each.{eachOf, eachChunk, chunkEdit}
+use Rattle.modify_entry.specs.Word.{chunkEdit, editWord}
 use Rattle.modify_survey.specs.declared.Survey.{Survey}
 use Rattle.modify_survey.specs.House.{mayChange}
-use Rattle.modify_survey.specs.Find.{adding, splitsIn, breach, ifBlock, surveyPart, surveyWhole, surveyEntry, surveySub, surveyChunk}
+use Rattle.modify_survey.specs.Find.{adding, splitsIn, breach, ifBlock, surveyPart, surveyWhole, surveyEntry, surveyChunk}
 use Rattle.modify_survey.specs.Find.{surveyRange, entry-whole, entry-part}
-use Rattle.theory_forest.specs.Tree.{Tree, leaf, node, treeAt-node}
-use Rattle.theory_sound.specs.Codec.{Placed, childOf, slotWord, treeFrom}
+use Rattle.theory_forest.specs.Tree.{Tree, leaf, node}
+use Rattle.theory_sound.specs.Codec.{Placed, treeFrom}
+use Rattle.theory_sound.specs.Step.{Ready}
+use Rattle.theory_sound.specs.Slot.{slotShows}
 use Rattle.theory_tree.specs.Word.{fillWord}
 use Rattle.theory_tree.specs.Visit.{opened, splits, counted, fillTree}
 use Rattle.theory_tree.specs.Needed.{slotTree, tallied, needed, neededTable}
 use Rattle.theory_tree.specs.Modify.{editRule}
 use Rattle.theory_tree.specs.DocumentModify.{documentModify}
-use Rattle.theory_map.specs.Moves.{slotShows, Ready, entered-ready}
 use Rattle.theory_map.specs.Need.{slot-fill}
-use Rattle.theory_map.specs.Down.{SlotHolds, holds-table, holds-leaf, holds}
 use Rattle.theory_map.specs.Loop.{slot-of}
-use Rattle.theory_modify.specs.Passes.{takes-part, takes-into}
+use Rattle.theory_modify.specs.Passes.{takes-on}
+use Rattle.theory_modify.specs.Entry.{survey-page, survey-slot}
 use Rattle.theory_modify.specs.Range.{editTakes}
 
 -- ---- a number that each chunk adds to
@@ -84,7 +83,7 @@ module _ (set clear : ℕ) where
   takes-fill : (depth : ℕ) (c : MemoryRegion) (p w : ℕ) → whole (3 - suc depth) c ≡ false
       → needed (documentModify set clear) (suc depth) c p (leaf w) ≡ 1 + neededTable (documentModify set clear) depth c p (fillTree depth w)
   unfolding splits opened
-  takes-fill depth c p w e = takes-part set clear depth c p w e
+  takes-fill depth c p w e = takes-on set clear depth c p (leaf w) e
 
   pub leaf-takes : (depth : ℕ) (c : MemoryRegion) (p w : ℕ) → depth ≤ 3
       → splitsIn depth c ≡ needed (documentModify set clear) depth c p (leaf w)
@@ -106,7 +105,7 @@ pub takes-enter : (set clear depth : ℕ) (c : MemoryRegion) (p : ℕ) (f : ℕ 
 unfolding splits opened
 takes-enter set clear depth c p f =
     let e : needed (documentModify set clear) (suc depth) c p (node f) ≡ 0 + neededTable (documentModify set clear) depth c p (node f) =
-    takes-into set clear depth c p f in omega arith
+    takes-on set clear depth c p (node f) refl in omega arith
 
 -- ---- what a survey of an entry adds
 
@@ -168,63 +167,32 @@ entry-splits h depth e c p w v low = go depth low
 
 -- ---- a table of a sound pool
 
-module _ (rec : ℕ → Edit → Survey → Survey) (h : Handle) (s : St) (k level : ℕ) (e : Edit) (c : MemoryRegion) (v : Survey) where
-  abbrev y : ℕ
-  y = wordAt s k (entryIndex level (c .start .0))
-
-  pub chunk-leaf : subOf (h .base .0) (tables s) level y ≡ Leaf
-      → surveyChunk rec h s k level e c v ≡ surveyEntry h level (chunkEdit e c) y v
-  unfolding surveyChunk surveySub
-  chunk-leaf q = rw q
-
-  pub chunk-table : (j : ℕ) → subOf (h .base .0) (tables s) level y ≡ Table j → surveyChunk rec h s k level e c v ≡ rec j (chunkEdit e c) v
-  unfolding surveyChunk surveySub
-  chunk-table j q = rw q
-
 module _ {h : Handle} (placed : Placed h) where
   abbrev Counts : ℕ → Type 0
-  Counts depth = (k p : ℕ) (e : Edit) (s : St) (v : Survey) → Ready placed s depth k
+  Counts depth = (k p : ℕ) (e : Edit) (s : St) (v : Survey) → Ready h s depth k
       → surveyRange depth h s k e v .splits ≡ v .splits + editTakes e depth p (treeFrom h s depth k)
 
-  chunk-takes : (depth k : ℕ) (e : Edit) (s : St) → Ready placed s (suc depth) k → Counts depth → (c : MemoryRegion) (p : ℕ) (v : Survey)
+  chunk-takes : (depth k : ℕ) (e : Edit) (s : St) → Ready h s (suc depth) k → Counts depth → (c : MemoryRegion) (p : ℕ) (v : Survey)
       → surveyChunk (λ j n x. surveyRange depth h s j n x) h s k (3 - suc depth) e c v .splits
       ≡ v .splits
       + needed (documentModify (e .set) (e .clear)) (suc depth) c p (slotShows h s (suc depth) k (entryIndex (3 - suc depth) (c .start .0)))
-  chunk-takes depth k e s R counts c p v = go (holds placed R i inside)
-    where
-      i : ℕ
-      i = entryIndex (3 - suc depth) (c .start .0)
-
-      inside : i < 512
-      inside = slot-below (3 - suc depth) (c .start .0)
-
-      rec : ℕ → Edit → Survey → Survey
-      rec j n x = surveyRange depth h s j n x
-
-      count : Tree → ℕ
-      count t = needed (documentModify (e .set) (e .clear)) (suc depth) c p t
-
-      go : SlotHolds placed s depth k i
-          → surveyChunk rec h s k (3 - suc depth) e c v .splits ≡ v .splits + count (slotShows h s (suc depth) k i)
-      go (holds-table j r both leads shows) =
-          ap (λ (x : Survey). x .splits) (chunk-table rec h s k (3 - suc depth) e c v j leads)
-          ∙ counts j p (chunkEdit e c) s v (entered-ready placed R i inside r)
-          ∙ ap (λ (n : ℕ). v .splits + n) (ap (editTakes (chunkEdit e c) depth p) (treeAt-node (childOf (h .base .0)) depth (slotWord s) j)
-          ∙ sym (takes-enter (e .set) (e .clear) depth c p _) ∙ ap count (sym shows))
-      go (holds-leaf old other shows) =
-          ap (λ (x : Survey). x .splits)
-          (chunk-leaf rec h s k (3 - suc depth) e c v (sym (sub-leaf (h .base .0) (tables s) (3 - suc depth) _ (λ q. other (q .1)))))
-          ∙ entry-splits h (suc depth) e c p _ v (omega (arith, R .low)) ∙ ap (λ (n : ℕ). v .splits + n) (ap count (sym shows))
+  chunk-takes depth k e s R counts c p v =
+      survey-slot placed (λ j n x. surveyRange depth h s j n x) s k e c v
+      (λ (x : Survey) (u : Tree). x .splits ≡ v .splits + needed (documentModify (e .set) (e .clear)) (suc depth) c p u) depth R
+      (λ w fine. entry-splits h (suc depth) e c p w v (omega (arith, R .low)))
+      (λ j f ready tree. counts j p (chunkEdit e c) s v ready
+      ∙ ap (λ (n : ℕ). v .splits + n) (ap (editTakes (chunkEdit e c) depth p) tree ∙ sym (takes-enter (e .set) (e .clear) depth c p f)))
 
   -- THE SPLITS
   pub survey-splits : (depth : ℕ) → Counts depth
   unfolding surveyRange neededTable
   survey-splits zero k p e s v R =
       chunks-tally (λ (x : Survey). x .splits) _ 0 (λ c y u. needed (documentModify (e .set) (e .clear)) 0 c y u) (treeFrom h s 0 k)
-      (λ c y x. ap (λ (z : Survey). z .splits)
-      (chunk-leaf _ h s k 3 e c x (sym (sub-leaf (h .base .0) (tables s) 3 _ (λ q. omega (arith, q .0)))))
-      ∙ entry-splits h 0 e c y _ x (omega arith)
-      ∙ ap (λ (n : ℕ). x .splits + n) (page-takes (e .set) (e .clear) c y _ ∙ sym (page-takes (e .set) (e .clear) c y _)))
+      (λ c y x. survey-page placed (λ j n z. z) s k e c x
+      (λ (z : Survey) (u : Tree). z .splits ≡ x .splits + needed (documentModify (e .set) (e .clear)) 0 c y u) R
+      (λ w fine. entry-splits h 0 e c y w x (omega arith))
+      ∙ ap (λ (t : Tree). x .splits + needed (documentModify (e .set) (e .clear)) 0 c y t)
+      (sym (slot-of h s 0 k (entryIndex 3 (c .start .0)))))
       (e .region) p v
   survey-splits (suc depth) k p e s v R =
       chunks-tally (λ (x : Survey). x .splits) _ (suc depth) (λ c y u. needed (documentModify (e .set) (e .clear)) (suc depth) c y u)

@@ -28,21 +28,21 @@ pub record NamesSlot (x p i : ℕ) : Type 0 where
 
 -- table k hangs in slot i of table p
 pub record HangsIn (h : Handle) (s : St) (k p i : ℕ) : Type 0 where
-  -- table k's number names a slot ..
+  -- table k's number names slot i of table p
   pub names : NamesSlot (numberAt s k) p i
-  -- .. of a used table ..
+  -- table p is "a used table"
   pub used : InUse s p
-  -- .. one level higher in the tree (level less by one) ..
+  -- table p is "one level higher in the tree (level less by one)"
   pub higher : levelAt s k ≡ levelAt s p + 1
-  -- .. and that slot refers to it
+  -- slot i of table p refers to table k
   pub refers : wordAt s p i ≡ linkOf (h .base .0) k
 
 -- slot i of table k holds a table word for table c
 pub record LinksTo (h : Handle) (s : St) (k i c : ℕ) : Type 0 where
-  -- the word is exactly a pool table's address + 3 ..
+  -- the word is "exactly a pool table's address + 3"
   pub inside : c < tables s
   pub says : wordAt s k i ≡ linkOf (h .base .0) c
-  -- .. and that table's ledger number names this slot
+  -- the ledger number of table c names this slot
   pub names : NamesSlot (numberAt s c) k i
 
 -- the word w, no table word, in a table of this level
@@ -61,9 +61,9 @@ pub record LeafWord (set level w : ℕ) : Type 0 where
 pub record SoundPool (h : Handle) (s : St) : Type 0 where
   -- the pool is 512·n words, the ledger n numbers
   pub sized : length (s .words) ≡ 512 * tables s
-  -- "the ledger has the root's number at 0; ..
+  -- "the ledger has the root's number at 0"
   pub root : numberAt s 0 ≡ rootNumber (h .level)
-  -- .. every other used table's number names a slot of a used table one level higher in the tree (level less by one), and that slot refers
+  -- "every other used table's number names a slot of a used table one level higher in the tree (level less by one), and that slot refers
   -- to it"
   pub hangs : (k : ℕ) → k ≢ 0 → InUse s k → (p i : ℕ) × HangsIn h s k p i
   -- "every word with bits 0 and 1 set at levels 0 to 2 is exactly a pool table's address + 3, and that table's ledger number names this

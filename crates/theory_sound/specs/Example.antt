@@ -25,17 +25,22 @@ use Rattle.theory_sound.specs.Take.{take-step}
 unfoldable pub handle : Handle
 handle = record { base = record { 0 = 0x8000_0000 }; level = 1; range = Lower }
 
+-- what refusals 1 and 8 compute with: to unfold this is to unfold all that its line names
+unfoldable checks : Unit {0}
+unfolding handle shaped maxTables soundb allBelow tableb hangsb namesb allFrom slotb refersb linkb leafb fits only flagSet plainFlags
+    rootNumber linkOf addressOf el1Flags sizeAt
+checks = tt
+
 -- n = 2, fresh: the root alone
 unfoldable pub freshExample : St
 freshExample = st (replicate 1024 0) (5 ∷ 0 ∷ [])
 
 fresh-shaped : Shaped handle freshExample
-unfolding handle freshExample shaped maxTables
+unfolding checks freshExample
 fresh-shaped = shaped-says handle freshExample tt
 
 fresh-test : T (soundb handle freshExample)
-unfolding handle freshExample soundb allBelow tableb hangsb namesb allFrom slotb refersb linkb leafb fits only flagSet plainFlags rootNumber
-    linkOf addressOf el1Flags sizeAt
+unfolding checks freshExample
 fresh-test = tt
 
 pub fresh-sound : SoundPool handle freshExample
@@ -48,18 +53,17 @@ mapped =
     (5 ∷ 14 ∷ 4111 ∷ [])
 
 mapped-shaped : Shaped handle mapped
-unfolding handle mapped shaped maxTables
+unfolding checks mapped
 mapped-shaped = shaped-says handle mapped tt
 
 mapped-test : T (soundb handle mapped)
-unfolding handle mapped soundb allBelow tableb hangsb namesb allFrom slotb refersb linkb leafb fits only flagSet plainFlags rootNumber
-    linkOf addressOf el1Flags sizeAt
+unfolding checks mapped
 mapped-test = tt
 
 pub mapped-sound : SoundPool handle mapped
 mapped-sound = decide-sound mapped-shaped mapped-test
 
--- and so are the steps' hypotheses: an empty table taken for slot 0 of the fresh root
+-- what a step asks holds of a pool: an empty table is taken for slot 0 of the fresh root
 found : lowestFree (freshExample .ledger) ≡ At 1
 unfolding freshExample lowestFree firstFrom
 found = refl

@@ -1,11 +1,10 @@
 -- The third step on lists: a word is written in a slot and the whole subtree that the slot referred to is freed.
-use mathlib.Core.Path.{_≡_, refl, ap, _∙_}
+use mathlib.Core.Path.{_≡_, ap, _∙_}
 use mathlib.Core.Bool.{cond}
 use mathlib.Core.Logic.{_⊎_, inl, inr}
-use Prim.Native.Nat.{ℕ, suc, _+_, _*_, _<_}
+use Prim.Native.Nat.{ℕ, suc, _+_, _<_}
 use native.Mathlib.Omega.{arith}
 use lib.Dec.{eqb}
-use lib.ListN.{length-set}
 use borrow.Author.Tests.{ne-eqb}
 use Rattle.laws.specs.Sum.{sum, sum-ext, sum-add}
 use Rattle.pool.specs.State.{storeAt, St, tables, numberAt, used-in}
@@ -23,7 +22,7 @@ use Rattle.theory_sound.specs.Alloc.{used-sum}
 use Rattle.theory_sound.specs.Codec.{shaped-placed, codecOf, view, treeFrom}
 use Rattle.theory_sound.specs.Clauses.{InUse, levelAt, SoundPool}
 use Rattle.theory_sound.specs.Generic.{pool-sound}
-use Rattle.theory_sound.specs.Lists.{store-here, store-other}
+use Rattle.theory_sound.specs.Lists.{size-trans, store-size, store-here, store-other}
 use Rattle.theory_sound.specs.Step.{Stands, stands-fits, used-inside, Step}
 use Rattle.theory_sound.specs.FreeRun.{Freed, tree-freed}
 
@@ -37,7 +36,7 @@ module _ {h : Handle} {s : St} (shape : Shaped h s) (P : SoundPool h s) (depth p
   run =
       tree-freed shape (pool-sound (shaped-placed shape) P) depth e (storeAt p i v s) (r .used) (omega (arith, low, refers-level r))
       (record {
-        size = record { same-tables = refl; same-words = length-set (s .words) (512 * p + i) v };
+        size = store-size s p i v;
         words = λ j m under k. store-other s p i v inside j k (λ at. refers-over r m (rw (← at .0) under));
       })
 
@@ -56,8 +55,7 @@ module _ {h : Handle} {s : St} (shape : Shaped h s) (P : SoundPool h s) (depth p
     move =
         move-free (pool-sound (shaped-placed shape) P) (suc depth) inUse inside low
         (stands-fits h (shaped-placed shape) (numberAt s p) stands) tree-frees r;
-    same-tables = run .size .same-tables;
-    same-words = run .size .same-words ∙ length-set (s .words) (512 * p + i) v;
+    size = size-trans (store-size s p i v) (run .size);
   }
 
   -- ---- the tables in use fall by the tables under e, and the free ones rise by them

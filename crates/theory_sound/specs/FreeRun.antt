@@ -3,7 +3,6 @@ use mathlib.Core.Path.{_≡_, refl, sym, ap, _∙_, subst}
 use mathlib.Core.Logic.{_⊎_, inl, inr, _≢_}
 use Prim.Native.Nat.{ℕ, zero, suc, _-_, _%_, _≤_, _<_}
 use native.Mathlib.Omega.{arith}
-use lib.ListN.{length}
 use Rattle.laws.specs.Slot.{iter}
 use Rattle.laws.specs.Test.{eq-or}
 use Rattle.entry.specs.Sub.{sub-leaf, sub-link}
@@ -16,8 +15,8 @@ use Rattle.theory_forest.specs.Under.{Under, NotUnder, LevelsLeft, under-self, 
 use Rattle.theory_forest.specs.Under.{refers-child, refers-under, refers-over, refers-one}
 use Rattle.theory_sound.specs.Codec.{shaped-placed, codecOf, slotWord, view, word-in}
 use Rattle.theory_sound.specs.Clauses.{InUse, levelAt}
-use Rattle.theory_sound.specs.Lists.{TableInside, clear-tables, clear-words, clear-number, clear-number-other, clear-word}
-use Rattle.theory_sound.specs.Lists.{clear-word-other}
+use Rattle.theory_sound.specs.Lists.{TableInside, SameSize, size-refl, size-trans, clear-size, clear-number, clear-number-other}
+use Rattle.theory_sound.specs.Lists.{clear-word, clear-word-other}
 
 -- table j of q is zeroed
 pub record Zeroed (q : St) (j : ℕ) : Type 0 where
@@ -29,11 +28,6 @@ pub record Kept (q q′ : St) (j : ℕ) : Type 0 where
   pub number : numberAt q′ j ≡ numberAt q j
   pub words : (i : ℕ) → slotWord q′ j i ≡ slotWord q j i
 
--- the lists of q′ are as long as those of q
-pub record SameSize (q q′ : St) : Type 0 where
-  pub same-tables : tables q′ ≡ tables q
-  pub same-words : length (q′ .words) ≡ length (q .words)
-
 kept-self : {q : St} {j : ℕ} → Kept q q j
 kept-self = record { number = refl; words = λ i. refl }
 
@@ -42,9 +36,6 @@ kept-trans a b = record { number = b .number ∙ a .number; words = λ i. b .wor
 
 zeroed-kept : {q q′ : St} {j : ℕ} → Zeroed q j → Kept q q′ j → Zeroed q′ j
 zeroed-kept a b = record { number = b .number ∙ a .number; words = λ i. b .words i ∙ a .words i }
-
-pub size-trans : {q q′ q″ : St} → SameSize q q′ → SameSize q′ q″ → SameSize q q″
-size-trans a b = record { same-tables = b .same-tables ∙ a .same-tables; same-words = b .same-words ∙ a .same-words }
 
 -- s is the sound pool that the run is measured by; the run itself goes over other states, whose words under the top are those of s
 module _ {h : Handle} {s : St} (shape : Shaped h s) (S : Sound (codecOf h (shaped-placed shape)) (view s)) where
@@ -79,7 +70,7 @@ module _ {h : Handle} {s : St} (shape : Shaped h s) (S : Sound (codecOf h (shape
     rest =
         λ j off. kept-trans (done .rest j (λ i e m r l under. off (suc m) (refers-under r under)))
         (kept j (λ same. off 0 (rw same (under-self used))));
-    size = size-trans (done .size) (record { same-tables = clear-tables d q₁; same-words = clear-words d q₁ at });
+    size = size-trans (done .size) (clear-size d q₁ at);
   }
     where
       at : TableInside q₁ d
@@ -180,7 +171,7 @@ module _ {h : Handle} {s : St} (shape : Shaped h s) (S : Sound (codecOf h (shape
   loop depth d zero q used low start small below = record {
     gone = λ j i e m r l under. absurd (omega arith);
     rest = λ j off. kept-self;
-    size = record { same-tables = refl; same-words = refl };
+    size = size-refl;
   }
   loop depth d (suc n) q used low start small below =
       slot-more depth d n q (iter (freeSlot (λ j t. freeTree depth h j t) h d (3 - suc depth)) n q) used low start (omega arith)
@@ -192,7 +183,7 @@ module _ {h : Handle} {s : St} (shape : Shaped h s) (S : Sound (codecOf h (shape
   tree-freed zero d q used low start = clear-freed d q q used (start .size) (record {
     gone = λ j i e m r l under. absurd (omega (arith, refers-level r, low, C .level-le (numberAt s e)));
     rest = λ j off. kept-self;
-    size = record { same-tables = refl; same-words = refl };
+    size = size-refl;
   })
   tree-freed (suc depth) d q used low start =
       let done = loop depth d 512 q used low start (omega arith) (λ e q used low start. tree-freed depth e q used low start) in

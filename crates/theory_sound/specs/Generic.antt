@@ -1,6 +1,7 @@
 -- Document 01's clauses say the same as theory_forest's `Sound` for the codec of the handle, so all that is proved of forests holds of
 -- sound pools. And a leaf's clauses say what the test `leafb` computes.
 use mathlib.Core.Path.{_≡_, refl, sym, ap, _∙_, subst, subst⁻¹}
+use mathlib.Core.Bool.{_&&_}
 use mathlib.Core.Logic.{_⊎_, inl, inr, _≢_}
 use Prim.Native.Nat.{ℕ, zero, suc, _+_, _*_, _/_, _%_, _≤_, _<_}
 use native.Mathlib.Omega.{arith}
@@ -26,6 +27,20 @@ leaf-says set level w low t =
     let flags = eqb→eq _ (plainFlags w) (and-l (only set (plainFlags w)) (fits level w) t) in
     shape flags level low (and-r (only set (plainFlags w)) (fits level w) t)
   where
+    block : SubBits (plainFlags w) set → (level : ℕ) → 0 < level → level < 3 → T (ltb (w % 4) 2 && eqb (addressOf w % sizeAt level) 0)
+        → LeafWord set level w
+    block flags level some high t =
+        let both : w % 4 < 2 = ltb→lt (w % 4) 2 (and-l (ltb (w % 4) 2) (eqb (addressOf w % sizeAt level) 0) t) in
+        let address : addressOf w % sizeAt level ≡ 0 =
+        eqb→eq (addressOf w % sizeAt level) 0 (and-r (ltb (w % 4) 2) (eqb (addressOf w % sizeAt level) 0) t) in
+        record {
+          flags = flags;
+          clear = λ l. omega arith;
+          aligned = λ a b. address;
+          top = λ e. absurd (omega arith);
+          page = λ e. absurd (omega arith);
+        }
+
     shape : SubBits (plainFlags w) set → (level : ℕ) → level ≤ 3 → T (fits level w) → LeafWord set level w
     shape flags zero low t =
         let both : w % 4 ≡ 0 = eqb→eq (w % 4) 0 (and-l (eqb (w % 4) 0) (eqb (addressOf w) 0) t) in
@@ -37,28 +52,8 @@ leaf-says set level w low t =
           top = λ e. (omega arith, address);
           page = λ e. absurd (omega arith);
         }
-    shape flags (suc zero) low t =
-        let both : w % 4 < 2 = ltb→lt (w % 4) 2 (and-l (ltb (w % 4) 2) (eqb (addressOf w % sizeAt 1) 0) t) in
-        let address : addressOf w % sizeAt 1 ≡ 0 =
-        eqb→eq (addressOf w % sizeAt 1) 0 (and-r (ltb (w % 4) 2) (eqb (addressOf w % sizeAt 1) 0) t) in
-        record {
-          flags = flags;
-          clear = λ l. omega arith;
-          aligned = λ a b. address;
-          top = λ e. absurd (omega arith);
-          page = λ e. absurd (omega arith);
-        }
-    shape flags (suc (suc zero)) low t =
-        let both : w % 4 < 2 = ltb→lt (w % 4) 2 (and-l (ltb (w % 4) 2) (eqb (addressOf w % sizeAt 2) 0) t) in
-        let address : addressOf w % sizeAt 2 ≡ 0 =
-        eqb→eq (addressOf w % sizeAt 2) 0 (and-r (ltb (w % 4) 2) (eqb (addressOf w % sizeAt 2) 0) t) in
-        record {
-          flags = flags;
-          clear = λ l. omega arith;
-          aligned = λ a b. address;
-          top = λ e. absurd (omega arith);
-          page = λ e. absurd (omega arith);
-        }
+    shape flags (suc zero) low t = block flags 1 (omega arith) (omega arith) t
+    shape flags (suc (suc zero)) low t = block flags 2 (omega arith) (omega arith) t
     shape flags (suc (suc (suc l))) low t =
         let both : w % 4 ≢ 1 = λ e. T-not (eqb (w % 4) 1) t (eq→eqb (w % 4) 1 e) in
         record {
@@ -74,19 +69,19 @@ unfolding leafb only fits
 says-leaf set level w low leaf =
     and-i (only set (plainFlags w)) (fits level w) (eq→eqb _ (plainFlags w) (leaf .flags)) (shape level low leaf)
   where
+    block : (level : ℕ) → 0 < level → level < 3 → LeafWord set level w → T (ltb (w % 4) 2 && eqb (addressOf w % sizeAt level) 0)
+    block level some high leaf =
+        let clear = leaf .clear high in
+        and-i (ltb (w % 4) 2) (eqb (addressOf w % sizeAt level) 0) (lt→ltb (w % 4) 2 (omega arith))
+        (eq→eqb (addressOf w % sizeAt level) 0 (leaf .aligned some high))
+
     shape : (level : ℕ) → level ≤ 3 → LeafWord set level w → T (fits level w)
     shape zero low leaf =
         let clear = leaf .clear (omega arith) in
         let top = leaf .top refl in
         and-i (eqb (w % 4) 0) (eqb (addressOf w) 0) (eq→eqb (w % 4) 0 (omega arith)) (eq→eqb (addressOf w) 0 (top .1))
-    shape (suc zero) low leaf =
-        let clear = leaf .clear (omega arith) in
-        and-i (ltb (w % 4) 2) (eqb (addressOf w % sizeAt 1) 0) (lt→ltb (w % 4) 2 (omega arith))
-        (eq→eqb (addressOf w % sizeAt 1) 0 (leaf .aligned (omega arith) (omega arith)))
-    shape (suc (suc zero)) low leaf =
-        let clear = leaf .clear (omega arith) in
-        and-i (ltb (w % 4) 2) (eqb (addressOf w % sizeAt 2) 0) (lt→ltb (w % 4) 2 (omega arith))
-        (eq→eqb (addressOf w % sizeAt 2) 0 (leaf .aligned (omega arith) (omega arith)))
+    shape (suc zero) low leaf = block 1 (omega arith) (omega arith) leaf
+    shape (suc (suc zero)) low leaf = block 2 (omega arith) (omega arith) leaf
     shape (suc (suc (suc l))) low leaf =
         not-T (eqb (w % 4) 1)
         (λ t. let one : w % 4 ≡ 1 = eqb→eq (w % 4) 1 t in let page = leaf .page (omega arith) (omega arith) in omega arith)
@@ -172,7 +167,7 @@ module _ {h : Handle} (placed : Placed h) {s : St} where
       empty k i none (inr inside) (inl past) = word-in s k i inside ∙ List·getD-eq-default (s .words) 0 (omega (arith, P .sized))
       empty k i none (inr inside) (inr at) = word-in s k i inside ∙ P .free k i at inside none
 
-  -- ---- and back
+  -- ---- from the forest to the clauses
 
   hangs-of : {k : ℕ} → Hangs (codecOf h placed) (view s) k → HangsIn h s k (parentOf (numberAt s k)) (slotOf (numberAt s k))
   hangs-of {k} hangs =

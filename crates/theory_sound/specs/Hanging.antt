@@ -48,6 +48,10 @@ module _ (h : Handle) (s : St) where
 
 -- ---- every used table hangs from the root, by the ledger
 
+pub root-used : {h : Handle} {s : St} → SoundPool h s → InUse s 0
+unfolding rootNumber
+root-used P = omega (arith, P .root)
+
 pub root-left : {h : Handle} {s : St} → Placed h → SoundPool h s → levelAt s 0 + (3 - h .level) ≡ 3
 unfolding rootNumber
 root-left placed P = omega (arith, placed .level, P .root)
@@ -107,7 +111,7 @@ module _ {h : Handle} {s : St} (shape : Shaped h s) (P : SoundPool h s) where
       follow at-last = here
       follow (by at rest) = down (refers-leads (at .used) (once (pool-sound (shaped-placed shape) P) at)) (follow rest)
 
-  -- by one path alone
+  -- a table is reached from the root by one path alone
   pub one-path : {j : ℕ} {slots slots′ : List ℕ} → Follows h s 0 slots j → Follows h s 0 slots′ j → slots ≡ slots′
   one-path a b = one-way (pool-sound (shaped-placed shape) P) (points a) (points b)
     where

@@ -11,6 +11,7 @@ pub mod Hanging
 -- the four steps on lists
 pub mod Lists
 pub mod Step
+pub mod Slot
 pub mod Store
 pub mod Take
 pub mod FreeRun

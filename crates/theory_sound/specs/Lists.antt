@@ -1,5 +1,5 @@
--- What a store, a replaced table and a cleared table do to the words and numbers that are read, slot by slot.
-use mathlib.Core.Path.{_≡_, sym, _∙_}
+-- What a store, a replaced table and a cleared table do to the words and numbers that are read, slot by slot, and to the lists' lengths.
+use mathlib.Core.Path.{_≡_, refl, sym, _∙_}
 use mathlib.Core.List.{List}
 use mathlib.Core.Logic.{_⊎_, inl, inr, _≢_}
 use Prim.Native.Nat.{ℕ, _+_, _*_, _≤_, _<_}
@@ -17,7 +17,21 @@ use Rattle.theory_sound.specs.Codec.{slotWord, word-in, word-out}
 abbrev pub TableInside : St → ℕ → Type 0
 TableInside s k = 512 * k + 512 ≤ length (s .words)
 
+-- the lists of q′ are as long as those of q
+pub record SameSize (q q′ : St) : Type 0 where
+  pub same-tables : tables q′ ≡ tables q
+  pub same-words : length (q′ .words) ≡ length (q .words)
+
+pub size-refl : {q : St} → SameSize q q
+size-refl = record { same-tables = refl; same-words = refl }
+
+pub size-trans : {q q′ q″ : St} → SameSize q q′ → SameSize q′ q″ → SameSize q q″
+size-trans a b = record { same-tables = b .same-tables ∙ a .same-tables; same-words = b .same-words ∙ a .same-words }
+
 -- ---- one store
+
+pub store-size : (s : St) (p i v : ℕ) → SameSize s (storeAt p i v s)
+store-size s p i v = record { same-tables = refl; same-words = length-set (s .words) (512 * p + i) v }
 
 module _ (s : St) (p i v : ℕ) (inside : i < 512) where
   pub store-here : TableInside s p → slotWord (storeAt p i v s) p i ≡ v
@@ -61,13 +75,10 @@ module _ (s : St) (l t : List ℕ) (f : ℕ) (full : length t ≡ 512) (at : Tab
 -- ---- one table cleared
 
 module _ (k : ℕ) (s : St) where
-  pub clear-tables : tables (clear k s) ≡ tables s
+  pub clear-size : TableInside s k → SameSize s (clear k s)
   unfolding clear
-  clear-tables = length-set (s .ledger) k 0
-
-  pub clear-words : TableInside s k → length (clear k s .words) ≡ length (s .words)
-  unfolding clear
-  clear-words at = length-table k zeros (s .words) length-zeros at
+  clear-size at =
+      record { same-tables = length-set (s .ledger) k 0; same-words = length-table k zeros (s .words) length-zeros at }
 
   -- past the ledger's end 0 is read, so no range is asked
   pub clear-number : numberAt (clear k s) k ≡ 0

@@ -18,7 +18,7 @@ use Rattle.theory_forest.specs.Move.{move-store, move-free}
 use Rattle.theory_sound.specs.Codec.{Placed, codecOf, slotWord, view, word-in, word-out}
 use Rattle.theory_sound.specs.Clauses.{InUse, levelAt, SoundPool}
 use Rattle.theory_sound.specs.Generic.{pool-sound}
-use Rattle.theory_sound.specs.Lists.{TableInside, store-here, store-other, clear-tables, clear-words, clear-number}
+use Rattle.theory_sound.specs.Lists.{TableInside, size-trans, store-size, store-here, store-other, clear-size, clear-number}
 use Rattle.theory_sound.specs.Lists.{clear-number-other, clear-word, clear-word-other}
 use Rattle.theory_sound.specs.Step.{Stands, stands-fits, not-table, used-inside, Step}
 
@@ -37,8 +37,7 @@ module _ {h : Handle} (placed : Placed h) {s : St} (P : SoundPool h s) (p i v : 
     move =
         move-store (pool-sound placed P) depth inUse inside low (stands-fits h placed (numberAt s p) stands) stored
         (not-table placed s p i inside old);
-    same-tables = refl;
-    same-words = length-set (s .words) (512 * p + i) v;
+    size = store-size s p i v;
   }
 
   -- ---- an empty table
@@ -65,8 +64,7 @@ module _ {h : Handle} (placed : Placed h) {s : St} (P : SoundPool h s) (p i v : 
     clear-step depth low stands zeros = record {
       move = move-free (pool-sound placed P) depth inUse inside low (stands-fits h placed (numberAt s p) stands)
           (free-empty-frees (pool-sound placed P) (r .used) (λ j. empty j (le-or 512 j)) cleared) r;
-      same-tables = clear-tables e (storeAt p i v s);
-      same-words = clear-words e (storeAt p i v s) at ∙ length-set (s .words) (512 * p + i) v;
+      size = size-trans (store-size s p i v) (clear-size e (storeAt p i v s) at);
     }
       where
         at : TableInside (storeAt p i v s) e

@@ -7,7 +7,7 @@ use native.Mathlib.Omega.{arith}
 use lib.ListN.{length, getD, set, length-set, List·getD-eq-default}
 use lib.Seq.{getD-set-same, getD-set-other}
 use Rattle.entry.specs.Word.{linkOf}
-use Rattle.pool.specs.State.{St, st, tables, wordAt, numberAt}
+use Rattle.pool.specs.State.{St, st, wordAt, numberAt}
 use Rattle.pool.specs.Number.{levelOf, numberOf, Names, parent-back, slot-back, number-names, lowestFree, LowestFree, lowest-found, used}
 use Rattle.pool.specs.Number.{free, level-back}
 use Rattle.pool_table.specs.Table.{putTable, length-table, takeAt, taken, takeTable, take-some}
@@ -21,7 +21,7 @@ use Rattle.theory_sound.specs.Alloc.{free-take}
 use Rattle.theory_sound.specs.Codec.{Placed, over-names, number-pos, codecOf, view}
 use Rattle.theory_sound.specs.Clauses.{InUse, levelAt, SoundPool}
 use Rattle.theory_sound.specs.Generic.{pool-sound}
-use Rattle.theory_sound.specs.Lists.{TableInside, store-here, store-other, put-here, put-other}
+use Rattle.theory_sound.specs.Lists.{TableInside, SameSize, store-here, store-other, put-here, put-other}
 use Rattle.theory_sound.specs.Step.{Stands, stands-fits, not-table, used-inside, Step}
 
 -- ---- what is taken, and the counts; nothing is asked of the pool
@@ -73,13 +73,12 @@ module _ {h : Handle} (placed : Placed h) {s : St} (P : SoundPool h s) (p level 
       filled : St
       filled = st (putTable f t (s .words)) (set (s .ledger) f (numberOf p level i))
 
-  pub take-tables : tables after ≡ tables s
+  pub take-size : SameSize s after
   unfolding takeAt
-  take-tables = length-set (s .ledger) f (numberOf p level i)
-
-  pub take-words : length (after .words) ≡ length (s .words)
-  unfolding takeAt
-  take-words = length-set (putTable f t (s .words)) (512 * p + i) (linkOf (h .base .0) f) ∙ length-table f t (s .words) full at
+  take-size = record {
+    same-tables = length-set (s .ledger) f (numberOf p level i);
+    same-words = length-set (putTable f t (s .words)) (512 * p + i) (linkOf (h .base .0) f) ∙ length-table f t (s .words) full at;
+  }
 
   module _ (stands : (j : ℕ) → j < 512 → Stands h level (getD t j 0)) where
     pub take-fit : SplitFits (codecOf h placed) (view s) p i f (numberOf p level i) (λ j. getD t j 0)
@@ -113,6 +112,5 @@ module _ {h : Handle} (placed : Placed h) {s : St} (P : SoundPool h s) (p level 
                 over = work-skip S′ depth f .over;
                 tree = new-tree S take-splits take-fit inUse inside none (lowest .free) depth low′;
               });
-          same-tables = take-tables;
-          same-words = take-words;
+          size = take-size;
         }

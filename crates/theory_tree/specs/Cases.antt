@@ -29,6 +29,12 @@ mapsOf ms = run 2 0 ms freshTree
 unfoldable pub takes : List Map → Map → ℕ
 takes ms m = mapMade 2 0 m (mapsOf ms)
 
+-- what a map on trees computes with: to unfold this is to unfold all that its line names
+unfoldable mapping : Unit {0}
+unfolding freshTree mapsOf run eachSlot sum pagesIn first child valid frameIn pageBit leafWordOf fillWord flagsOf fillTree opened obey visit
+    visitTable meets whole frameAt same fits drops mapRule mapTree
+mapping = tt
+
 -- pages 1 and 2, mapped
 abbrev B : Map
 B = mapInPages 1 3 9 0x401
@@ -46,9 +52,7 @@ pub record OrderShows : Type 0 where
   pub last : nodes (mapsOf (X ∷ Y ∷ [])) ≡ 4
 
 pub order-shows : OrderShows
-unfolding run freshTree mapsOf eachSlot nodes sum pagesIn first child valid frameIn pageBit leafWordOf fillWord flagsOf fillTree opened obey
-    visit visitTable meets whole frameAt same
-    fits drops mapRule mapTree
+unfolding mapping nodes
 order-shows = record { first = refl; last = refl }
 
 -- an unmap takes tables where its frame is not aligned to a block: over a table none, once more over the hole that it left 513
@@ -56,7 +60,5 @@ abbrev U : Map
 U = mapInPages 0 0x4_0000 1 0
 
 pub unmap-twice : (takes (B ∷ []) U ≡ 0) × (takes (B ∷ U ∷ []) U ≡ 513)
-unfolding run freshTree mapsOf takes eachSlot nodes sum pagesIn first child valid frameIn pageBit leafWordOf fillWord flagsOf fillTree
-    opened splits total obey counted visit made
-    visitTable madeTable meets whole frameAt same fits drops mapRule mapTree mapMade
+unfolding mapping takes splits total counted made madeTable mapMade
 unmap-twice = (refl, refl)

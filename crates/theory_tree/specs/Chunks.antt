@@ -1,15 +1,18 @@
 -- A call as document 01 runs it: for each chunk of the region, ascending, a rule; the frame rises by the chunk's length after each; where
 -- the rule goes down, the chunk's own chunks below. Over addresses and the chunks of `region`; `Sweep` proves that this is the visit of
 -- `Visit`.
-use mathlib.Core.Path.{_≡_, ap, _∙_}
+use mathlib.Core.Path.{_≡_, refl, sym, ap, subst, _∙_}
 use mathlib.Core.Bool.{Bool, cond}
 use mathlib.Core.List.{List, [], _∷_}
+use mathlib.Core.Logic.{_⊎_, inl, inr}
 use Prim.Native.Nat.{ℕ, zero, suc, _+_, _*_, _-_, _/_, _%_, _≤_, _<_, min}
 use native.Mathlib.Omega.{arith}
 use lib.Dec.{eqb}
 use Rattle.laws.specs.Size.{sizeAt, down, size-pos}
+use Rattle.laws.specs.Test.{le-or}
 use Rattle.address_slot.specs.Slot.{entryLast, entryIndex, chunkEnd}
-use Rattle.region.specs.Chunks.{chunks, chunk-fits}
+use Rattle.region.specs.Region.{region}
+use Rattle.region.specs.Chunks.{chunks, met, met-step, chunks-none, chunks-step, chunk-fits}
 use Rattle.region.specs.declared.MemoryRegion.{MemoryRegion}
 use Rattle.theory_forest.specs.Tree.{Tree, leaf, node}
 use Rattle.theory_tree.specs.Page.{pagesIn, span-size, entry-number, entry-start, first, child, slotOfPage, In, in-from, in-of}
@@ -109,3 +112,35 @@ cut depth q s e p low some I =
       within = fits .1;
       ends = omega arith;
     }
+
+-- ---- the chunks of a table's region, one after the other
+
+module _ (depth q e : ℕ) (low : depth ≤ 3) (P : ℕ → ℕ → List MemoryRegion → Type 0) (none : (s p : ℕ) → e ≤ s → P s p [])
+    (more : (s z p : ℕ) (cs : List MemoryRegion) → FirstCut depth q s e p z (slotOfPage (s / 4096) depth) → P z (p + (z - s)) cs
+    → P s p (region s z ∷ cs)) where
+  cut-off : (s p : ℕ) → Inside (first (suc depth) q) (pagesIn (suc depth)) s e p
+      → ((z : ℕ) → s < e → z ≡ chunkEnd (3 - depth) s e → Inside (first (suc depth) q) (pagesIn (suc depth)) z e (p + (z - s))
+      → P z (p + (z - s)) (chunks (3 - depth) z e))
+      → P s p (chunks (3 - depth) s e)
+  cut-off s p I ih = go (le-or e s)
+    where
+      go : (e ≤ s) ⊎ (s < e) → P s p (chunks (3 - depth) s e)
+      go (inl h) = subst (P s p) (sym (chunks-none (3 - depth) s e h)) (none s p h)
+      go (inr h) =
+          let z : ℕ = chunkEnd (3 - depth) s e in
+          let c = cut depth q s e p low h I in
+          subst (P s p) (sym (chunks-step (3 - depth) s e h)) (more s z p (chunks (3 - depth) z e) c (ih z h refl (c .rest)))
+
+  fewer : (s z : ℕ) {n : ℕ} → s < e → z ≡ chunkEnd (3 - depth) s e → met (3 - depth) s e ≡ suc n → met (3 - depth) z e ≡ n
+  fewer s z h is k = let m = met-step (3 - depth) s e h in let same = ap (λ (x : ℕ). met (3 - depth) x e) is in omega arith
+
+  from-met : (n s p : ℕ) → met (3 - depth) s e ≡ n → Inside (first (suc depth) q) (pagesIn (suc depth)) s e p
+      → P s p (chunks (3 - depth) s e)
+  from-met zero s p k I = cut-off s p I (λ z h is J. absurd (let m = met-step (3 - depth) s e h in omega arith))
+  from-met (suc n) s p k I =
+      cut-off s p I
+      (λ z h is J. from-met n z (p + (z - s)) (fewer s z h is k) J)
+
+  -- what holds where no page is left, and of a first chunk before the others, holds of all
+  pub by-chunks : (s p : ℕ) → Inside (first (suc depth) q) (pagesIn (suc depth)) s e p → P s p (chunks (3 - depth) s e)
+  by-chunks s p I = from-met (met (3 - depth) s e) s p refl I

@@ -170,7 +170,7 @@ module _ (m n : Map) (apart : Apart m n) (vm : valid (m .flags) ≡ true) (vn : 
       → work m depth q (work n depth q t) ≡ work n depth q (work m depth q t)
   away′ depth q t e = work-off m depth q (work n depth q t) e ∙ ap (work n depth q) (sym (work-off m depth q t e))
 
-  -- THE ORDER OF TWO MAPS, at an entry ..
+  -- THE ORDER OF TWO MAPS of an entry
   pub commute : (depth q : ℕ) (t : Tree) → FineTree depth t → work m depth q (work n depth q t) ≡ work n depth q (work m depth q t)
   commute zero q t fine =
       let b : ℕ = first zero q in
@@ -193,7 +193,7 @@ module _ (m n : Map) (apart : Apart m n) (vm : valid (m .flags) ≡ true) (vn : 
       (away (suc depth) q t))
       (away′ (suc depth) q t)
 
-  -- .. and in a table
+  -- THE ORDER OF TWO MAPS of a table
   pub commute-table : (depth q : ℕ) (t : Tree) → FineTable depth t
       → visitTable (mapRule m) depth q (visitTable (mapRule n) depth q t)
       ≡ visitTable (mapRule n) depth q (visitTable (mapRule m) depth q t)

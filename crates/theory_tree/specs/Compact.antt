@@ -20,7 +20,7 @@ unfoldable pub gone : (Tree → ℕ) → (Tree → Tree) → Tree → ℕ
 gone below rec (leaf w) = 0
 gone below rec (node f) = below (node f) + tally (emptyTree (rec (node f)))
 
--- .. in a table with `depth` levels below its own
+-- the tables that go in a table with `depth` levels below its own
 unfoldable pub emptied : ℕ → Tree → ℕ
 emptied zero t = 0
 emptied (suc depth) t = total (λ i u. gone (λ v. emptied depth v) (λ v. compactTree depth v) u) t

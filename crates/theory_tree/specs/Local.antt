@@ -31,7 +31,7 @@ pub meets-no : (depth b : ℕ) (m : Map) → min (m .upto) (b + pagesIn depth) �
 unfolding meets
 meets-no depth b m h = le-ltb (max (m .from) b) (min (m .upto) (b + pagesIn depth)) h
 
--- .. then on the entries below
+-- maps that agree on an entry agree on the entries below it
 pub agree-child : (depth q i : ℕ) (m n : Map) → i < 512 → Agree (suc depth) (first (suc depth) q) m n
     → Agree depth (first depth (child q i)) m n
 agree-child depth q i m n l a =

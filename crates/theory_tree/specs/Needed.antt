@@ -2,16 +2,15 @@
 use mathlib.Core.Path.{_≡_, refl, sym, ap, ap₂, subst, _∙_}
 use mathlib.Core.Bool.{Bool, false, cond}
 use mathlib.Core.List.{List, [], _∷_}
-use mathlib.Core.Logic.{_⊎_, inl, inr, _≢_}
+use mathlib.Core.Logic.{_≢_}
 use Prim.Native.Nat.{ℕ, zero, suc, _+_, _-_, _/_, _≤_, _<_}
 use native.Mathlib.Omega.{arith}
 use lib.Dec.{eqb}
 use borrow.Author.Tests.{eq-eqb, ne-eqb}
 use Rattle.laws.specs.Sum.{sum, sum-ext, sum-none, sum-add, sum-only}
-use Rattle.laws.specs.Test.{le-or}
-use Rattle.address_slot.specs.Slot.{entryIndex, chunkEnd}
+use Rattle.address_slot.specs.Slot.{entryIndex}
 use Rattle.region.specs.Region.{region}
-use Rattle.region.specs.Chunks.{chunks, met, met-step, chunks-none, chunks-step}
+use Rattle.region.specs.Chunks.{chunks}
 use Rattle.region.specs.declared.MemoryRegion.{MemoryRegion}
 use Rattle.theory_forest.specs.Tree.{Tree, leaf, node}
 use Rattle.theory_tree.specs.Page.{pagesIn, first, child, slotOfPage, slot-lt}
@@ -19,7 +18,7 @@ use Rattle.theory_tree.specs.Visit.{Rule, fillTree, opened, splits, tota
 use Rattle.theory_tree.specs.Slots.{fillSlot, fill-node}
 use Rattle.theory_tree.specs.Rules.{Map, meets}
 use Rattle.theory_tree.specs.Local.{Agree, Local, meets-no, agree-child, map-local}
-use Rattle.theory_tree.specs.Chunks.{inPages, Inside, index-slot, FirstCut, cut}
+use Rattle.theory_tree.specs.Chunks.{inPages, Inside, index-slot, FirstCut, by-chunks}
 use Rattle.theory_tree.specs.Sweep.{Shares, nothing, chunk, rest, shares, RulesSay}
 use Rattle.theory_tree.specs.Document.{documentRule, document-says}
 use Rattle.theory_tree.specs.Root.{mapMade}
@@ -46,7 +45,7 @@ module _ (rules : ℕ → MemoryRegion → ℕ → Tree → Rule) where
       + tallied depth (λ d p u. needed depth d p u) (chunks (3 - depth) (c .start .0) (c .end .0)) frame (opened depth t) in
       counted (rules (suc depth) c frame t) 0 below
 
-  -- .. for the region c of a table
+  -- the new tables for the region c of a table
   unfoldable pub neededTable : ℕ → MemoryRegion → ℕ → Tree → ℕ
   neededTable depth c frame t = tallied depth (λ d p u. needed depth d p u) (chunks (3 - depth) (c .start .0) (c .end .0)) frame t
 
@@ -140,41 +139,21 @@ module _ {rule : Map → ℕ → ℕ → Tree → Rule} (L : Local rule) (rules 
       sum-none 512 (λ j. made (rule (call s e p)) depth (child q j) (f j))
       (λ j l. made-off L (call s e p) depth (child q j) (f j) (meets-no depth (first depth (child q j)) (call s e p) (omega arith)))
 
-  tallied-is : (depth : ℕ) → depth ≤ 3 → Counts depth → (n q s e p : ℕ) (f : ℕ → Tree) → met (3 - depth) s e ≡ n
+  tallied-is : (depth : ℕ) → depth ≤ 3 → Counts depth → (q s e p : ℕ) (f : ℕ → Tree)
       → Inside (first (suc depth) q) (pagesIn (suc depth)) s e p
       → tallied depth (λ d x u. needed rules depth d x u) (chunks (3 - depth) s e) p (node f)
       ≡ madeTable (rule (call s e p)) depth q (node f)
   unfolding tallied slotTree
-  tallied-is depth low counts zero q s e p f n I = go (le-or e s)
-    where
-      go : (e ≤ s) ⊎ (s < e)
-          → tallied depth (λ d x u. needed rules depth d x u) (chunks (3 - depth) s e) p (node f)
-          ≡ madeTable (rule (call s e p)) depth q (node f)
-      go (inl h) =
-          ap (λ (cs : List MemoryRegion). tallied depth (λ d x u. needed rules depth d x u) cs p (node f)) (chunks-none (3 - depth) s e h)
-          ∙ sym (table-none depth q s e p f h)
-      go (inr h) = absurd (let k = met-step (3 - depth) s e h in omega arith)
-  tallied-is depth low counts (suc n) q s e p f k I = go (le-or e s) (λ z. tallied-is depth low counts n q z e (p + (z - s)) f)
+  tallied-is depth low counts q s e p f I =
+      by-chunks depth q e low (λ s p cs. tallied depth each cs p (node f) ≡ madeTable (rule (call s e p)) depth q (node f))
+      (λ s p h. sym (table-none depth q s e p f h))
+      (λ s z p cs c ih. ap (λ (x : ℕ). each (region s z) p (f x) + tallied depth each cs (p + (z - s)) (node f)) (index-slot depth s low)
+      ∙ ap (λ (x : ℕ). each (region s z) p (f (slotOfPage (s / 4096) depth)) + x) ih
+      ∙ sym (table depth q s e p z (slotOfPage (s / 4096) depth) low counts c f (slot-lt (s / 4096) depth)))
+      s p I
     where
       each : MemoryRegion → ℕ → Tree → ℕ
       each d x u = needed rules depth d x u
-
-      go : (e ≤ s) ⊎ (s < e)
-          → ((z : ℕ) → met (3 - depth) z e ≡ n → Inside (first (suc depth) q) (pagesIn (suc depth)) z e (p + (z - s))
-          → tallied depth each (chunks (3 - depth) z e) (p + (z - s)) (node f) ≡ madeTable (rule (call z e (p + (z - s)))) depth q (node f))
-          → tallied depth each (chunks (3 - depth) s e) p (node f) ≡ madeTable (rule (call s e p)) depth q (node f)
-      go (inl h) ih =
-          ap (λ (cs : List MemoryRegion). tallied depth each cs p (node f)) (chunks-none (3 - depth) s e h)
-          ∙ sym (table-none depth q s e p f h)
-      go (inr h) ih =
-          let z : ℕ = chunkEnd (3 - depth) s e in
-          let c = cut depth q s e p low h I in
-          let fewer : met (3 - depth) (chunkEnd (3 - depth) s e) e ≡ n = let m = met-step (3 - depth) s e h in omega arith in
-          ap (λ (cs : List MemoryRegion). tallied depth each cs p (node f)) (chunks-step (3 - depth) s e h)
-          ∙ ap (λ (x : ℕ). each (region s z) p (f x) + tallied depth each (chunks (3 - depth) z e) (p + (z - s)) (node f))
-          (index-slot depth s low)
-          ∙ ap (λ (x : ℕ). each (region s z) p (f (slotOfPage (s / 4096) depth)) + x) (ih z fewer (c .rest))
-          ∙ sym (table depth q s e p z (slotOfPage (s / 4096) depth) low counts c f (slot-lt (s / 4096) depth))
 
   module _ (says : RulesSay L rules flags blocks) where
     needed-is : (depth : ℕ) → Counts depth
@@ -183,17 +162,17 @@ module _ {rule : Map → ℕ → ℕ → Tree → Rule} (L : Local rule) (rules 
     needed-is (suc depth) q s e p (leaf w) low some I =
         ap₂ (λ (x : Rule) (k : ℕ). counted x 0 (splits (leaf w) + k)) (says (suc depth) q s e p (leaf w) low some I)
         (ap (tallied depth (λ d x u. needed rules depth d x u) (chunks (3 - depth) s e) p) (fill-node depth w)
-        ∙ tallied-is depth (omega arith) (needed-is depth) (met (3 - depth) s e) q s e p (fillSlot depth w) refl I
+        ∙ tallied-is depth (omega arith) (needed-is depth) q s e p (fillSlot depth w) I
         ∙ ap (madeTable (rule (call s e p)) depth q) (sym (fill-node depth w)) ∙ table-made depth q (rule (call s e p)) (fillTree depth w))
     needed-is (suc depth) q s e p (node f) low some I =
         ap₂ (λ (x : Rule) (k : ℕ). counted x 0 (splits (node f) + k)) (says (suc depth) q s e p (node f) low some I)
-        (tallied-is depth (omega arith) (needed-is depth) (met (3 - depth) s e) q s e p f refl I
+        (tallied-is depth (omega arith) (needed-is depth) q s e p f I
         ∙ table-made depth q (rule (call s e p)) (node f))
 
     pub table-needed : (depth q s e p : ℕ) (f : ℕ → Tree) → depth ≤ 3 → Inside (first (suc depth) q) (pagesIn (suc depth)) s e p
         → neededTable rules depth (region s e) p (node f) ≡ madeTable (rule (call s e p)) depth q (node f)
     unfolding neededTable
-    table-needed depth q s e p f low I = tallied-is depth low (needed-is depth) (met (3 - depth) s e) q s e p f refl I
+    table-needed depth q s e p f low I = tallied-is depth low (needed-is depth) q s e p f I
 
 -- WHAT THE DOCUMENT'S LOOP TAKES IS WHAT THE MAP TAKES
 pub document-needs : (flags : ℕ) (blocks : Bool) (depth r start end frame : ℕ) (f : ℕ → Tree) → depth ≤ 3

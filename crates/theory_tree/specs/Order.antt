@@ -116,7 +116,7 @@ module _ (depth r : ℕ) where
   run-reorders (List·Permᴰ·trans c d) h v t fine =
       run-reorders c h v t fine ∙ run-reorders d (pairwise-reorders c h) (each-reorders ValidMap c v) t fine
 
-  -- .. and tables only come, so that a list finds room exactly if its last tree does
+  -- VALID maps only add tables, so that a list of them finds room exactly if its last tree does
   run-grows : (ms : List Map) → Each ValidMap ms → (t : Tree) → nodes t ≤ nodes (run ms t)
   unfolding run
   run-grows [] v t = omega arith

@@ -52,6 +52,7 @@ pub entry-number : (depth a : ℕ) → depth ≤ 3 → a / sizeAt (3 - depth) �
 entry-number depth a h =
     ap (λ (x : ℕ). a / x) (span-size depth h ∙ mul-comm (pagesIn depth) 4096) ∙ sym (div-div-eq-div-mul a 4096 (pagesIn depth))
 
+-- the address at which the entry of an address starts, in pages
 pub entry-start : (depth a : ℕ) → depth ≤ 3 → a / sizeAt (3 - depth) * sizeAt (3 - depth) ≡ first depth (a / 4096 / pagesIn depth) * 4096
 unfolding first
 entry-start depth a h =
@@ -59,7 +60,7 @@ entry-start depth a h =
     ap (λ (x : ℕ). x * sizeAt (3 - depth)) (entry-number depth a h) ∙ ap (λ (x : ℕ). q * x) (span-size depth h)
     ∙ sym (mul-assoc q (pagesIn depth) 4096)
 
--- .. and its offset there
+-- the offset of an address in its entry, in pages
 pub entry-rest : (depth a : ℕ) → depth ≤ 3 → a % 4096 ≡ 0 → a % sizeAt (3 - depth) ≡ a / 4096 % pagesIn depth * 4096
 unfolding first
 entry-rest depth a h pages =

@@ -2,13 +2,13 @@
 -- span: 0 in the lower range, the last below 2^64 in the upper.
 use mathlib.Core.Path.{_≡_}
 use mathlib.Core.Bool.{true}
-use Prim.Native.Nat.{ℕ, zero, suc, _+_, _*_, _-_, _/_, _^_, _≤_, _<_}
+use Prim.Native.Nat.{ℕ, zero, suc, _+_, _-_, _/_, _^_, _≤_, _<_}
 use native.Mathlib.Nat.{div-eq-of-lt}
 use native.Mathlib.Omega.{arith}
 use Rattle.entry.specs.Word.{valid}
 use Rattle.theory_forest.specs.Tree.{Tree}
 use Rattle.theory_forest.specs.Nodes.{nodes}
-use Rattle.laws.specs.Size.{sizeAt}
+use Rattle.laws.specs.Size.{span}
 use Rattle.theory_tree.specs.Page.{pagesIn, span-size, span-suc, In}
 use Rattle.theory_tree.specs.Walk.{seen}
 use Rattle.theory_tree.specs.Visit.{visitTable, madeTable, freedTable}
@@ -29,11 +29,12 @@ upperRoot depth = 2 ^ 52 / pagesIn (suc depth) - 1
 abbrev pub Spans : ℕ → ℕ → ℕ → Type 0
 Spans depth r address = In (suc depth) r (address / 4096)
 
--- a root spans 512 entries: the lowest addresses ..
-pub lower-span : (depth address : ℕ) → depth ≤ 3 → address < 512 * sizeAt (3 - depth) → Spans depth lowerRoot address
+-- a lower root spans 512 entries, the lowest addresses
+pub lower-span : (depth address : ℕ) → depth ≤ 3 → address < span (3 - depth) → Spans depth lowerRoot address
+unfolding span
 lower-span depth address low h = let s = span-size depth low in let n = span-suc depth in div-eq-of-lt (omega arith)
 
--- .. or the highest
+-- an upper root spans 512 entries, the highest addresses
 in-upper : (depth page : ℕ) → depth ≤ 3 → 2 ^ 52 - pagesIn (suc depth) ≤ page → page < 2 ^ 52 → In (suc depth) (upperRoot depth) page
 unfolding upperRoot pagesIn
 in-upper zero page h l u = omega arith
@@ -42,8 +43,9 @@ in-upper (suc (suc zero)) page h l u = omega arith
 in-upper (suc (suc (suc zero))) page h l u = omega arith
 in-upper (suc (suc (suc (suc depth)))) page h l u = absurd (omega arith)
 
-pub upper-span : (depth address : ℕ) → depth ≤ 3 → 2 ^ 64 - 512 * sizeAt (3 - depth) ≤ address → address < 2 ^ 64
+pub upper-span : (depth address : ℕ) → depth ≤ 3 → 2 ^ 64 - span (3 - depth) ≤ address → address < 2 ^ 64
     → Spans depth (upperRoot depth) address
+unfolding span
 upper-span depth address low l u =
     let s = span-size depth low in
     let n = span-suc depth in

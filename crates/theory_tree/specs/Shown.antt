@@ -16,7 +16,7 @@ FineTree depth (leaf w) = Fine depth w
 FineTree zero (node f) = ⊥
 FineTree (suc depth) (node f) = (i : ℕ) → i < 512 → FineTree depth (f i)
 
--- .. of a table whose entries have `depth` levels below
+-- every word of a table, whose entries have `depth` levels below, is fine where it stands
 abbrev pub FineTable : ℕ → Tree → Type 0
 FineTable depth (leaf w) = ⊥
 FineTable depth (node f) = FineTree (suc depth) (node f)

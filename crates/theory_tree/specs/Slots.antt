@@ -29,7 +29,7 @@ pub slot-past : (h : ℕ → Tree → Tree) (f : ℕ → Tree) (i : ℕ) → 512
 unfolding slotAfter
 slot-past h f i l = rw (le-ltb i 512 l)
 
--- the same done to each slot
+-- where two functions do the same to each slot, they do the same to the table
 pub each-same : (h g : ℕ → Tree → Tree) (f : ℕ → Tree) → ((i : ℕ) → i < 512 → h i (f i) ≡ g i (f i))
     → eachSlot h (node f) ≡ eachSlot g (node f)
 unfolding eachSlot

@@ -1,16 +1,14 @@
 -- The document's loop over chunks is a visit, for any rule that looks at an entry's own part of the region alone.
 use mathlib.Core.Path.{_≡_, refl, sym, ap, ap₂, subst, _∙_}
 use mathlib.Core.Bool.{Bool, false, cond}
-use mathlib.Core.List.{List}
 use mathlib.Core.Logic.{_⊎_, inl, inr, _≢_}
 use Prim.Native.Nat.{ℕ, zero, suc, _+_, _-_, _/_, _≤_, _<_}
 use native.Mathlib.Omega.{arith}
 use lib.Dec.{eqb}
 use borrow.Author.Tests.{eq-eqb, ne-eqb}
 use Rattle.laws.specs.Test.{eq-or, le-or}
-use Rattle.address_slot.specs.Slot.{chunkEnd}
 use Rattle.region.specs.Region.{region}
-use Rattle.region.specs.Chunks.{chunks, met, met-step, chunks-none, chunks-step}
+use Rattle.region.specs.Chunks.{chunks}
 use Rattle.region.specs.declared.MemoryRegion.{MemoryRegion}
 use Rattle.theory_forest.specs.Tree.{Tree, leaf, node, node-ext, eachSlot}
 use Rattle.theory_tree.specs.Page.{pagesIn, first, child, slotOfPage, slot-lt, child-order}
@@ -18,7 +16,8 @@ use Rattle.theory_tree.specs.Visit.{Rule, fillTree, opened, obey, visit,
 use Rattle.theory_tree.specs.Slots.{slotAfter, each-node, each-none, slot-after, slot-past, fillSlot, fill-node}
 use Rattle.theory_tree.specs.Rules.{Map, meets}
 use Rattle.theory_tree.specs.Local.{Agree, Local, meets-no, visit-off, visit-agree}
-use Rattle.theory_tree.specs.Chunks.{atSlot, sweep, chunked, chunkedTable, inPages, Inside, index-slot, FirstCut, cut}
+use Rattle.theory_tree.specs.Chunks.{atSlot, sweep, chunked, chunkedTable, inPages, Inside, index-slot, FirstCut}
+use Rattle.theory_tree.specs.Chunks.{by-chunks}
 
 -- ---- a region of table q, cut into its first chunk, from s to z in slot i, and the rest
 
@@ -129,47 +128,23 @@ module _ {rule : Map → ℕ → ℕ → Tree → Rule} (L : Local rule) (rules 
   unfolding visitTable
   table-visit depth q s e p t = refl
 
-  sweep-is : (depth : ℕ) → depth ≤ 3 → Does depth → (n q s e p : ℕ) (f : ℕ → Tree) → met (3 - depth) s e ≡ n
-      → Inside (first (suc depth) q) (pagesIn (suc depth)) s e p
+  sweep-is : (depth : ℕ) → depth ≤ 3 → Does depth → (q s e p : ℕ) (f : ℕ → Tree) → Inside (first (suc depth) q) (pagesIn (suc depth)) s e p
       → sweep depth (λ d x u. chunked rules depth d x u) (chunks (3 - depth) s e) p (node f)
       ≡ visitTable (rule (call s e p)) depth q (node f)
   unfolding sweep atSlot
-  sweep-is depth low does zero q s e p f n I = go (le-or e s)
-    where
-      go : (e ≤ s) ⊎ (s < e)
-          → sweep depth (λ d x u. chunked rules depth d x u) (chunks (3 - depth) s e) p (node f)
-          ≡ visitTable (rule (call s e p)) depth q (node f)
-      go (inl h) =
-          ap (λ (cs : List MemoryRegion). sweep depth (λ d x u. chunked rules depth d x u) cs p (node f)) (chunks-none (3 - depth) s e h)
-          ∙ sym (table-none depth q s e p f h)
-      go (inr h) = absurd (let k = met-step (3 - depth) s e h in omega arith)
-  sweep-is depth low does (suc n) q s e p f k I = go (le-or e s) (λ z y. sweep-is depth low does n q z e (p + (z - s)) y)
+  sweep-is depth low does q s e p f I =
+      by-chunks depth q e low
+      (λ s p cs. (f : ℕ → Tree) → sweep depth each cs p (node f) ≡ visitTable (rule (call s e p)) depth q (node f))
+      (λ s p h f. sym (table-none depth q s e p f h))
+      (λ s z p cs c ih f.
+      ap (λ (x : ℕ). sweep depth each cs (p + (z - s)) (node (λ j. cond (eqb j x) (each (region s z) p (f j)) (f j))))
+      (index-slot depth s low)
+      ∙ ih (λ j. cond (eqb j (slotOfPage (s / 4096) depth)) (each (region s z) p (f j)) (f j))
+      ∙ table depth q s e p z (slotOfPage (s / 4096) depth) low does c f (slot-lt (s / 4096) depth))
+      s p I f
     where
       each : MemoryRegion → ℕ → Tree → Tree
       each d x u = chunked rules depth d x u
-
-      Goal : Type 0
-      Goal = sweep depth each (chunks (3 - depth) s e) p (node f) ≡ visitTable (rule (call s e p)) depth q (node f)
-
-      go : (e ≤ s) ⊎ (s < e)
-          → ((z : ℕ) (y : ℕ → Tree) → met (3 - depth) z e ≡ n → Inside (first (suc depth) q) (pagesIn (suc depth)) z e (p + (z - s))
-          → sweep depth each (chunks (3 - depth) z e) (p + (z - s)) (node y) ≡ visitTable (rule (call z e (p + (z - s)))) depth q (node y))
-          → Goal
-      go (inl h) ih =
-          ap (λ (cs : List MemoryRegion). sweep depth each cs p (node f)) (chunks-none (3 - depth) s e h)
-          ∙ sym (table-none depth q s e p f h)
-      go (inr h) ih =
-          let z : ℕ = chunkEnd (3 - depth) s e in
-          let i : ℕ = slotOfPage (s / 4096) depth in
-          let c = cut depth q s e p low h I in
-          let fewer : met (3 - depth) (chunkEnd (3 - depth) s e) e ≡ n = let m = met-step (3 - depth) s e h in omega arith in
-          ap (λ (cs : List MemoryRegion). sweep depth each cs p (node f)) (chunks-step (3 - depth) s e h)
-          ∙ ap
-          (λ (x : ℕ). sweep depth each (chunks (3 - depth) z e) (p + (z - s))
-          (node (λ j. cond (eqb j x) (each (region s z) p (f j)) (f j))))
-          (index-slot depth s low)
-          ∙ ih z (λ j. cond (eqb j i) (each (region s z) p (f j)) (f j)) fewer (c .rest)
-          ∙ table depth q s e p z i low does c f (slot-lt (s / 4096) depth)
 
   -- ---- what the loop does
 
@@ -180,14 +155,14 @@ module _ {rule : Map → ℕ → ℕ → Tree → Rule} (L : Local rule) (rules 
     chunked-is (suc depth) q s e p (leaf w) low some I =
         ap₂ (λ (x : Rule) (u : Tree). obey x (leaf w) u) (says (suc depth) q s e p (leaf w) low some I)
         (ap (λ (t : Tree). sweep depth (λ d x u. chunked rules depth d x u) (chunks (3 - depth) s e) p t) (fill-node depth w)
-        ∙ sweep-is depth (omega arith) (chunked-is depth) (met (3 - depth) s e) q s e p (fillSlot depth w) refl I
+        ∙ sweep-is depth (omega arith) (chunked-is depth) q s e p (fillSlot depth w) I
         ∙ ap (visitTable (rule (call s e p)) depth q) (sym (fill-node depth w)) ∙ table-visit depth q s e p (fillTree depth w))
     chunked-is (suc depth) q s e p (node f) low some I =
         ap₂ (λ (x : Rule) (u : Tree). obey x (node f) u) (says (suc depth) q s e p (node f) low some I)
-        (sweep-is depth (omega arith) (chunked-is depth) (met (3 - depth) s e) q s e p f refl I ∙ table-visit depth q s e p (node f))
+        (sweep-is depth (omega arith) (chunked-is depth) q s e p f I ∙ table-visit depth q s e p (node f))
 
     -- a call on a table, a region with no page too
     pub table-is : (depth q s e p : ℕ) (f : ℕ → Tree) → depth ≤ 3 → Inside (first (suc depth) q) (pagesIn (suc depth)) s e p
         → chunkedTable rules depth (region s e) p (node f) ≡ visitTable (rule (call s e p)) depth q (node f)
     unfolding chunkedTable
-    table-is depth q s e p f low I = sweep-is depth low (chunked-is depth) (met (3 - depth) s e) q s e p f refl I
+    table-is depth q s e p f low I = sweep-is depth low (chunked-is depth) q s e p f I

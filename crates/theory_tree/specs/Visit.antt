@@ -53,7 +53,7 @@ total h (node f) = sum 512 (λ i. h i (f i))
 
 -- ---- a rule obeyed
 
--- .. in an entry that shows t, and would show u after the visit of the table below
+-- a rule obeyed in an entry that shows t, and would show u after the visit of the table below
 unfoldable pub obey : Rule → Tree → Tree → Tree
 obey keep t u = t
 obey (write x) t u = leaf x

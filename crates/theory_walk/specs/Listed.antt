@@ -9,11 +9,12 @@ use native.Mathlib.Omega.{arith}
 use lib.Dec.{leb}
 use lib.ListN.{length}
 use borrow.Author.Tests.{le-leb, lt-ltb}
+use Rattle.laws.specs.Size.{span}
 use Rattle.laws.specs.Test.{byBool}
 use Rattle.region.specs.Region.{rounded}
 use Rattle.region.specs.declared.MemoryRegion.{MemoryRegion}
 use Rattle.pool.specs.State.{St, tables}
-use Rattle.pool.specs.Refuse.{shaped, Shaped, shaped-says}
+use Rattle.pool.specs.Refuse.{shaped, Shaped, shaped-says, firstRefused}
 use Rattle.pool.specs.Sound.{soundb}
 use Rattle.pool.specs.declared.Handle.{Handle}
 use Rattle.pool.specs.declared.VaRange.{VaRange}
@@ -21,14 +22,13 @@ use Rattle.pool.specs.declared.VaRange.the-variants.{Lower, Upper}
 use Rattle.pool.specs.declared.Refusal.{Refusal}
 use Rattle.pool.specs.declared.Outcome.{Outcome}
 use Rattle.pool.specs.declared.Outcome.the-variants.{Accepted, Refused}
-use Rattle.region_verify.specs.Verify.{span, verify, RegionInSpan, verified-forwards, verified-span}
+use Rattle.region_verify.specs.Verify.{verify, RegionInSpan, verified-forwards, verified-span}
 use Rattle.theory_sound.specs.Decide.{decide-sound}
-use Rattle.arm.specs.Arm.{lowBit, at, away, says, reach}
-use Rattle.arm.specs.Walk.{size-is}
+use Rattle.arm.specs.Arm.{at, away, says, reach}
 use Rattle.look_up.specs.Call.{answer, spanned, lookUpCall}
 use Rattle.list_lines.specs.Lines.{Line, linesOf}
 use Rattle.list_lines.specs.Cover.{Covers, covers-map, Meets, list-covers, nthLine, inside, ascending, holds, InLine, covered}
-use Rattle.list.specs.Call.{verifyEnds, listing, put, listLines, listSound, listVerified, listCall, ends-verified}
+use Rattle.list.specs.Call.{verifyEnds, listing, put, listLines, listSound, listCall, ends-verified}
 use Rattle.list.specs.declared.Listed.{Listed}
 use Rattle.list.specs.declared.Listed.the-variants.{Lines, Refused as refused}
 use Rattle.theory_walk.specs.Walked.{never-away}
@@ -49,7 +49,7 @@ never {r} {count = count} e =
 
 module _ {h : Handle} {s : St} {start end : ℕ} {list : List ℕ} {count : ℕ} {after : List ℕ} where
   pub list-accepted : listCall h s start end list ≡ listing (Lines count) after → Accepts h s start end list count after
-  unfolding listCall listVerified listSound listLines
+  unfolding listCall firstRefused listSound listLines
   list-accepted e =
       byBool (shaped h s) (λ shape. verified shape (verifyEnds h start end) refl (rw shape at e)) (λ shape. absurd (never (rw shape at e)))
     where
@@ -66,7 +66,8 @@ module _ {h : Handle} {s : St} {start end : ℕ} {list : List ℕ} {count : ℕ}
           (λ room. absurd (never (rw room at q)))
 
       verified : shaped h s ≡ true → (x : Outcome) → verifyEnds h start end ≡ x
-          → listVerified h s (rounded start end) list x ≡ listing (Lines count) after → Accepts h s start end list count after
+          → firstRefused (λ r. listing (refused r) list) x (listSound h s (rounded start end) list) ≡ listing (Lines count) after
+          → Accepts h s start end list count after
       verified shape (Refused r) region q = absurd (never q)
       verified shape Accepted region q =
           byBool (soundb h s) (λ sound. written shape region sound (rw sound at q)) (λ sound. absurd (never (rw sound at q)))
@@ -89,15 +90,15 @@ module _ (h : Handle) (s : St) where
     pub ascends : (i j : ℕ) → i < j → j < length ls → nthLine ls i .end ≤ nthLine ls j .start
     -- every address of the region is in a line
     pub covers : (a : ℕ) → r .start .0 ≤ a → a < r .end .0 → InLine Walks ls a
-    -- and every line says what the walk meets
+    -- every line says what the walk meets
     pub walks : (i : ℕ) → i < length ls → Walks (nthLine ls i)
 
 -- the addresses of a region that was verified lie in the span
 spans : (range : VaRange) (level : ℕ) (r : MemoryRegion) → RegionInSpan range level r → (a : ℕ) → r .start .0 ≤ a → a < r .end .0
     → spanned range level a ≡ true
-unfolding spanned span
-spans Lower level r e a l u = lt-ltb a (512 * 2 ^ lowBit level) (let p = size-is level in omega arith)
-spans Upper level r e a l u = le-leb (2 ^ 64 - 512 * 2 ^ lowBit level) a (let p = size-is level in omega arith)
+unfolding spanned
+spans Lower level r e a l u = lt-ltb a (span level) (omega arith)
+spans Upper level r e a l u = le-leb (2 ^ 64 - span level) a (omega arith)
 
 module _ (h : Handle) (s : St) (start end : ℕ) where
   abbrev r : MemoryRegion

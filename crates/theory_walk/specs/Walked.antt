@@ -8,21 +8,16 @@ use borrow.Author.Tests.{le-leb, lt-ltb}
 use Rattle.entry.specs.Word.{addressOf}
 use Rattle.entry.specs.Sub.{Found, sub-found}
 use Rattle.pool.specs.State.{St, tables, wordAt}
-use Rattle.pool.specs.Number.{rootNumber}
 use Rattle.pool.specs.Refuse.{Shaped}
 use Rattle.pool.specs.declared.Handle.{Handle}
 use Rattle.theory_forest.specs.Under.{refers-child, refers-level}
 use Rattle.theory_forest.specs.Walk.{walkTree}
 use Rattle.theory_sound.specs.Clauses.{InUse, levelAt, SoundPool}
 use Rattle.theory_sound.specs.Codec.{shaped-placed, childOf, slotWord, word-in, rootTree}
-use Rattle.theory_sound.specs.Hanging.{root-left, Leads, table-leads, leads-refers}
+use Rattle.theory_sound.specs.Hanging.{root-used, root-left, Leads, table-leads, leads-refers}
 use Rattle.arm.specs.Arm.{index, tableAddress, away, says, reach, walk}
 use Rattle.arm.specs.Walk.{slot-below, table-address}
 use Rattle.theory_walk.specs.Any.{slotsTaken, reachedAt, hasTable, tableOf, word, reach-reading}
-
-root-used : {h : Handle} {s : St} → Shaped h s → SoundPool h s → InUse s 0
-unfolding rootNumber
-root-used shape P = omega (arith, P .root)
 
 -- where the code finds a table, there the Arm walk goes on
 found-in : (base n : ℕ) {level x w c : ℕ} → x ≡ w → Found base n level w c → (hasTable base n x ≡ true) × (tableOf base x ≡ c)
@@ -74,7 +69,7 @@ module _ {h : Handle} {s : St} (shape : Shaped h s) (P : SoundPool h s) (va : �
   pub reach-tree : reach base (tables s) (s .words) va (h .level) ≡ reachedAt (walkTree (slotsTaken va) (suc (3 - h .level)) (rootTree h s))
   unfolding reach
   reach-tree =
-      reach-reading base (tables s) s va (childOf base) On on (3 - h .level) 0 (root-left (shaped-placed shape) P, root-used shape P)
+      reach-reading base (tables s) s va (childOf base) On on (3 - h .level) 0 (root-left (shaped-placed shape) P, root-used P)
 
   pub never-away : reach base (tables s) (s .words) va (h .level) ≢ away
   unfolding reachedAt

@@ -1,4 +1,4 @@
--- `lines` ends: it counts the lines that it reads. The words and the ledger keep their lengths. Assumes nothing.
+-- `lines` ends: it reads at most MOST_LINES lines, 2^32 - 1. The words and the ledger keep their lengths.
 use Prim.Native.Nat.{_-_}
 use mathlib.Core.Path.{_≡_}
 use lib.ListN.{length}
@@ -12,7 +12,8 @@ use Rattle.bench.proofs.turn.Reads as turn-reads
 use Rattle.text_script.proofs.read_line.Reads as read-line-reads
 
 abbrev Inv-loop : tie.InvT-loop
-Inv-loop usage words₀ ledger₀ text₀ bench₀ number₀ words ledger text bench number = (length words ≡ length words₀) × (length ledger ≡ length ledger₀)
+Inv-loop usage words₀ ledger₀ text₀ bench₀ number₀ words ledger text bench number =
+    (length words ≡ length words₀) × (length ledger ≡ length ledger₀)
 
 abbrev μ-loop : tie.MeasureT-loop
 μ-loop usage words₀ ledger₀ text₀ bench₀ number₀ words ledger text bench number = 4294967295 - number

@@ -1,4 +1,4 @@
--- `count_words` ends: it stops at the end of the words, and counts no more than it has passed. Assumes nothing.
+-- `count_words` ends: it stops at the end of the words, and counts no more than it has passed.
 use Prim.Native.Nat.{_-_, _≤_}
 use lib.ListN.{length}
 use native.Mathlib.Omega.{arith}

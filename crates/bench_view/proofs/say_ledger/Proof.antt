@@ -1,4 +1,4 @@
--- `say_ledger` ends: it stops at the end of the ledger. Assumes nothing.
+-- `say_ledger` ends: it stops at the end of the ledger.
 use Prim.Native.Nat.{_-_, _≤_}
 use lib.ListN.{length}
 use native.Mathlib.Omega.{arith}

@@ -1,4 +1,4 @@
--- `say_words` ends: it stops past the last word asked for. Assumes nothing.
+-- `say_words` ends: it stops past the last word asked for.
 use Prim.Native.Nat.{_-_}
 use native.Mathlib.Omega.{arith}
 use Rattle.bench_view.proofs.say_words.Statement.{statement}

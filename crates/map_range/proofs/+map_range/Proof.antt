@@ -13,9 +13,9 @@ use Rattle.map_rules.specs.declared.Map.{Map}
 use Rattle.map_rules.specs.Rules.{chunkMap}
 use Rattle.map_rules.specs.Fit.{Fit, chunk-paged, chunk-fit, rest-paged}
 use Rattle.map_rules.specs.Laws.{drop-high, down-high}
-use Rattle.map_put.specs.Put.{eachChunk}
+use Rattle.map_put.specs.Put.{eachMapChunk}
 use Rattle.map_put.specs.Laws.{below-kept, below-nothing}
-use Rattle.map_put.specs.Range.{mapStep, map-open, each-done, each-step, chunk-here, chunk-none, chunk-into}
+use Rattle.map_put.specs.Range.{mapStep, map-open, map-each-done, map-each-step, chunk-here, chunk-none, chunk-into}
 use Rattle.map_split.specs.Split.{below-inside}
 use Rattle.map_range.proofs.Tags.{no-down}
 use Prim.Native.Nat.{ℕ, _<_}
@@ -68,8 +68,8 @@ abbrev Inv-loop : lts.InvT-loop
 Inv-loop words₀ ledger₀ handle k level map end at₀ frame₀ changed₀ words ledger at frame changed =
     (at ≤ map .region .end .0) × (at % 4096 ≡ 0) × (frame % 4096 ≡ 0) × (frame + (map .region .end .0 - at) ≤ 2 ^ 48)
     × (length words ≡ length words₀) × (length ledger ≡ length ledger₀)
-    × (eachChunk level (mapStep handle k level) (chunkMap map (region at (map .region .end .0)) frame) (st words ledger)
-    ≡ eachChunk level (mapStep handle k level) map (st words₀ ledger₀))
+    × (eachMapChunk level (mapStep handle k level) (chunkMap map (region at (map .region .end .0)) frame) (st words ledger)
+    ≡ eachMapChunk level (mapStep handle k level) map (st words₀ ledger₀))
     × (changed ≡ false → ledger ≡ ledger₀)
 
 abbrev μ-loop : lts.MeasureT-loop
@@ -132,8 +132,8 @@ record Facts (t : ℕ) (c : Place t) : Type 0 where
   fit : Fit (chunkOf t c)
   some : chunkOf t c .region .start .0 < chunkOf t c .region .end .0
   next : let a = start-of-chunk c .args in let f = mapStep (a .handle) (a .k) (a .level) in
-      eachChunk (a .level) f (leftOf t c) (f (chunkOf t c) (st (loop-of-chunk c .loop .words) (loop-of-chunk c .loop .ledger)))
-      ≡ eachChunk (a .level) f (a .map) (st (a .words .now) (a .ledger .now))
+      eachMapChunk (a .level) f (leftOf t c) (f (chunkOf t c) (st (loop-of-chunk c .loop .words) (loop-of-chunk c .loop .ledger)))
+      ≡ eachMapChunk (a .level) f (a .map) (st (a .words .now) (a .ledger .now))
 
 facts : (t : ℕ) (c : Place t) → Facts t c
 unfolding entryIndex
@@ -166,21 +166,21 @@ facts t c =
       fit = subst⁻¹ Fit chunk (subst⁻¹ (λ (x : ℕ). Fit (chunkMap (a .map) (region (at .loop .at) x) (at .loop .frame))) stop part);
       some = subst⁻¹ (λ (m : Map). m .region .start .0 < m .region .end .0) chunk above;
       next =
-          ap (λ (m : Map). eachChunk (a .level) f (leftOf t c) (f m s)) chunk
+          ap (λ (m : Map). eachMapChunk (a .level) f (leftOf t c) (f m s)) chunk
           ∙ ap (λ (x : ℕ). let m = chunkMap (a .map) (region (at .loop .at) x) (at .loop .frame) in
           let rest = chunkMap (a .map) (region x (a .map .region .end .0)) (at .loop .frame + (x - at .loop .at)) in
-          eachChunk (a .level) f rest (f m s)) stop
-          ∙ sym (each-step (a .level) f (a .map) (at .loop .at) (a .map .region .end .0) (at .loop .frame) s low)
+          eachMapChunk (a .level) f rest (f m s)) stop
+          ∙ sym (map-each-step (a .level) f (a .map) (at .loop .at) (a .map .region .end .0) (at .loop .frame) s low)
           ∙ inv .6;
     }
 
 -- what is left to do after the chunk, where the step is known
 onwards : (t : ℕ) (c : Place t) {x : St} → let a = start-of-chunk c .args in let f = mapStep (a .handle) (a .k) (a .level) in
     x ≡ f (chunkOf t c) (st (loop-of-chunk c .loop .words) (loop-of-chunk c .loop .ledger))
-    → eachChunk (a .level) f (leftOf t c) x ≡ eachChunk (a .level) f (a .map) (st (a .words .now) (a .ledger .now))
+    → eachMapChunk (a .level) f (leftOf t c) x ≡ eachMapChunk (a .level) f (a .map) (st (a .words .now) (a .ledger .now))
 onwards t c e =
     let a = start-of-chunk c .args in
-    ap (eachChunk (a .level) (mapStep (a .handle) (a .k) (a .level)) (leftOf t c)) e ∙ facts t c .next
+    ap (eachMapChunk (a .level) (mapStep (a .handle) (a .k) (a .level)) (leftOf t c)) e ∙ facts t c .next
 
 -- where the rule leads down there is a level below
 high : (t : ℕ) (c : lts.After-enum-told (calls t) (started t) reads.Post Inv-loop μ-loop)
@@ -364,7 +364,7 @@ returns t c =
     let a = start .args in
     let f = mapStep (a .handle) (a .k) (a .level) in
     let s = st (at .loop .words) (at .loop .ledger) in (
-      sym (each-done (a .level) f (a .map) (at .loop .at) (a .map .region .end .0) (at .loop .frame) s (omega arith))
+      sym (map-each-done (a .level) f (a .map) (at .loop .at) (a .map .region .end .0) (at .loop .frame) s (omega arith))
           ∙ at .loop .inv .6
           ∙ map-open (a .handle) (a .k) (a .level) (a .map) (st (a .words .now) (a .ledger .now)) (start .pre .1 .2),
       at .loop .inv .7,

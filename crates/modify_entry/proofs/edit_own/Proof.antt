@@ -7,7 +7,7 @@ use Rattle.address_slot.specs.Slot.{entryIndex}
 use Rattle.region.specs.Region.{region}
 use Rattle.region.specs.declared.MemoryRegion.{MemoryRegion}
 use Rattle.region.specs.Chunks.{chunk-fits}
-use Rattle.modify_entry.specs.Each.{eachChunk, each-done, each-step}
+use Rattle.region.specs.Each.{eachChunk, each-done, each-step}
 use Rattle.modify_entry.specs.Own.{Noted, noted, ownChunk, own-same, own-changed, own-all}
 use Rattle.modify_entry.proofs.edit_own.Statement.{statement}
 use Rattle.modify_entry.proofs.edit_own.Tie as tie

@@ -6,11 +6,11 @@ use lib.ListN.{length}
 use Rattle.address_slot.specs.Slot.{entryIndex}
 use Rattle.region.specs.Region.{region}
 use Rattle.region.specs.Chunks.{chunk-fits}
+use Rattle.region.specs.Each.{eachChunk, each-done, each-step}
 use Rattle.pool.specs.State.{st, wordAt}
 use Rattle.pool.specs.Refuse.{Shaped, shaped-keep}
 use Rattle.map_split.specs.Split.{below-inside}
 use Rattle.modify_entry.specs.declared.Edit.{Edit}
-use Rattle.modify_entry.specs.Each.{eachChunk, each-done, each-step}
 use Rattle.modify_range.specs.Range.{Work, work, own, ownWork, modifyRange, downStep, own-done, modify-pages, modify-open, step-own}
 use Rattle.modify_range.specs.Range.{step-none, step-into}
 use Prim.Native.Nat.{ℕ, _<_}

@@ -4,7 +4,7 @@ use Prim.Native.Nat.{_+_, _*_, _-_, _^_, _≤_}
 use native.Mathlib.Omega.{arith}
 use Rattle.region.specs.Region.{region}
 use Rattle.region.specs.Chunks.{chunk-fits}
-use Rattle.modify_entry.specs.Each.{eachChunk, each-done, each-step}
+use Rattle.region.specs.Each.{eachChunk, each-done, each-step}
 use Rattle.modify_survey.specs.Find.{adding, adding-is, splitsIn, splits-page, splits-whole, splits-part}
 use Rattle.modify_survey.specs.Room.{splits-most}
 use Prim.Native.Nat.{ℕ, _<_}

@@ -5,10 +5,11 @@ use native.Mathlib.Omega.{arith}
 use Rattle.address_slot.specs.Slot.{entryIndex}
 use Rattle.region.specs.Region.{region}
 use Rattle.region.specs.Chunks.{chunk-fits}
+use Rattle.region.specs.Each.{eachChunk, each-done, each-step}
 use Rattle.entry.specs.Sub.{sub-found}
 use Rattle.entry.proofs.Tags.{is-outside}
 use Rattle.pool.specs.State.{st, wordAt}
-use Rattle.modify_entry.specs.Each.{eachChunk, each-done, each-step, chunkEdit}
+use Rattle.modify_entry.specs.Word.{chunkEdit}
 use Rattle.modify_entry.specs.declared.Edit.{Edit}
 use Rattle.modify_survey.specs.declared.Survey.{Survey}
 use Rattle.modify_survey.specs.Find.{surveyEntry, surveyRange, surveyStep, survey-open, step-table, step-entry, step-outside}

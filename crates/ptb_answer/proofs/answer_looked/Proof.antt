@@ -1,5 +1,5 @@
 -- `answer_looked` tells what a walk answered outside.
-use Rattle.ptb_answer.specs.Answer.{toldLooked}
+use Rattle.ptb_answer.specs.Answer.{accepted, toldRefusal, toldLooked}
 use Rattle.ptb_answer.proofs.answer_looked.Statement.{statement}
 use Rattle.ptb_answer.proofs.answer_looked.Tie as tie
 use Rattle.ptb_answer.proofs.answer_looked.Reads as reads
@@ -32,19 +32,19 @@ answer-refusal-requires : tie.Need-answer-refusal-requires
 answer-refusal-requires c κs = tt
 
 returns : tie.Need-returns
-unfolding toldLooked
+unfolding toldLooked accepted
 returns c = rw (c .before .before .before .looked .given .1) (c .answer-four-values .ensures)
 
 returns-2 : tie.Need-returns-2
-unfolding toldLooked
+unfolding toldLooked accepted
 returns-2 c = rw (c .before .before .before .looked2 .given .1) (c .answer-four-values2 .ensures)
 
 returns-3 : tie.Need-returns-3
-unfolding toldLooked
+unfolding toldLooked accepted
 returns-3 c = rw (c .before .before .before .looked3 .given .1) (c .answer-four-values3 .ensures)
 
 returns-4 : tie.Need-returns-4
-unfolding toldLooked
+unfolding toldLooked toldRefusal
 returns-4 c = rw (c .before .before .before .looked4 .given .1) (c .answer-refusal .ensures)
 
 pub answer-looked-spec : {M : Type 1} → statement M

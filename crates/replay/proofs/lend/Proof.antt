@@ -1,4 +1,4 @@
--- `lend`: the parts that it lends lie within the words, the ledger and the list. Assumes nothing.
+-- `lend`: the parts that it lends lie within the words, the ledger and the list.
 use native.Mathlib.Omega.{arith}
 use lib.ListN.{length-take}
 use Rattle.replay.proofs.lend.Statement.{statement}

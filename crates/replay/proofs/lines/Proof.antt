@@ -1,4 +1,4 @@
--- `lines` ends: it counts the lines that it reads. Assumes nothing.
+-- `lines` ends: it reads at most MOST_LINES lines, 2^32 - 1.
 use Prim.Native.Nat.{_-_}
 use native.Mathlib.Omega.{arith}
 use Rattle.replay.proofs.lines.Statement.{statement}

@@ -1,4 +1,4 @@
--- `ledger` ends: it stops at the length. Assumes nothing.
+-- `ledger` ends: it stops at the length.
 use Prim.Native.Nat.{_-_}
 use native.Mathlib.Omega.{arith}
 use Rattle.replay_sum.proofs.ledger.Statement.{statement}

@@ -1,4 +1,4 @@
--- `page` ends: it stops at the length. Assumes nothing.
+-- `page` ends: it stops at the length.
 use Prim.Native.Nat.{_-_}
 use native.Mathlib.Omega.{arith}
 use Rattle.replay_sum.proofs.page.Statement.{statement}

@@ -1,4 +1,4 @@
--- `say_form` ends: it stops at the end of the line. Assumes nothing.
+-- `say_form` ends: it stops at the end of the line.
 use Prim.Native.Nat.{_-_}
 use native.Mathlib.Omega.{arith}
 use Rattle.text_forms.proofs.say_form.Statement.{statement}

@@ -1,4 +1,4 @@
--- `count_words` ends: it counts no more words than a line may have. Assumes nothing.
+-- `count_words` ends: it counts no more words than a command and MOST_VALUES values, 7.
 use Prim.Native.Nat.{_-_, _≤_}
 use native.Mathlib.Omega.{arith}
 use Rattle.text_words.proofs.count_words.Statement.{statement}

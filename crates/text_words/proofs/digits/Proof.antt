@@ -1,4 +1,4 @@
--- `digits` ends: it stops at the end of the word. Assumes nothing.
+-- `digits` ends: it stops at the end of the word.
 use Prim.Native.Nat.{_-_}
 use native.Mathlib.Omega.{arith}
 use Rattle.text_words.proofs.digits.Statement.{statement}

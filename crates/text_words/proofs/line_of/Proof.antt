@@ -1,4 +1,4 @@
--- `line_of` ends: it stops at the end of the text. Assumes nothing.
+-- `line_of` ends: it stops at the end of the text.
 use Prim.Native.Nat.{_-_, _≤_}
 use lib.ListN.{length}
 use native.Mathlib.Omega.{arith}

@@ -1,4 +1,4 @@
--- `place_of` ends: it tries no more names than there may be. Assumes nothing.
+-- `place_of` ends: it tries at most NOWHERE names, 64.
 use Prim.Native.Nat.{_-_}
 use native.Mathlib.Omega.{arith}
 use Rattle.text_words.proofs.place_of.Statement.{statement}

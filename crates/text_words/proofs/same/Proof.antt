@@ -1,4 +1,4 @@
--- `same` ends: it stops at the end of the first word. Assumes nothing.
+-- `same` ends: it stops at the end of the first word.
 use Prim.Native.Nat.{_-_}
 use native.Mathlib.Omega.{arith}
 use Rattle.text_words.proofs.same.Statement.{statement}

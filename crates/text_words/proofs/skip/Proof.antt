@@ -1,4 +1,4 @@
--- `skip` ends: it stops at the end of the text. Assumes nothing.
+-- `skip` ends: it stops at the end of the text.
 use Prim.Native.Nat.{_-_}
 use native.Mathlib.Omega.{arith}
 use Rattle.text_words.proofs.skip.Statement.{statement}

@@ -1,4 +1,4 @@
--- `lend`: the parts that it lends lie within the words and the ledger. Assumes nothing.
+-- `lend`: the parts that it lends lie within the words and the ledger.
 use native.Mathlib.Omega.{arith}
 use lib.ListN.{length-take}
 use Rattle.bench.proofs.command.lend.Statement.{statement}

@@ -1,4 +1,4 @@
--- `say_named` ends: it goes through the bits that have a name. Assumes nothing.
+-- `say_named` ends: it goes through the NAMED_BITS bits that have a name, 26.
 use Prim.Native.Nat.{_-_}
 use native.Mathlib.Omega.{arith}
 use Rattle.bench_report.proofs.entry.say_named.Statement.{statement}

@@ -1,4 +1,4 @@
--- `after_run` ends: it stops past the last line. Assumes nothing.
+-- `after_run` ends: it stops past the last line.
 use Prim.Native.Nat.{_-_}
 use native.Mathlib.Omega.{arith}
 use Rattle.bench_report.proofs.listing.after_run.Statement.{statement}

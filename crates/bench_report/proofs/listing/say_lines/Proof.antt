@@ -1,4 +1,4 @@
--- `say_lines` ends: each turn goes past a line. Assumes nothing.
+-- `say_lines` ends: each turn goes past a line.
 use Prim.Native.Nat.{_-_}
 use native.Mathlib.Omega.{arith}
 use Rattle.bench_report.proofs.listing.say_lines.Statement.{statement}

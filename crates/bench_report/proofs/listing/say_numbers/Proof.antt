@@ -1,4 +1,4 @@
--- `say_numbers` ends: it stops at the end of the list. Assumes nothing.
+-- `say_numbers` ends: it stops at the end of the list.
 use Prim.Native.Nat.{_-_, _≤_}
 use lib.ListN.{length}
 use native.Mathlib.Omega.{arith}

@@ -1,4 +1,4 @@
--- `is_zero` ends: it stops at the end of the row. Assumes nothing.
+-- `is_zero` ends: it stops at the end of the row.
 use Prim.Native.Nat.{_-_}
 use native.Mathlib.Omega.{arith}
 use Rattle.bench_report.proofs.page.is_zero.Statement.{statement}

@@ -1,4 +1,4 @@
--- `say_page` ends: it stops past 4096 bytes. Assumes nothing.
+-- `say_page` ends: it stops past PAGE_BYTES bytes, 4096.
 use Prim.Native.Nat.{_-_}
 use native.Mathlib.Omega.{arith}
 use Rattle.bench_report.proofs.page.say_page.Statement.{statement}

@@ -1,4 +1,4 @@
--- `say_row` ends: it stops at the end of the row. Assumes nothing.
+-- `say_row` ends: it stops at the end of the row.
 use Prim.Native.Nat.{_-_}
 use native.Mathlib.Omega.{arith}
 use Rattle.bench_report.proofs.page.say_row.Statement.{statement}

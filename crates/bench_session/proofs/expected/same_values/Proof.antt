@@ -1,4 +1,4 @@
--- `same_values` ends: it stops past the last value. Assumes nothing.
+-- `same_values` ends: it stops past the last value.
 use Prim.Native.Nat.{_-_, _≤_}
 use native.Mathlib.Omega.{arith}
 use Rattle.bench_session.proofs.expected.same_values.Statement.{statement}

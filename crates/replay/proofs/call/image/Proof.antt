@@ -1,4 +1,4 @@
--- `image`: the part that it lends lies within the page. Assumes nothing.
+-- `image`: the part that it lends lies within the page.
 use native.Mathlib.Omega.{arith}
 use lib.ListN.{length-take}
 use borrow.Author.Needs.{needs}

@@ -1,4 +1,4 @@
--- `numbers_of` ends: it stops at the end of the line. Assumes nothing.
+-- `numbers_of` ends: it stops at the end of the line.
 use Prim.Native.Nat.{_-_}
 use native.Mathlib.Omega.{arith}
 use Rattle.replay_lines.proofs.numbers.numbers_of.Statement.{statement}

@@ -1,4 +1,4 @@
--- `close` ends: it stops at the last tally. Assumes nothing.
+-- `close` ends: it goes through the TALLIES tallies, 12.
 use Prim.Native.Nat.{_-_, _≤_}
 use native.Mathlib.Omega.{arith}
 use borrow.Author.Needs.{needs}

@@ -1,4 +1,4 @@
--- `fill` ends: it stops at the answer's last number. Assumes nothing.
+-- `fill` ends: it goes through the ANSWER_VALUES values of an answer, 4.
 use Prim.Native.Nat.{_-_, _≤_}
 use native.Mathlib.Omega.{arith}
 use Rattle.replay_lines.proofs.tally.fill.Statement.{statement}

@@ -1,4 +1,4 @@
--- `same` ends: it stops where the answers do. Assumes nothing.
+-- `same` ends: it goes from the place ANSWER, 7, up to PLACES, 13, where the answers end.
 use Prim.Native.Nat.{_-_, _≤_}
 use native.Mathlib.Omega.{arith}
 use Rattle.replay_lines.proofs.tally.same.Statement.{statement}

@@ -1,4 +1,4 @@
--- `say_answer` ends: it stops where the answer does. Assumes nothing.
+-- `say_answer` ends: it goes from the place ANSWER, 7, up to PLACES, 13, where the answer ends.
 use Prim.Native.Nat.{_-_, _≤_}
 use native.Mathlib.Omega.{arith}
 use borrow.Author.Needs.{needs}

@@ -1,4 +1,4 @@
--- `read_line` ends: it takes no more bytes than the longest line has. Assumes nothing.
+-- `read_line` ends: it takes at most LONGEST bytes, 2^32.
 use Prim.Native.Nat.{_-_, _≤_}
 use mathlib.Core.Path.{_≡_}
 use lib.ListN.{length}

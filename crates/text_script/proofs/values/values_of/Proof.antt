@@ -1,4 +1,4 @@
--- `values_of` ends: it reads no more words than a line may have. Assumes nothing.
+-- `values_of` ends: it reads at most MOST_VALUES words, 6.
 use Prim.Native.Nat.{_-_, _≤_}
 use native.Mathlib.Omega.{arith}
 use Rattle.text_script.proofs.values.values_of.Statement.{statement}

@@ -1,19 +1,16 @@
--- The edit of one chunk; something done with each chunk of a region at a level, ascending, and the loop that does it.
+-- Something done with each chunk of a region at a level, ascending (document 01, "Putting down a map"), and laws of the loop that does it.
+-- Leans on `Chunks`.
 use mathlib.Core.Path.{_≡_, sym, ap, _∙_}
 use mathlib.Core.List.{List, [], _∷_}
 use Prim.Native.Nat.{ℕ, _+_, _*_, _-_, _≤_, _<_}
 use native.Mathlib.Nat.{add-mul}
 use native.Mathlib.Omega.{arith}
 use Rattle.address_slot.specs.Slot.{chunkEnd}
 use Rattle.region.specs.Region.{region}
 use Rattle.region.specs.Chunks.{chunks, chunks-step, chunks-none, Tiles, none, more, chunks-tile}
 use Rattle.region.specs.declared.MemoryRegion.{MemoryRegion}
-use Rattle.modify_entry.specs.declared.Edit.{Edit}
 
--- the edit of one chunk
-abbrev pub chunkEdit : Edit → MemoryRegion → Edit
-chunkEdit e c = record { region = c; set = e .set; clear = e .clear; live = e .live }
-
+-- something done with each of these chunks, one after the other
 unfoldable pub eachOf {ℓ} : {S : Type ℓ} → (MemoryRegion → S → S) → List MemoryRegion → S → S
 eachOf f [] s = s
 eachOf f (c ∷ cs) s = eachOf f cs (f c s)

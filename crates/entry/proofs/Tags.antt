@@ -14,7 +14,8 @@ no-table Outside e = inl refl
 no-table Leaf e = inr refl
 
 -- neither a table nor a leaf
-pub is-outside : (x : Sub) → (tagOf (declared enum) x ≡ 1) ⊎ (tagOf (declared enum) x ≡ 2) → (tagOf (declared enum) x ≡ 0) ⊎ (tagOf (declared enum) x ≡ 1) → x ≡ Outside
+pub is-outside : (x : Sub) → (tagOf (declared enum) x ≡ 1) ⊎ (tagOf (declared enum) x ≡ 2)
+    → (tagOf (declared enum) x ≡ 0) ⊎ (tagOf (declared enum) x ≡ 1) → x ≡ Outside
 is-outside (Table j) (inl e) q = absurd (omega arith)
 is-outside (Table j) (inr e) q = absurd (omega arith)
 is-outside Outside e q = refl

@@ -13,7 +13,8 @@ use Rattle.entry.proofs.Sub.{enum as sub}
 use Rattle.entry.proofs.Kind.{enum as kind}
 
 -- no table, and not outside
-pub is-leaf : (x : Sub) → (tagOf (declared sub) x ≡ 1) ⊎ (tagOf (declared sub) x ≡ 2) → (tagOf (declared sub) x ≡ 0) ⊎ (tagOf (declared sub) x ≡ 2) → x ≡ Leaf
+pub is-leaf : (x : Sub) → (tagOf (declared sub) x ≡ 1) ⊎ (tagOf (declared sub) x ≡ 2)
+    → (tagOf (declared sub) x ≡ 0) ⊎ (tagOf (declared sub) x ≡ 2) → x ≡ Leaf
 is-leaf (Table j) (inl e) o = absurd (omega arith)
 is-leaf (Table j) (inr e) o = absurd (omega arith)
 is-leaf Outside e (inl o) = absurd (omega arith)

@@ -1,2 +1,2 @@
--- Lemmas that several proofs of the count share.
+-- `Tags`: what stands where a match on `Rule` or `Sub` takes the other arms.
 pub mod Tags

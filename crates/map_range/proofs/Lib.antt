@@ -1,2 +1,2 @@
--- A lemma that the proof of the loop uses.
+-- `Tags`: what stands where a match on `Rule` takes the other arms.
 pub mod Tags

@@ -24,16 +24,24 @@ is-shaped-requires : tie.Need-is-shaped-requires
 is-shaped-requires c κs = omega arith
 
 returns : tie.Need-returns
-returns c = let a = c .before .before .before .before .args in check-misshaped (a .handle) (st (a .words .now) (a .ledger .now)) (sym (c .before .is-shaped .ensures) ∙ not-true _ (c .if1 .taken))
+returns c =
+    let a = c .before .before .before .before .args in
+    check-misshaped (a .handle) (st (a .words .now) (a .ledger .now)) (sym (c .before .is-shaped .ensures) ∙ not-true _ (c .if1 .taken))
 
 is-sound-requires : tie.Need-is-sound-requires
 is-sound-requires c κs = shape c
 
 returns-2 : tie.Need-returns-2
-returns-2 c = let a = c .before .before .before .before .before .before .args in check-sound (a .handle) (st (a .words .now) (a .ledger .now)) (good (c .before .before)) (sym (c .before .is-sound .ensures) ∙ c .if2 .taken)
+returns-2 c =
+    let a = c .before .before .before .before .before .before .args in
+    check-sound (a .handle) (st (a .words .now) (a .ledger .now)) (good (c .before .before))
+    (sym (c .before .is-sound .ensures) ∙ c .if2 .taken)
 
 returns-3 : tie.Need-returns-3
-returns-3 c = let a = c .before .before .before .before .before .before .args in check-unsound (a .handle) (st (a .words .now) (a .ledger .now)) (good (c .before .before)) (sym (c .before .is-sound .ensures) ∙ c .if2 .left)
+returns-3 c =
+    let a = c .before .before .before .before .before .before .args in
+    check-unsound (a .handle) (st (a .words .now) (a .ledger .now)) (good (c .before .before))
+    (sym (c .before .is-sound .ensures) ∙ c .if2 .left)
 
 pub check-spec : {M : Type 1} → statement M
 check-spec = tie.close (tie.spec is-shaped-requires returns is-sound-requires returns-2 returns-3)

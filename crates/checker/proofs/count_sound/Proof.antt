@@ -26,9 +26,11 @@ enum-told c = c .match .keys2
 
 returns : tie.Need-returns
 returns c =
-    let a = c .before .before .before .before .before .args in
+    let start = c .before .before .before .before .before in
+    let a = start .args in
     let s = st (a .words .now) (a .ledger .now) in
-    count-none (a .handle) s (sym (scan-unsound (a .handle) s (c .before .before .before .before .before .pre) (c .before .before .scan-tables .ensures) (c .enum-told .given .1)))
+    let unsound = scan-unsound (a .handle) s (start .pre) (c .before .before .scan-tables .ensures) (c .enum-told .given .1) in
+    count-none (a .handle) s (sym unsound)
 
 count-used-requires : tie.Need-count-used-requires
 unfolding maxTables
@@ -39,23 +41,34 @@ unfolding maxTables
 add-if1 c =
     let a = c .before .before .before .before .before .before .before .args in
     let p = c .before .before .before .before .before .before .before .pre in
-    omega (arith, p .limit, scan-few (a .handle) (st (a .words .now) (a .ledger .now)) p (c .before .before .before .before .scan-tables .ensures) _ (c .before .before .found .given .1))
+    omega (
+      arith,
+      p .limit,
+      scan-few (a .handle) (st (a .words .now) (a .ledger .now)) p
+          (c .before .before .before .before .scan-tables .ensures) _ (c .before .before .found .given .1),
+    )
 
 returns-2 : tie.Need-returns-2
 returns-2 c =
     let a = c .before .before .before .before .before .before .before .before .args in
     let s = st (a .words .now) (a .ledger .now) in
     let links = c .before .before .before .found .given .0 .0 in
-    let counted = ap (eqb (links + 1)) (c .before .count-used .ensures) ∙ scan-counted (a .handle) s (c .before .before .before .before .before .before .before .before .pre) (c .before .before .before .before .before .scan-tables .ensures) _ (c .before .before .before .found .given .1) in
+    let counted = ap (eqb (links + 1)) (c .before .count-used .ensures)
+    ∙ scan-counted (a .handle) s (c .before .before .before .before .before .before .before .before .pre)
+    (c .before .before .before .before .before .scan-tables .ensures) _ (c .before .before .before .found .given .1) in
     count-none (a .handle) s (sym counted ∙ ne-eqb (links + 1) (c .before .count-used .result) (c .if1 .taken))
 
 returns-3 : tie.Need-returns-3
 returns-3 c =
-    let a = c .before .before .before .before .before .before .before .before .args in
+    let start = c .before .before .before .before .before .before .before .before in
+    let a = start .args in
     let s = st (a .words .now) (a .ledger .now) in
-    let links = c .before .before .before .found .given .0 .0 in
-    let counted = ap (eqb (links + 1)) (c .before .count-used .ensures) ∙ scan-counted (a .handle) s (c .before .before .before .before .before .before .before .before .pre) (c .before .before .before .before .before .scan-tables .ensures) _ (c .before .before .before .found .given .1) in
-    count-some (a .handle) s (c .before .count-used .ensures) (sym counted ∙ eq-eqb (links + 1) (c .before .count-used .result) (c .if1 .left))
+    let found = c .before .before .before in
+    let links = found .found .given .0 .0 in
+    let used = c .before .count-used in
+    let scanned = scan-counted (a .handle) s (start .pre) (found .before .before .scan-tables .ensures) _ (found .found .given .1) in
+    let counted = ap (eqb (links + 1)) (used .ensures) ∙ scanned in
+    count-some (a .handle) s (used .ensures) (sym counted ∙ eq-eqb (links + 1) (used .result) (c .if1 .left))
 
 pub count-sound-spec : {M : Type 1} → statement M
 count-sound-spec =

@@ -18,10 +18,16 @@ enum-told-2 : tie.Need-enum-told-2
 enum-told-2 c = c .match .keys2
 
 returns : tie.Need-returns
-returns c = let a = c .before .before .before .before .before .args in sym (count-sound (a .handle) (st (a .words .now) (a .ledger .now)) (c .before .before .count-sound .ensures) _ (c .enum-told .given .1) .0)
+returns c =
+    let a = c .before .before .before .before .before .args in
+    sym (count-sound (a .handle) (st (a .words .now) (a .ledger .now)) (c .before .before .count-sound .ensures) _
+    (c .enum-told .given .1) .0)
 
 returns-2 : tie.Need-returns-2
-returns-2 c = let a = c .before .before .before .before .before .args in sym (count-unsound (a .handle) (st (a .words .now) (a .ledger .now)) (c .before .before .count-sound .ensures) (c .enum-told2 .given .1))
+returns-2 c =
+    let a = c .before .before .before .before .before .args in
+    sym (count-unsound (a .handle) (st (a .words .now) (a .ledger .now)) (c .before .before .count-sound .ensures)
+    (c .enum-told2 .given .1))
 
 pub is-sound-spec : {M : Type 1} → statement M
 is-sound-spec = tie.close (tie.spec count-sound-requires enum-told enum-told-2 returns returns-2)

@@ -18,23 +18,28 @@ use Rattle.checker_ledger.proofs.hangs.Reads as reads
 use Rattle.checker_ledger.proofs.hangs.Lts as lts
 use Rattle.entry.proofs.link.Reads as link-reads
 
+-- the start of the function, seen from after the call of `link`
+abbrev start-of-link : tie.After-link → tie.Start
+start-of-link c = c .before .before .before .before .before .before .before .before .before .before .before
+
 -- one part that fails
 no-hang : (base : ℕ) (s : St) (k : ℕ) → (Hangs base s k → ⊥) → false ≡ hangsb base s k
 no-hang base s k n = sym (is-false (hangsb base s k) (λ t. n (hangs-to base s k t)))
 
 -- all parts but the last hold
-last-part : (base : ℕ) (s : St) (k : ℕ) (word link : ℕ) → (word ≡ link → Hangs base s k) → wordAt s (parentOf (numberAt s k)) (slotOf (numberAt s k)) ≡ word → linkOf base k ≡ link
+last-part : (base : ℕ) (s : St) (k : ℕ) (word link : ℕ) → (word ≡ link → Hangs base s k)
+    → wordAt s (parentOf (numberAt s k)) (slotOf (numberAt s k)) ≡ word → linkOf base k ≡ link
     → eqb word link ≡ hangsb base s k
 last-part base s k word link rest w l =
     same-test (eqb word link) (hangsb base s k) (λ t. hangs-of base s k (rest (eqb→eq word link t)))
     (λ t. eq→eqb word link (sym w ∙ hangs-to base s k t .says ∙ l))
 
 -- the link of a table of the pool is its address + 3
-linked : (c : tie.After-link) → c .link .result ≡ linkOf (c .before .before .before .before .before .before .before .before .before .before .before .args .handle .base .0) (c .before .before .before .before .before .before .before .before .before .before .before .args .k)
+linked : (c : tie.After-link) → c .link .result ≡ linkOf (start-of-link c .args .handle .base .0) (start-of-link c .args .k)
 linked c =
-    let a = c .before .before .before .before .before .before .before .before .before .before .before .args in
-    let shape = c .before .before .before .before .before .before .before .before .before .before .before .pre .0 in
-    c .link .ensures ∙ link-fits (a .handle .base .0) (a .k) (shape .paged) (omega (arith, shape .ended, c .before .before .before .before .before .before .before .before .before .before .before .pre .1))
+    let a = start-of-link c .args in
+    let shape = start-of-link c .pre .0 in
+    c .link .ensures ∙ link-fits (a .handle .base .0) (a .k) (shape .paged) (omega (arith, shape .ended, start-of-link c .pre .1))
 
 pos : {y : ℕ} → (y ≡ 0 → ⊥) → 0 < y
 pos n = omega arith
@@ -64,7 +69,8 @@ sub-at c = omega arith
 returns-3 : tie.Need-returns-3
 returns-3 c =
     let a = c .before .before .before .before .before .before .args in
-    no-hang (a .handle .base .0) (st (a .words .now) (a .ledger .now)) (a .k) (λ p. omega (arith, used-in (st (a .words .now) (a .ledger .now)) _ (p .parent)))
+    no-hang (a .handle .base .0) (st (a .words .now) (a .ledger .now)) (a .k)
+    (λ p. omega (arith, used-in (st (a .words .now) (a .ledger .now)) _ (p .parent)))
 
 mul-above : tie.Need-mul-above
 mul-above c = omega arith
@@ -73,7 +79,9 @@ shared-slice-read-above : tie.Need-shared-slice-read-above
 shared-slice-read-above c = omega arith
 
 cast-above : tie.Need-cast-above
-cast-above c = let a = c .before .before .before .before .before .before .before .args in omega (arith, c .shared-slice-known4 .given ((getD (a .ledger .now) (a .k) 0 / 8 - 1) / 512))
+cast-above c =
+    let a = c .before .before .before .before .before .before .before .args in
+    omega (arith, c .shared-slice-known4 .given ((getD (a .ledger .now) (a .k) 0 / 8 - 1) / 512))
 
 returns-4 : tie.Need-returns-4
 returns-4 c =
@@ -99,7 +107,7 @@ link-requires c κs = omega arith
 
 returns-6 : tie.Need-returns-6
 returns-6 c =
-    let a = c .before .before .before .before .before .before .before .before .before .before .before .args in
+    let a = start-of-link c .args in
     let s = (st (a .words .now) (a .ledger .now)) in
     let x = numberAt s (a .k) in
     let at : 512 * parentOf x + slotOf x ≡ x / 8 - 1 = omega arith in

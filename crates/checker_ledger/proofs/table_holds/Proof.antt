@@ -36,7 +36,9 @@ add-result c = omega arith
 
 returns : tie.Need-returns
 unfolding tableb rootNumber
-returns c = let a = c .before .before .before .before .before .args in sym (ap (tableb (a .handle) (st (a .words .now) (a .ledger .now))) (c .before .before .if1 .taken))
+returns c =
+    let a = c .before .before .before .before .before .args in
+    sym (ap (tableb (a .handle) (st (a .words .now) (a .ledger .now))) (c .before .before .if1 .taken))
 
 mul-if2 : tie.Need-mul-if2
 mul-if2 c = omega arith
@@ -45,13 +47,18 @@ shared-slice-read-if2 : tie.Need-shared-slice-read-if2
 shared-slice-read-if2 c = omega arith
 
 returns-2 : tie.Need-returns-2
-returns-2 c = let a = c .before .before .before .before .before .args in free-holds (a .handle) (st (a .words .now) (a .ledger .now)) (a .k) (c .before .before .if1 .left) (c .if2 .taken)
+returns-2 c =
+    let a = c .before .before .before .before .before .args in
+    free-holds (a .handle) (st (a .words .now) (a .ledger .now)) (a .k) (c .before .before .if1 .left) (c .if2 .taken)
 
 hangs-requires : tie.Need-hangs-requires
 hangs-requires c κs = omega arith
 
 returns-3 : tie.Need-returns-3
-returns-3 c = let a = c .before .before .before .before .before .before .args in c .hangs .ensures ∙ used-holds (a .handle) (st (a .words .now) (a .ledger .now)) (a .k) (c .before .before .before .if1 .left) (c .before .if2 .left)
+returns-3 c =
+    let a = c .before .before .before .before .before .before .args in
+    c .hangs .ensures
+    ∙ used-holds (a .handle) (st (a .words .now) (a .ledger .now)) (a .k) (c .before .before .before .if1 .left) (c .before .if2 .left)
 
 pub table-holds-spec : {M : Type 1} → statement M
 table-holds-spec =

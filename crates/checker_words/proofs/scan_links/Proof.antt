@@ -17,7 +17,8 @@ use Rattle.checker_words.proofs.scan_links.Reads as reads
 use Rattle.checker_words.proofs.scan_links.Lts as lts
 
 abbrev Inv-loop : tie.InvT-loop
-Inv-loop run allowed any₀ links₀ i₀ any links i = (i ≤ length run) × (links ≤ i) × (any ≡ leaves (take i run)) × (links ≡ linksIn (take i run))
+Inv-loop run allowed any₀ links₀ i₀ any links i =
+    (i ≤ length run) × (links ≤ i) × (any ≡ leaves (take i run)) × (links ≡ linksIn (take i run))
 
 abbrev μ-loop : tie.MeasureT-loop
 μ-loop run allowed any₀ links₀ i₀ any links i = length run - i
@@ -54,8 +55,20 @@ loop-again c =
     let i = at .loop .i in
     let w = getD l i 0 in
     ⊎-elim
-    (λ t. (omega arith, omega arith, t .1 ∙ at .loop .inv .2 ∙ sym (leaves-table l i (omega arith) (t .0 .taken)), t .2 ∙ ap (λ (x : ℕ). x + 1) (at .loop .inv .3) ∙ sym (links-table l i (omega arith) (t .0 .taken))))
-    (λ t. (omega arith, omega arith, t .1 ∙ ap (λ (x : ℕ). bitOr x w) (at .loop .inv .2) ∙ sym (leaves-leaf l i (omega arith) (t .0 .left)), t .2 ∙ at .loop .inv .3 ∙ sym (links-leaf l i (omega arith) (t .0 .left))))
+    (λ t. (
+      omega arith,
+      omega arith,
+      t .1 ∙ at .loop .inv .2 ∙ sym (leaves-table l i (omega arith) (t .0 .taken)),
+      t .2
+          ∙ ap (λ (x : ℕ). x + 1) (at .loop .inv .3) ∙ sym (links-table l i (omega arith) (t .0 .taken)),
+    ))
+    (λ t. (
+      omega arith,
+      omega arith,
+      t .1 ∙ ap (λ (x : ℕ). bitOr x w) (at .loop .inv .2)
+          ∙ sym (leaves-leaf l i (omega arith) (t .0 .left)),
+      t .2 ∙ at .loop .inv .3 ∙ sym (links-leaf l i (omega arith) (t .0 .left)),
+    ))
     (c .if1 .came)
 
 returns : tie.Need-returns Inv-loop μ-loop
@@ -63,14 +76,17 @@ unfolding linksRun only
 returns c =
     let a = c .before .before .before .args in
     let end = c .before in
-    rw (eq-eqb (bitAnd (leaves (a .run .now)) (a .allowed)) (leaves (a .run .now)) (sym (ap (λ (x : ℕ). bitAnd x (a .allowed)) (all end)) ∙ c .if2 .taken ∙ all end)) (ap Passed (count end))
+    rw (eq-eqb (bitAnd (leaves (a .run .now)) (a .allowed)) (leaves (a .run .now))
+    (sym (ap (λ (x : ℕ). bitAnd x (a .allowed)) (all end)) ∙ c .if2 .taken ∙ all end))
+    (ap Passed (count end))
 
 returns-2 : tie.Need-returns-2 Inv-loop μ-loop
 unfolding linksRun only
 returns-2 c =
     let a = c .before .before .before .args in
     let end = c .before in
-    rw (ne-eqb (bitAnd (leaves (a .run .now)) (a .allowed)) (leaves (a .run .now)) (λ e. c .if2 .left (ap (λ (x : ℕ). bitAnd x (a .allowed)) (all end) ∙ e ∙ sym (all end))))
+    rw (ne-eqb (bitAnd (leaves (a .run .now)) (a .allowed)) (leaves (a .run .now))
+    (λ e. c .if2 .left (ap (λ (x : ℕ). bitAnd x (a .allowed)) (all end) ∙ e ∙ sym (all end))))
 
 pub scan-links-spec : {M : Type 1} → statement M
 scan-links-spec =

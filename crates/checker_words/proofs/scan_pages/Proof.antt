@@ -57,7 +57,8 @@ returns : tie.Need-returns Inv-loop μ-loop
 unfolding pagesRun only
 returns c =
     let a = c .before .before .before .args in
-    rw (ne-eqb (bitAnd (union (a .run .now)) (a .allowed)) (union (a .run .now)) (λ e. c .if1 .taken (ap (λ (x : ℕ). bitAnd x (a .allowed)) (all (c .before)) ∙ e ∙ sym (all (c .before)))))
+    rw (ne-eqb (bitAnd (union (a .run .now)) (a .allowed)) (union (a .run .now))
+    (λ e. c .if1 .taken (ap (λ (x : ℕ). bitAnd x (a .allowed)) (all (c .before)) ∙ e ∙ sym (all (c .before)))))
 
 returns-2 : tie.Need-returns-2 Inv-loop μ-loop
 unfolding pagesRun only
@@ -65,7 +66,8 @@ returns-2 c =
     let a = c .before .before .before .before .args in
     let end = c .before .before in
     rw (
-      eq-eqb (bitAnd (union (a .run .now)) (a .allowed)) (union (a .run .now)) (sym (ap (λ (x : ℕ). bitAnd x (a .allowed)) (all end)) ∙ c .before .if1 .left ∙ all end),
+      eq-eqb (bitAnd (union (a .run .now)) (a .allowed)) (union (a .run .now))
+          (sym (ap (λ (x : ℕ). bitAnd x (a .allowed)) (all end)) ∙ c .before .if1 .left ∙ all end),
       eq-eqb (strays (a .run .now) % 2) 0 (sym (ap (λ (x : ℕ). x % 2) (odd end)) ∙ c .if2 .taken),
     )
 
@@ -75,7 +77,8 @@ returns-3 c =
     let a = c .before .before .before .before .args in
     let end = c .before .before in
     rw (
-      eq-eqb (bitAnd (union (a .run .now)) (a .allowed)) (union (a .run .now)) (sym (ap (λ (x : ℕ). bitAnd x (a .allowed)) (all end)) ∙ c .before .if1 .left ∙ all end),
+      eq-eqb (bitAnd (union (a .run .now)) (a .allowed)) (union (a .run .now))
+          (sym (ap (λ (x : ℕ). bitAnd x (a .allowed)) (all end)) ∙ c .before .if1 .left ∙ all end),
       ne-eqb (strays (a .run .now) % 2) 0 (λ e. c .if2 .left (ap (λ (x : ℕ). x % 2) (odd end) ∙ e)),
     )
 

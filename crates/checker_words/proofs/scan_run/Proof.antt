@@ -37,9 +37,11 @@ unfolding pagesRun
 returns-2 c =
     let a = c .before .before .before .before .before .args in
     let level = c .before .if2 .taken in
-    let allowed : c .before .before .allowed-at .result ≡ allowedAt (a .set) 3 = c .before .before .allowed-at .ensures ∙ ap (allowedAt (a .set)) level in
+    let allowed : c .before .before .allowed-at .result ≡ allowedAt (a .set) 3 =
+    c .before .before .allowed-at .ensures ∙ ap (allowedAt (a .set)) level in
     c .scan-pages .ensures ∙ ap (λ (m : ℕ). pagesRun m (a .run .now)) allowed
-    ∙ sym (pages-run (a .set) (a .number) (c .before .before .before .before .before .pre) (omega arith) level (a .run .now) (λ i h. c .before .before .before .before .shared-slice-known .given i .fits))
+    ∙ sym (pages-run (a .set) (a .number) (c .before .before .before .before .before .pre) (omega arith) level (a .run .now)
+    (λ i h. c .before .before .before .before .shared-slice-known .given i .fits))
 
 scan-links-requires : tie.Need-scan-links-requires
 scan-links-requires c κs = omega arith
@@ -50,7 +52,8 @@ returns-3 c =
     let a = c .before .before .before .before .before .args in
     let level = levelOf (a .number) in
     c .scan-links .ensures ∙ ap (λ (m : ℕ). linksRun m (a .run .now)) (c .before .before .allowed-at .ensures)
-    ∙ sym (links-run (a .set) (a .number) level (c .before .before .before .before .before .pre) (omega arith) refl (omega arith) (a .run .now) (λ i h. c .before .before .before .before .shared-slice-known .given i .fits))
+    ∙ sym (links-run (a .set) (a .number) level (c .before .before .before .before .before .pre) (omega arith) refl (omega arith)
+    (a .run .now) (λ i h. c .before .before .before .before .shared-slice-known .given i .fits))
 
 pub scan-run-spec : {M : Type 1} → statement M
 scan-run-spec =

@@ -10,7 +10,8 @@ use Rattle.entry.specs.Sub.{sub-found}
 use Rattle.entry.proofs.Tags.{no-table}
 use Rattle.pool.specs.State.{St, st}
 use Rattle.pool.specs.declared.Handle.{Handle}
-use Rattle.compact_spec.specs.Compact.{releaseEmpty, compactEntry, compactTable, entry-table, entry-outside, entry-leaf, compact-down, compact-last}
+use Rattle.compact_spec.specs.Compact.{releaseEmpty, compactEntry, compactTable, entry-table, entry-outside, entry-leaf, compact-down}
+use Rattle.compact_spec.specs.Compact.{compact-last}
 use borrow.Fn.Kinds.{In}
 use borrow.Fn.PlainCycle.{Measures, is, falls, and}
 use Rattle.compact.proofs.compact_subtables.Reads as reads
@@ -44,6 +45,28 @@ Inv-loop words₀ ledger₀ handle k level next₀ words ledger next =
 
 abbrev μ-loop : lts.MeasureT-loop
 μ-loop words₀ ledger₀ handle k level next₀ words ledger next = 512 - next
+
+-- ways back: from where a table below is told to the loop's head and to the start; to there from the call of `release_empty` and from the
+-- loop's end
+abbrev loop-of-told : {t : ℕ} → lts.After-kind (calls t) (started t) reads.Post Inv-loop μ-loop
+    → lts.At-loop (calls t) (started t) reads.Post Inv-loop μ-loop
+loop-of-told c = c .before .before .before .before .before
+
+abbrev start-of-told : {t : ℕ} → lts.After-kind (calls t) (started t) reads.Post Inv-loop μ-loop
+    → lts.Start (calls t) (started t) reads.Post Inv-loop μ-loop
+start-of-told c = loop-of-told c .before .before .before .before
+
+abbrev told-of-release : {t : ℕ} → lts.After-release-empty-arg2 (calls t) (started t) reads.Post Inv-loop μ-loop
+    → lts.After-kind (calls t) (started t) reads.Post Inv-loop μ-loop
+told-of-release c = c .before .before .before .before .before .before .before .before .before .before
+
+abbrev called-of-again-2 : {t : ℕ} → lts.After-slice-known7 (calls t) (started t) reads.Post Inv-loop μ-loop
+    → lts.After-compact-subtables (calls t) (started t) reads.Post Inv-loop μ-loop
+called-of-again-2 c = c .before .before .before .before .before .before .before .before .before .before .before
+
+abbrev told-of-again-2 : {t : ℕ} → lts.After-slice-known7 (calls t) (started t) reads.Post Inv-loop μ-loop
+    → lts.After-kind (calls t) (started t) reads.Post Inv-loop μ-loop
+told-of-again-2 c = called-of-again-2 c .before .before .before .before
 
 -- one slot fewer is left
 less : {i : ℕ} → i < 512 → 512 - (i + 1) < 512 - i
@@ -86,13 +109,15 @@ loop-again t c =
     let at = c .before .before .before .before in
     let a = c .before .before .before .before .before .before .before .before .args in
     let s = st (at .loop .words) (at .loop .ledger) in
+    let i = at .loop .next in
+    let b = below (a .level) (a .handle) in
     let sub = c .before .subtable in (
       omega arith,
       at .loop .inv .1,
       at .loop .inv .2,
-      iter-step (compactEntry (below (a .level) (a .handle)) (a .handle) (a .k) (a .level)) (at .loop .next) (st (a .words .now) (a .ledger .now)) (at .loop .inv .3)
-          (⊎-elim (λ e. entry-outside (below (a .level) (a .handle)) (a .handle) (a .k) (a .level) (at .loop .next) s (sub .ensures) e)
-          (λ e. entry-leaf (below (a .level) (a .handle)) (a .handle) (a .k) (a .level) (at .loop .next) s (sub .ensures) e)
+      iter-step (compactEntry b (a .handle) (a .k) (a .level)) i (st (a .words .now) (a .ledger .now)) (at .loop .inv .3)
+          (⊎-elim (λ e. entry-outside b (a .handle) (a .k) (a .level) i s (sub .ensures) e)
+          (λ e. entry-leaf b (a .handle) (a .k) (a .level) i s (sub .ensures) e)
           (no-table (sub .result) (c .match .keys2))),
     )
 
@@ -103,43 +128,47 @@ compact-subtables-requires : (t : ℕ) → lts.Need-compact-subtables-requires (
 compact-subtables-requires t c κs =
     let told = c .before .before .before in
     let found = sub-found _ _ _ _ _ (sym (told .before .before .subtable .ensures) ∙ told .kind .given .1) in
-    let at = c .before .before .before .before .before .before .before .before .loop .inv in
-    let p = c .before .before .before .before .before .before .before .before .before .before .before .before .pre in
+    let at = loop-of-told told .loop .inv in
+    let p = start-of-told told .pre in
     let low = lower (p .0) (found .high) in
     (low .0, (at .1 ∙ p .1 .0 ∙ ap (λ (n : ℕ). 512 * n) (sym (at .2)), found .below, low .1))
 
 release-empty-requires : (t : ℕ) → lts.Need-release-empty-requires (calls t) (started t) reads.Post Inv-loop μ-loop
 release-empty-requires t c κs =
     let called = c .before .before .before .before .before .before .compact-subtables in
-    let told = c .before .before .before .before .before .before .before .before .before .before in
+    let told = told-of-release c in
     let j = sub-found _ _ _ _ _ (sym (told .before .before .subtable .ensures) ∙ told .kind .given .1) .below in
-    let at = c .before .before .before .before .before .before .before .before .before .before .before .before .before .before .before .loop .inv in
-    let p = c .before .before .before .before .before .before .before .before .before .before .before .before .before .before .before .before .before .before .before .pre .1 in
+    let at = loop-of-told told .loop .inv in
+    let p = start-of-told told .pre .1 in
     let long = called .kept .1 .0 ∙ at .2 in (
       called .kept .0 ∙ at .1 ∙ p .0 ∙ ap (λ (n : ℕ). 512 * n) (sym long),
-      subst⁻¹ (λ (n : ℕ). c .before .before .before .before .before .before .before .before .before .before .before .before .before .before .before .before .before .before .before .args .k < n) long (p .1),
-      c .before .before .before .before .before .before .before .before .before .before .before .before .before .before .loop-test .taken,
+      subst⁻¹ (λ (n : ℕ). start-of-told told .args .k < n) long (p .1),
+      told .before .before .before .before .loop-test .taken,
       subst⁻¹ (λ (n : ℕ). told .kind .given .0 .0 < n) (called .kept .1 .0) j,
     )
 
 loop-less-2 : (t : ℕ) → lts.Need-loop-less-2 (calls t) (started t) reads.Post Inv-loop μ-loop
-loop-less-2 t c = less (c .before .before .before .before .before .before .before .before .before .before .before .before .before .before .before .before .before .before .before .loop-test .taken)
+loop-less-2 t c = less (told-of-again-2 c .before .before .before .before .loop-test .taken)
 
 loop-again-2 : (t : ℕ) → lts.Need-loop-again-2 (calls t) (started t) reads.Post Inv-loop μ-loop
 loop-again-2 t c =
-    let called = c .before .before .before .before .before .before .before .before .before .before .before in
-    let told = called .before .before .before .before in
-    let at = told .before .before .before .before .before in
-    let a = at .before .before .before .before .args in
+    let told = told-of-again-2 c in
+    let at = loop-of-told told in
+    let a = start-of-told told .args in
     let s = st (at .loop .words) (at .loop .ledger) in
-    let j = told .kind .given .0 .0 in (
+    let i = at .loop .next in
+    let b = below (a .level) (a .handle) in
+    let j = told .kind .given .0 .0 in
+    let sub = told .before .before .subtable .ensures in
+    let called = called-of-again-2 c .compact-subtables in
+    let released = c .before .before .before .before .release-empty in (
       omega (arith, told .before .before .before .before .loop-test .taken),
-      c .before .before .before .before .release-empty .kept .0 ∙ called .compact-subtables .kept .0 ∙ at .loop .inv .1,
-      c .before .before .before .before .release-empty .kept .1 .0 ∙ called .compact-subtables .kept .1 .0 ∙ at .loop .inv .2,
-      iter-step (compactEntry (below (a .level) (a .handle)) (a .handle) (a .k) (a .level)) (at .loop .next) (st (a .words .now) (a .ledger .now)) (at .loop .inv .3)
-          (c .before .before .before .before .release-empty .ensures
-          ∙ ap (releaseEmpty (a .k) (at .loop .next) j) (called .compact-subtables .ensures)
-          ∙ entry-table (below (a .level) (a .handle)) (a .handle) (a .k) (a .level) (at .loop .next) s (told .before .before .subtable .ensures) j (told .kind .given .1)),
+      released .kept .0 ∙ called .kept .0 ∙ at .loop .inv .1,
+      released .kept .1 .0 ∙ called .kept .1 .0 ∙ at .loop .inv .2,
+      iter-step (compactEntry b (a .handle) (a .k) (a .level)) i (st (a .words .now) (a .ledger .now)) (at .loop .inv .3)
+          (released .ensures
+          ∙ ap (releaseEmpty (a .k) i j) (called .ensures)
+          ∙ entry-table b (a .handle) (a .k) (a .level) i s sub j (told .kind .given .1)),
     )
 
 same-length : (t : ℕ) → lts.Need-same-length (calls t) (started t) reads.Post Inv-loop μ-loop

@@ -16,15 +16,29 @@ use Rattle.compact.proofs.compact_subtables.Reads as compact-subtables-
 use Rattle.pool_ledger.proofs.count_used.Reads as count-used-reads
 use Rattle.pool_handle.proofs.is_shaped.Reads as is-shaped-reads
 
+-- ways back: to the start from where the shape is known, and from where the pool is sound or not; from the count to where the shape is
+-- known
+abbrev start-of-shaped : tie.Else1 → tie.Start
+start-of-shaped c = c .before .before .before .before .before .before
+
+abbrev start-of-sound : tie.Else2 → tie.Start
+start-of-sound c = start-of-shaped (c .before .before .before .before)
+
+abbrev start-of-unsound : tie.Then2 → tie.Start
+start-of-unsound c = start-of-shaped (c .before .before .before .before)
+
+abbrev shaped-of-count : tie.After-count-used-arg → tie.Else1
+shaped-of-count c = c .before .before .before .before .before .before .before .before .before .before .before .before
+
 -- past the first test the shape is known
-good : (c : tie.Else1) → let a = c .before .before .before .before .before .before .args in shaped (a .handle) (st (a .words .now) (a .ledger .now)) ≡ true
+good : (c : tie.Else1) → let a = start-of-shaped c .args in shaped (a .handle) (st (a .words .now) (a .ledger .now)) ≡ true
 good c = sym (c .before .is-shaped .ensures) ∙ not-false _ (c .if1 .left)
 
-shape : (c : tie.Else1) → let a = c .before .before .before .before .before .before .args in Shaped (a .handle) (st (a .words .now) (a .ledger .now))
-shape c = let a = c .before .before .before .before .before .before .args in shaped-says (a .handle) (st (a .words .now) (a .ledger .now)) (rw (good c) tt)
+shape : (c : tie.Else1) → let a = start-of-shaped c .args in Shaped (a .handle) (st (a .words .now) (a .ledger .now))
+shape c = let a = start-of-shaped c .args in shaped-says (a .handle) (st (a .words .now) (a .ledger .now)) (rw (good c) tt)
 
--- past the second the pool is sound
-sound : (c : tie.Else2) → let a = c .before .before .before .before .before .before .before .before .before .before .args in
+-- past the second test the pool is sound
+sound : (c : tie.Else2) → let a = start-of-sound c .args in
     soundb (a .handle) (st (a .words .now) (a .ledger .now)) ≡ true
 sound c = sym (c .before .is-sound .ensures) ∙ not-false _ (c .if2 .left)
 
@@ -53,8 +67,9 @@ same-length-4 c = omega arith
 
 returns-2 : tie.Need-returns-2
 returns-2 c =
-    let a = c .before .before .before .before .before .before .before .before .before .before .args in
-    call-unsound (a .handle) (st (a .words .now) (a .ledger .now)) (good (c .before .before .before .before)) (sym (c .before .is-sound .ensures) ∙ not-true _ (c .if2 .taken))
+    let a = start-of-unsound c .args in
+    call-unsound (a .handle) (st (a .words .now) (a .ledger .now)) (good (c .before .before .before .before))
+    (sym (c .before .is-sound .ensures) ∙ not-true _ (c .if2 .taken))
 
 compact-subtables-requires : tie.Need-compact-subtables-requires
 compact-subtables-requires c κs =
@@ -62,7 +77,7 @@ compact-subtables-requires c κs =
 
 count-used-requires : tie.Need-count-used-requires
 unfolding maxTables
-count-used-requires c κs = omega (arith, shape (c .before .before .before .before .before .before .before .before .before .before .before .before) .limit)
+count-used-requires c κs = omega (arith, shape (shaped-of-count c) .limit)
 
 same-length-5 : tie.Need-same-length-5
 same-length-5 c = omega arith
@@ -74,7 +89,7 @@ returns-3 : tie.Need-returns-3
 returns-3 c =
     let done = c .before .before .before .before .before .before in
     let tested = done .before .before .before in
-    let a = tested .before .before .before .before .before .before .before .before .before .before .args in
+    let a = start-of-sound tested .args in
     call-compacted (a .handle) (st (a .words .now) (a .ledger .now)) (good (tested .before .before .before .before)) (sound tested)
     (done .compact-subtables .ensures)
     (c .count-used .ensures)

@@ -14,6 +14,10 @@ use Rattle.compact_release.proofs.release_empty.Lts as lts
 use Rattle.compact_release.proofs.is_empty.Reads as is-empty-reads
 use Rattle.pool_table.proofs.clear_table.Reads as clear-table-reads
 
+-- the start of the function, seen from the return after the table is freed
+abbrev start-of-freed : tie.After-slice-known4 → tie.Start
+start-of-freed c = c .before .before .before .before .before .before .before .before .before .before .before .before .before
+
 -- the answer is of table j's words
 whole : (c : tie.After-is-empty) → let a = c .before .before .before .before .before .args in
     c .is-empty .result ≡ allZero (tableWords (st (a .words .now) (a .ledger .now)) (a .j))
@@ -71,7 +75,7 @@ clear-table-requires c κs =
 
 same-length-2 : tie.Need-same-length-2
 same-length-2 c =
-    let a = c .before .before .before .before .before .before .before .before .before .before .before .before .before .args in
+    let a = start-of-freed c .args in
     let e = length-set (a .words .now) (512 * a .k + a .i) 0 in
     omega arith
 
@@ -81,7 +85,7 @@ same-length-3 c = omega arith
 returns-2 : tie.Need-returns-2
 returns-2 c =
     let test = c .before .before .before .before .before .before .before in
-    let a = test .before .before .before .before .before .before .args in
+    let a = start-of-freed c .args in
     c .before .before .before .before .clear-table .ensures
     ∙ release-freed (a .k) (a .i) (a .j) (st (a .words .now) (a .ledger .now)) (sym (whole (test .before)) ∙ not-false _ (test .if1 .left))
 

@@ -27,16 +27,23 @@ holes level w one two low = go (eq-or (w % 4) 1)
     go (inr n) = inl (omega arith)
 
 returns : tie.Need-returns
-returns c = let a = c .before .before .args in sym (kind-table (a .level) (a .word) (omega (arith, c .before .match .keys1)) (c .match2 .keys1))
+returns c =
+    let a = c .before .before .args in sym (kind-table (a .level) (a .word) (omega (arith, c .before .match .keys1)) (c .match2 .keys1))
 
 returns-2 : tie.Need-returns-2
-returns-2 c = let a = c .before .before .args in let low = c .match2 .rest .1 in sym (kind-once Hole (a .level) (a .word) (holes (a .level) (a .word) (λ e. omega (arith, c .before .match .keys1)) (λ e. omega (arith, c .before .match .keys1)) low))
+returns-2 c =
+    let a = c .before .before .args in
+    let low = c .match2 .rest .1 in
+    sym (kind-once Hole (a .level) (a .word)
+    (holes (a .level) (a .word) (λ e. omega (arith, c .before .match .keys1)) (λ e. omega (arith, c .before .match .keys1)) low))
 
 returns-3 : tie.Need-returns-3
 returns-3 c = let a = c .before .before .before .args in sym (kind-table (a .level) (a .word) (omega arith) (c .match3 .keys1))
 
 returns-4 : tie.Need-returns-4
-returns-4 c = let a = c .before .before .before .args in sym (kind-block (a .level) (a .word) (one-or-two (a .level) (omega arith) (c .before .before .match .rest .1)) (c .match3 .keys2))
+returns-4 c =
+    let a = c .before .before .before .args in
+    sym (kind-block (a .level) (a .word) (one-or-two (a .level) (omega arith) (c .before .before .match .rest .1)) (c .match3 .keys2))
 
 returns-5 : tie.Need-returns-5
 returns-5 c = let a = c .before .before .before .args in sym (kind-clear (a .level) (a .word) (c .match3 .rest .0 .1) (c .match3 .rest .1))
@@ -45,7 +52,9 @@ returns-6 : tie.Need-returns-6
 returns-6 c = let a = c .before .before .before .args in sym (kind-page (a .level) (a .word) (omega arith) (c .match4 .keys1))
 
 returns-7 : tie.Need-returns-7
-returns-7 c = let a = c .before .before .before .args in sym (kind-once Hole (a .level) (a .word) (holes (a .level) (a .word) (λ e. omega arith) (λ e. omega arith) (c .match4 .rest .1)))
+returns-7 c =
+    let a = c .before .before .before .args in
+    sym (kind-once Hole (a .level) (a .word) (holes (a .level) (a .word) (λ e. omega arith) (λ e. omega arith) (c .match4 .rest .1)))
 
 pub kind-of-spec : {M : Type 1} → statement M
 kind-of-spec =

@@ -27,13 +27,15 @@ returns-4 c =
     let a = c .before .before .before .before .before .before .args in
     let at = mask-address (a .word) in
     ap (λ (x : ℕ). Table ((x - a .base .0) / 4096)) at
-    ∙ sub-in (a .base .0) (a .tables) (a .level) (a .word) (omega arith) (c .before .before .before .before .if2 .left) (omega arith) (omega arith)
+    ∙ sub-in (a .base .0) (a .tables) (a .level) (a .word) (omega arith) (c .before .before .before .before .if2 .left) (omega arith)
+    (omega arith)
 
 returns-5 : tie.Need-returns-5
 returns-5 c =
     let a = c .before .before .before .before .before .before .args in
     let at = mask-address (a .word) in
-    sub-high (a .base .0) (a .tables) (a .level) (a .word) (omega arith) (c .before .before .before .before .if2 .left) (omega arith) (omega arith)
+    sub-high (a .base .0) (a .tables) (a .level) (a .word) (omega arith) (c .before .before .before .before .if2 .left) (omega arith)
+    (omega arith)
 
 pub subtable-spec : {M : Type 1} → statement M
 subtable-spec = tie.close (tie.spec returns returns-2 returns-3 returns-4 returns-5)

@@ -17,12 +17,20 @@ use Rattle.image.proofs.page_image.Lts as lts
 use Rattle.image_bytes.proofs.write_to.Reads as write-to-reads
 use Rattle.pool_handle.proofs.is_shaped.Reads as is-shaped-reads
 
+-- the start of the function, seen from its last return
+abbrev start-of-returns-4 : tie.After-slice-known2 → tie.Start
+start-of-returns-4 c = c .before .before .before .before .before .before .before .before .before .before .before .before
+
 -- past the first test the shape is known
-good : (c : tie.Else1) → let a = c .before .before .before .before .before .args in shaped (a .handle) (st (a .words .now) (a .ledger .now)) ≡ true
+good : (c : tie.Else1)
+    → let a = c .before .before .before .before .before .args in shaped (a .handle) (st (a .words .now) (a .ledger .now)) ≡ true
 good c = sym (c .before .is-shaped .ensures) ∙ not-false _ (c .if1 .left)
 
-shape : (c : tie.Else1) → let a = c .before .before .before .before .before .args in Shaped (a .handle) (st (a .words .now) (a .ledger .now))
-shape c = let a = c .before .before .before .before .before .args in shaped-says (a .handle) (st (a .words .now) (a .ledger .now)) (rw (good c) tt)
+shape : (c : tie.Else1)
+    → let a = c .before .before .before .before .before .args in Shaped (a .handle) (st (a .words .now) (a .ledger .now))
+shape c =
+    let a = c .before .before .before .before .before .args in
+    shaped-says (a .handle) (st (a .words .now) (a .ledger .now)) (rw (good c) tt)
 
 is-shaped-requires : tie.Need-is-shaped-requires
 is-shaped-requires c κs = omega arith
@@ -30,7 +38,8 @@ is-shaped-requires c κs = omega arith
 returns : tie.Need-returns
 returns c =
     let a = c .before .before .before .before .before .args in
-    image-misshaped (a .handle) (st (a .words .now) (a .ledger .now)) (a .k) (a .page .now) (sym (c .before .is-shaped .ensures) ∙ not-true _ (c .if1 .taken))
+    image-misshaped (a .handle) (st (a .words .now) (a .ledger .now)) (a .k) (a .page .now)
+    (sym (c .before .is-shaped .ensures) ∙ not-true _ (c .if1 .taken))
 
 returns-2 : tie.Need-returns-2
 returns-2 c =
@@ -40,7 +49,8 @@ returns-2 c =
 returns-3 : tie.Need-returns-3
 returns-3 c =
     let a = c .before .before .before .before .before .before .before .args in
-    image-short (a .handle) (st (a .words .now) (a .ledger .now)) (a .k) (a .page .now) (good (c .before .before)) (omega arith) (c .if3 .taken)
+    image-short (a .handle) (st (a .words .now) (a .ledger .now)) (a .k) (a .page .now) (good (c .before .before)) (omega arith)
+    (c .if3 .taken)
 
 mul-a : tie.Need-mul-a
 mul-a c = let p = shape (c .before .before) in omega (arith, p .sized)
@@ -68,10 +78,13 @@ same-length c = omega arith
 
 returns-4 : tie.Need-returns-4
 returns-4 c =
-    let a = c .before .before .before .before .before .before .before .before .before .before .before .before .args in
+    let a = start-of-returns-4 c .args in
     let whole : 512 * a .k + 512 - 512 * a .k ≡ 512 = omega arith in
     ap (imaged Accepted) (c .before .before .write-to .ensures ∙ ap (λ (n : ℕ). imageOf (partOf (512 * a .k) n (a .words .now))) whole)
-    ∙ image-written (a .handle) (st (a .words .now) (a .ledger .now)) (a .k) (a .page .now) (good (c .before .before .before .before .before .before .before)) (omega arith) (c .before .before .before .before .before .if3 .left)
+    ∙ image-written (a .handle) (st (a .words .now) (a .ledger .now)) (a .k) (a .page .now)
+    (good (c .before .before .before .before .before .before .before))
+    (omega arith)
+    (c .before .before .before .before .before .if3 .left)
 
 pub page-image-spec : {M : Type 1} → statement M
 page-image-spec =

@@ -12,7 +12,8 @@ use Rattle.image_bytes.proofs.put_word.Reads as reads
 use Rattle.image_bytes.proofs.put_word.Lts as lts
 
 abbrev Inv-loop : tie.InvT-loop
-Inv-loop bytes₀ word rest₀ i₀ bytes rest i = (i ≤ 8) × (length bytes ≡ 8) × (bytes ≡ take i (bytesOf 8 word) ++ drop i bytes₀) × (rest ≡ divided i word)
+Inv-loop bytes₀ word rest₀ i₀ bytes rest i =
+    (i ≤ 8) × (length bytes ≡ 8) × (bytes ≡ take i (bytesOf 8 word) ++ drop i bytes₀) × (rest ≡ divided i word)
 
 abbrev μ-loop : tie.MeasureT-loop
 μ-loop bytes₀ word rest₀ i₀ bytes rest i = 8 - i
@@ -41,7 +42,8 @@ loop-again c =
     let all = bytesOf 8 (a .word) in (
       omega arith,
       length-set (at .loop .bytes) i _ ∙ at .loop .inv .1,
-      ap₂ (λ (l : List ℕ) (x : ℕ). set l i x) (at .loop .inv .2) (ap (λ (x : ℕ). x % 256) (at .loop .inv .3) ∙ sym (bytes-at 8 (a .word) i (omega arith)))
+      ap₂ (λ (l : List ℕ) (x : ℕ). set l i x) (at .loop .inv .2)
+          (ap (λ (x : ℕ). x % 256) (at .loop .inv .3) ∙ sym (bytes-at 8 (a .word) i (omega arith)))
           ∙ write-more (a .bytes .now) all i 0 (omega arith) (omega (arith, length-bytes 8 (a .word))),
       ap (λ (x : ℕ). x / 256) (at .loop .inv .3) ∙ sym (divided-more i (a .word)),
     )

@@ -60,7 +60,9 @@ loop-again c =
     let eight = length-bytes 8 (getD (a .table .now) i 0) in
     let wrote = c .before .before .put-word in
     let back : putMid (8 * i) (8 * i + 8 - 8 * i) (at .loop .page) (wrote .last .0) ≡ putPart (8 * i) bytes (at .loop .page)
-    = ap (putMid (8 * i) (8 * i + 8 - 8 * i) (at .loop .page)) (wrote .ensures) ∙ part-back (8 * i) (8 * i + 8) (at .loop .page) bytes (omega arith) (omega arith) in (
+    =
+    ap (putMid (8 * i) (8 * i + 8 - 8 * i) (at .loop .page)) (wrote .ensures)
+    ∙ part-back (8 * i) (8 * i + 8) (at .loop .page) bytes (omega arith) (omega arith) in (
       omega arith,
       ap length back ∙ length-put (8 * i) bytes (at .loop .page) (omega arith) ∙ at .loop .inv .1,
       back ∙ ap (putPart (8 * i) bytes) (at .loop .inv .2) ∙ imaged-more i (a .table .now) (a .page .now) (omega arith) (omega arith),
@@ -74,7 +76,8 @@ returns c =
     let at = c .before in
     let a = c .before .before .before .before .args in
     let all : at .loop .i ≡ length (a .table .now) = omega arith in
-    at .loop .inv .2 ∙ ap (λ (x : ℕ). imagedTo x (a .table .now) (a .page .now)) all ∙ imaged-all (a .table .now) (a .page .now) (c .before .before .before .before .pre)
+    at .loop .inv .2 ∙ ap (λ (x : ℕ). imagedTo x (a .table .now) (a .page .now)) all
+    ∙ imaged-all (a .table .now) (a .page .now) (c .before .before .before .before .pre)
 
 pub write-to-spec : {M : Type 1} → statement M
 write-to-spec =

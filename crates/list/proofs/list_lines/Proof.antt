@@ -16,7 +16,8 @@ use Rattle.list_lines.proofs.count_lines.Reads as count-lines-reads
 use Rattle.list_lines.proofs.visit_range.Reads as visit-range-reads
 
 -- no more than 2^48 lines
-few : (c : tie.Start) → let a = c .args in length (linesFrom (a .handle .base .0) (a .tables) (a .words .now) (3 - a .handle .level) 0 (a .region)) ≤ 2 ^ 48
+few : (c : tie.Start)
+    → let a = c .args in length (linesFrom (a .handle .base .0) (a .tables) (a .words .now) (3 - a .handle .level) 0 (a .region)) ≤ 2 ^ 48
 few c =
     let a = c .args in
     let b = lines-bound (a .handle .base .0) (a .tables) (a .words .now) (3 - a .handle .level) 0 (a .region) in
@@ -32,7 +33,8 @@ returns : tie.Need-returns
 returns c =
     let a = c .before .before .before .before .args in
     ap (λ (x : ℕ). listing (Refused (Short (4 * x))) (a .list .now)) (c .before .count-lines .ensures)
-    ∙ list-short (linesFrom (a .handle .base .0) (a .tables) (a .words .now) (3 - a .handle .level) 0 (a .region)) (a .list .now) (omega (arith, c .before .count-lines .ensures))
+    ∙ list-short (linesFrom (a .handle .base .0) (a .tables) (a .words .now) (3 - a .handle .level) 0 (a .region)) (a .list .now)
+    (omega (arith, c .before .count-lines .ensures))
 
 visit-range-requires : tie.Need-visit-range-requires
 visit-range-requires c κs = (omega arith, omega arith, omega arith, omega (arith, c .before .before .count-lines .ensures))
@@ -44,8 +46,10 @@ returns-2 : tie.Need-returns-2
 unfolding writeLines
 returns-2 c =
     let a = c .before .before .before .before .before .before .before .before .args in
-    ap₂ (λ (x : ℕ) (l : List ℕ). listing (Lines x) l) (c .before .before .before .before .before .count-lines .ensures) (ap (λ (x : Written). x .list) (c .before .before .visit-range .ensures))
-    ∙ list-written (linesFrom (a .handle .base .0) (a .tables) (a .words .now) (3 - a .handle .level) 0 (a .region)) (a .list .now) (omega (arith, c .before .before .before .before .before .count-lines .ensures))
+    ap₂ (λ (x : ℕ) (l : List ℕ). listing (Lines x) l) (c .before .before .before .before .before .count-lines .ensures)
+    (ap (λ (x : Written). x .list) (c .before .before .visit-range .ensures))
+    ∙ list-written (linesFrom (a .handle .base .0) (a .tables) (a .words .now) (3 - a .handle .level) 0 (a .region)) (a .list .now)
+    (omega (arith, c .before .before .before .before .before .count-lines .ensures))
 
 pub list-lines-spec : {M : Type 1} → statement M
 list-lines-spec =

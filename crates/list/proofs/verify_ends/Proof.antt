@@ -14,7 +14,9 @@ end-fits-requires : tie.Need-end-fits-requires
 end-fits-requires c κs = tt
 
 returns : tie.Need-returns
-returns c = let a = c .before .before .args in ends-past (a .handle) (a .start) (a .end) (sym (c .before .end-fits .ensures) ∙ not-true _ (c .if1 .taken))
+returns c =
+    let a = c .before .before .args in
+    ends-past (a .handle) (a .start) (a .end) (sym (c .before .end-fits .ensures) ∙ not-true _ (c .if1 .taken))
 
 new-requires : tie.Need-new-requires
 new-requires c κs = tt
@@ -25,7 +27,9 @@ verify-region-requires c κs = tt
 returns-2 : tie.Need-returns-2
 returns-2 c =
     let a = c .before .before .before .before .args in
-    c .verify-region .ensures ∙ ends-fit (a .handle) (a .start) (a .end) (sym (c .before .before .before .end-fits .ensures) ∙ not-false _ (c .before .before .if1 .left)) (c .before .new .ensures)
+    c .verify-region .ensures
+    ∙ ends-fit (a .handle) (a .start) (a .end)
+    (sym (c .before .before .before .end-fits .ensures) ∙ not-false _ (c .before .before .if1 .left)) (c .before .new .ensures)
 
 pub verify-ends-spec : {M : Type 1} → statement M
 verify-ends-spec = tie.close (tie.spec end-fits-requires returns new-requires verify-region-requires returns-2)

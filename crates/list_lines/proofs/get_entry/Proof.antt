@@ -30,7 +30,8 @@ mul-result-2 : tie.Need-mul-result-2
 mul-result-2 c = let a = c .before .before .args in let h = slot-below (a .level) (a .va .0) in omega (arith, slot c)
 
 shared-slice-read-result : tie.Need-shared-slice-read-result
-shared-slice-read-result c = let a = c .before .before .before .args in let h = slot-below (a .level) (a .va .0) in omega (arith, slot (c .before))
+shared-slice-read-result c =
+    let a = c .before .before .before .args in let h = slot-below (a .level) (a .va .0) in omega (arith, slot (c .before))
 
 returns : tie.Need-returns
 unfolding fetch

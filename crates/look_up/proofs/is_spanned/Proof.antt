@@ -26,12 +26,14 @@ sub-result c = omega (arith, c .before .before .granularity-at-level .ensures, s
 returns : tie.Need-returns
 returns c =
     let a = c .before .before .before .before .args in
-    span-lower (a .range) (a .level) (a .va .0) _ (c .before .enum-told .given .1) (c .before .before .before .granularity-at-level .ensures)
+    span-lower (a .range) (a .level) (a .va .0) _ (c .before .enum-told .given .1)
+    (c .before .before .before .granularity-at-level .ensures)
 
 returns-2 : tie.Need-returns-2
 returns-2 c =
     let a = c .before .before .before .before .args in
-    span-upper (a .range) (a .level) (a .va .0) _ (c .before .enum-told2 .given .1) (c .before .before .before .granularity-at-level .ensures)
+    span-upper (a .range) (a .level) (a .va .0) _ (c .before .enum-told2 .given .1)
+    (c .before .before .before .granularity-at-level .ensures)
 
 pub is-spanned-spec : {M : Type 1} → statement M
 is-spanned-spec =

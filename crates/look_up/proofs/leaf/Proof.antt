@@ -32,17 +32,20 @@ frame-requires-2 c κs = search needs
 returns : tie.Need-returns
 returns c =
     let a = c .before .before .before .before .args in
-    leaf-hole (a .level) (a .word) (a .va .0) (c .before .before .before .plain-flags .ensures) (sym (c .before .before .kind-of .ensures) ∙ c .enum-told .given .1)
+    leaf-hole (a .level) (a .word) (a .va .0) (c .before .before .before .plain-flags .ensures)
+    (sym (c .before .before .kind-of .ensures) ∙ c .enum-told .given .1)
 
 returns-2 : tie.Need-returns-2
 returns-2 c =
     let a = c .before .before .before .before .before .args in
-    leaf-block (a .level) (a .word) (a .va .0) (c .before .before .before .before .plain-flags .ensures) (c .frame .ensures) (sym (c .before .before .before .kind-of .ensures) ∙ c .before .enum-told2 .given .1)
+    leaf-block (a .level) (a .word) (a .va .0) (c .before .before .before .before .plain-flags .ensures) (c .frame .ensures)
+    (sym (c .before .before .before .kind-of .ensures) ∙ c .before .enum-told2 .given .1)
 
 returns-3 : tie.Need-returns-3
 returns-3 c =
     let a = c .before .before .before .before .args in
-    leaf-page (a .level) (a .word) (a .va .0) (c .before .before .before .plain-flags .ensures) (c .frame2 .ensures) (both-set _ (a .level) (a .word) (c .before .before .kind-of .ensures) (c .before .match .keys3))
+    leaf-page (a .level) (a .word) (a .va .0) (c .before .before .before .plain-flags .ensures) (c .frame2 .ensures)
+    (both-set _ (a .level) (a .word) (c .before .before .kind-of .ensures) (c .before .match .keys3))
 
 pub leaf-spec : {M : Type 1} → statement M
 leaf-spec =

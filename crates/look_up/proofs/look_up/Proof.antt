@@ -27,7 +27,8 @@ is-shaped-requires c κs = search needs
 returns : tie.Need-returns
 returns c =
     let a = c .before .before .before .before .args in
-    look-misshaped (a .handle) (st (a .words .now) (a .ledger .now)) (a .va .0) (sym (c .before .is-shaped .ensures) ∙ not-true _ (c .if1 .taken))
+    look-misshaped (a .handle) (st (a .words .now) (a .ledger .now)) (a .va .0)
+    (sym (c .before .is-shaped .ensures) ∙ not-true _ (c .if1 .taken))
 
 is-spanned-requires : tie.Need-is-spanned-requires
 is-spanned-requires c κs = search needs
@@ -35,7 +36,8 @@ is-spanned-requires c κs = search needs
 returns-2 : tie.Need-returns-2
 returns-2 c =
     let a = c .before .before .before .before .before .before .args in
-    look-beyond (a .handle) (st (a .words .now) (a .ledger .now)) (a .va .0) (good (c .before .before)) (sym (c .before .is-spanned .ensures) ∙ not-true _ (c .if2 .taken))
+    look-beyond (a .handle) (st (a .words .now) (a .ledger .now)) (a .va .0) (good (c .before .before))
+    (sym (c .before .is-spanned .ensures) ∙ not-true _ (c .if2 .taken))
 
 walk-from-requires : tie.Need-walk-from-requires
 walk-from-requires c κs =

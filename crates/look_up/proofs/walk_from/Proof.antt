@@ -21,7 +21,8 @@ use Rattle.look_up_fields.proofs.slots_of.Reads as slots-of-reads
 abbrev Inv-loop : tie.InvT-loop
 Inv-loop words tables handle va slots level₀ k₀ level k =
     (level ≤ 3) × (k < tables) × (slots ≡ slotsOf (va .0))
-    × (says (va .0) (reachFrom (handle .base .0) tables words (va .0) (3 - level) k) ≡ walk (handle .base .0) tables words (va .0) (handle .level))
+    × (says (va .0) (reachFrom (handle .base .0) tables words (va .0) (3 - level) k)
+    ≡ walk (handle .base .0) tables words (va .0) (handle .level))
 
 abbrev μ-loop : tie.MeasureT-loop
 μ-loop words tables handle va slots level₀ k₀ level k = 4 - level
@@ -39,7 +40,9 @@ slot c =
 word : (c : tie.At-loop Inv-loop μ-loop)
     → getD (c .before .before .before .args .words .now) (512 * c .loop .k + getD (c .before .slots-of .result) (c .loop .level) 0) 0
     ≡ fetch (c .before .before .before .args .words .now) (c .before .before .before .args .va .0) (c .loop .k) (c .loop .level)
-word c = fetch-is (c .before .before .before .args .words .now) (c .before .before .before .args .va .0) (c .loop .k) (c .loop .level) (c .loop .inv .2) (c .loop .inv .0)
+word c =
+    let a = c .before .before .before .args in
+    fetch-is (a .words .now) (a .va .0) (c .loop .k) (c .loop .level) (c .loop .inv .2) (c .loop .inv .0)
 
 slots-of-requires : tie.Need-slots-of-requires Inv-loop μ-loop
 slots-of-requires c κs = omega arith
@@ -83,8 +86,10 @@ unfolding answer says
 returns c =
     let at = c .before .before .before .before .before in
     let a = at .before .before .before .args in
-    ap answer (sym (ap (says (a .va .0)) (reach-outside (a .handle .base .0) (a .tables) (a .words .now) (a .va .0) (at .loop .k) (at .loop .level) (at .loop .inv .0) (word at)
-    (sym (c .before .before .before .subtable .ensures) ∙ c .enum-told .given .1))) ∙ at .loop .inv .3)
+    let l = at .loop in
+    let out = sym (c .before .before .before .subtable .ensures) ∙ c .enum-told .given .1 in
+    let reached = reach-outside (a .handle .base .0) (a .tables) (a .words .now) (a .va .0) (l .k) (l .level) (l .inv .0) (word at) out in
+    ap answer (sym (ap (says (a .va .0)) reached) ∙ l .inv .3)
 
 leaf-requires : tie.Need-leaf-requires Inv-loop μ-loop
 leaf-requires c κs = omega arith
@@ -93,9 +98,11 @@ returns-2 : tie.Need-returns-2 Inv-loop μ-loop
 returns-2 c =
     let at = c .before .before .before .before .before in
     let a = at .before .before .before .args in
-    c .leaf .ensures
-    ∙ ap answer (sym (ap (says (a .va .0)) (reach-leaf (a .handle .base .0) (a .tables) (a .words .now) (a .va .0) (at .loop .k) (at .loop .level) (at .loop .inv .0) (word at)
-    (sym (c .before .before .before .subtable .ensures) ∙ is-leaf _ (c .before .before .match .keys2) (c .before .match2 .keys2)))) ∙ at .loop .inv .3)
+    let l = at .loop in
+    let sub = c .before .before .before .subtable .ensures in
+    let leaf = sym sub ∙ is-leaf _ (c .before .before .match .keys2) (c .before .match2 .keys2) in
+    let reached = reach-leaf (a .handle .base .0) (a .tables) (a .words .now) (a .va .0) (l .k) (l .level) (l .inv .0) (word at) leaf in
+    c .leaf .ensures ∙ ap answer (sym (ap (says (a .va .0)) reached) ∙ l .inv .3)
 
 add-level : tie.Need-add-level Inv-loop μ-loop
 add-level c = omega (arith, c .before .before .before .before .before .loop .inv .0)
@@ -107,13 +114,11 @@ loop-again : tie.Need-loop-again Inv-loop μ-loop
 loop-again c =
     let at = c .before .before .before .before .before in
     let a = at .before .before .before .args in
+    let l = at .loop in
     let table = sym (c .before .before .before .subtable .ensures) ∙ c .before .kind .given .1 in
-    let found = sub-found (a .handle .base .0) (a .tables) (at .loop .level) _ _ table in (
-      omega (arith, found .high),
-      found .below,
-      at .loop .inv .2,
-      sym (ap (says (a .va .0)) (reach-table (a .handle .base .0) (a .tables) (a .words .now) (a .va .0) (at .loop .k) (at .loop .level) (at .loop .inv .0) (word at) _ table)) ∙ at .loop .inv .3,
-    )
+    let found = sub-found (a .handle .base .0) (a .tables) (l .level) _ _ table in
+    let reached = reach-table (a .handle .base .0) (a .tables) (a .words .now) (a .va .0) (l .k) (l .level) (l .inv .0) (word at) _ table in
+    (omega (arith, found .high), found .below, l .inv .2, sym (ap (says (a .va .0)) reached) ∙ l .inv .3)
 
 pub walk-from-spec : {M : Type 1} → statement M
 walk-from-spec =

@@ -42,7 +42,8 @@ add-t11 c =
 returns : tie.Need-returns
 returns c =
     let a = c .before .before .before .args in
-    ap₂ (λ (x g : ℕ). x - bitAnd x (g - 1) + (bitAnd (a .va .0) (g - 1) - a .va .0 % 4096)) (mask-address (a .word)) (c .before .before .granularity-at-level .ensures)
+    ap₂ (λ (x g : ℕ). x - bitAnd x (g - 1) + (bitAnd (a .va .0) (g - 1) - a .va .0 % 4096)) (mask-address (a .word))
+    (c .before .before .granularity-at-level .ensures)
     ∙ frame-masks (a .level) (a .word) (a .va .0)
 
 pub frame-spec : {M : Type 1} → statement M

@@ -19,9 +19,17 @@ use Rattle.pool_handle.proofs.is_shaped.Reads as is-shaped-reads
 use Rattle.pool_zero.proofs.zero_numbers.Reads as zero-numbers-reads
 use Rattle.pool_zero.proofs.zero_words.Reads as zero-words-reads
 
+-- the start of the function, seen from its last return
+abbrev start-of-returns-2 : tie.After-struct-known → tie.Start
+start-of-returns-2 c =
+    c .before .before .before .before .before .before .before .before .before .before .before .before .before .before .before
+
 -- past the test the shape is known
-shape : (c : tie.Else1) → let a = c .before .before .before .before .before .before .args in Shaped (a .handle) (st (a .words .now) (a .ledger .now))
-shape c = let a = c .before .before .before .before .before .before .args in shaped-says (a .handle) (st (a .words .now) (a .ledger .now)) (rw (sym (c .before .is-shaped .ensures) ∙ not-false _ (c .if1 .left)) tt)
+shape : (c : tie.Else1)
+    → let a = c .before .before .before .before .before .before .args in Shaped (a .handle) (st (a .words .now) (a .ledger .now))
+shape c =
+    let a = c .before .before .before .before .before .before .args in
+    shaped-says (a .handle) (st (a .words .now) (a .ledger .now)) (rw (sym (c .before .is-shaped .ensures) ∙ not-false _ (c .if1 .left)) tt)
 
 is-shaped-requires : tie.Need-is-shaped-requires
 is-shaped-requires c κs = omega arith
@@ -33,7 +41,9 @@ same-length-2 : tie.Need-same-length-2
 same-length-2 c = omega arith
 
 returns : tie.Need-returns
-returns c = let a = c .before .before .before .before .before .before .args in make-refused (a .handle) (st (a .words .now) (a .ledger .now)) (sym (c .before .is-shaped .ensures) ∙ not-true _ (c .if1 .taken))
+returns c =
+    let a = c .before .before .before .before .before .before .args in
+    make-refused (a .handle) (st (a .words .now) (a .ledger .now)) (sym (c .before .is-shaped .ensures) ∙ not-true _ (c .if1 .taken))
 
 zero-words-requires : tie.Need-zero-words-requires
 zero-words-requires c κs = omega arith
@@ -59,9 +69,10 @@ same-length-4 c = search needs
 returns-2 : tie.Need-returns-2
 unfolding fresh rootNumber
 returns-2 c =
-    let a = c .before .before .before .before .before .before .before .before .before .before .before .before .before .before .before .args in
+    let a = start-of-returns-2 c .args in
     let p = c .before .before .before .before .before .before .before .before .before in
-    ap₂ (λ (w l : List ℕ). out Accepted (st w (set l 0 (4 + a .handle .level)))) (c .before .before .before .before .before .before .before .zero-words .ensures) (c .before .before .before .zero-numbers .ensures)
+    ap₂ (λ (w l : List ℕ). out Accepted (st w (set l 0 (4 + a .handle .level))))
+    (c .before .before .before .before .before .before .before .zero-words .ensures) (c .before .before .before .zero-numbers .ensures)
     ∙ make-accepted (a .handle) (st (a .words .now) (a .ledger .now)) (sym (p .before .is-shaped .ensures) ∙ not-false _ (p .if1 .left))
 
 pub make-spec : {M : Type 1} → statement M

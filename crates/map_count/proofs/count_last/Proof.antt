@@ -25,7 +25,8 @@ use Rattle.map_rules.proofs.rule_of.Reads as rule-of-reads
 abbrev Inv-loop : tie.InvT-loop
 Inv-loop words ledger handle k map end at₀ frame₀ count₀ at frame count =
     (at ≤ map .region .end .0) × (at % 4096 ≡ 0) × (frame % 4096 ≡ 0) × (frame + (map .region .end .0 - at) ≤ 2 ^ 48)
-    × (count + sumChunks 2 (countAt handle (st words ledger) k 2) (chunkMap map (region at (map .region .end .0)) frame) ≡ sumChunks 2 (countAt handle (st words ledger) k 2) map)
+    × (count + sumChunks 2 (countAt handle (st words ledger) k 2) (chunkMap map (region at (map .region .end .0)) frame)
+    ≡ sumChunks 2 (countAt handle (st words ledger) k 2) map)
 
 abbrev μ-loop : tie.MeasureT-loop
 μ-loop words ledger handle k map end at₀ frame₀ count₀ at frame count = map .region .end .0 - at
@@ -34,6 +35,10 @@ abbrev μ-loop : tie.MeasureT-loop
 abbrev Place : Type 0
 Place = tie.After-chunk-of Inv-loop μ-loop
 
+-- the start of the function, seen from a chunk
+abbrev start-of-chunk : Place → tie.Start Inv-loop μ-loop
+start-of-chunk c = c .before .before .before .before .before .before .before
+
 -- the chunk's own map, and what remains after it
 abbrev chunkOf : Place → Map
 chunkOf c = c .chunk-of .result
@@ -41,15 +46,19 @@ chunkOf c = c .chunk-of .result
 abbrev leftOf : Place → Map
 leftOf c =
     let m = c .before .before .before .before .before .before .before .args .map in
-    chunkMap m (region (c .before .before .chunk-end .result) (m .region .end .0)) (c .before .before .before .before .loop .frame + (c .before .before .chunk-end .result - c .before .before .before .before .loop .at))
+    chunkMap m (region (c .before .before .chunk-end .result) (m .region .end .0))
+    (c .before .before .before .before .loop .frame
+    + (c .before .before .chunk-end .result - c .before .before .before .before .loop .at))
 
 -- what one chunk counts
 abbrev counts : Place → Map → ℕ
-counts c = let a = c .before .before .before .before .before .before .before .args in countAt (a .handle) (st (a .words .now) (a .ledger .now)) (a .k) 2
+counts c =
+    let a = c .before .before .before .before .before .before .before .args in
+    countAt (a .handle) (st (a .words .now) (a .ledger .now)) (a .k) 2
 
 record Facts (c : Place) : Type 0 where
   above : c .before .before .before .before .loop .at < c .before .before .chunk-end .result
-  under : c .before .before .chunk-end .result ≤ c .before .before .before .before .before .before .before .args .map .region .end .0
+  under : c .before .before .chunk-end .result ≤ start-of-chunk c .args .map .region .end .0
   paged : c .before .before .chunk-end .result % 4096 ≡ 0
   framed : leftOf c .frame .0 % 4096 ≡ 0
   room : leftOf c .frame .0 + (leftOf c .region .end .0 - leftOf c .region .start .0) ≤ 2 ^ 48
@@ -57,13 +66,14 @@ record Facts (c : Place) : Type 0 where
   index : c .before .entry-index .result ≡ entryIndex 2 (chunkOf c .region .start .0)
   fit : Fit (chunkOf c)
   some : chunkOf c .region .start .0 < chunkOf c .region .end .0
-  next : c .before .before .before .before .loop .count + (counts c (chunkOf c) + sumChunks 2 (counts c) (leftOf c)) ≡ sumChunks 2 (counts c) (c .before .before .before .before .before .before .before .args .map)
-  most : sumChunks 2 (counts c) (c .before .before .before .before .before .before .before .args .map) ≤ 3 * 2 ^ 48
+  next : c .before .before .before .before .loop .count + (counts c (chunkOf c) + sumChunks 2 (counts c) (leftOf c))
+      ≡ sumChunks 2 (counts c) (start-of-chunk c .args .map)
+  most : sumChunks 2 (counts c) (start-of-chunk c .args .map) ≤ 3 * 2 ^ 48
 
 facts : (c : Place) → Facts c
 unfolding entryIndex
 facts c =
-    let start = c .before .before .before .before .before .before .before in
+    let start = start-of-chunk c in
     let a = start .args in
     let p = start .pre in
     let at = c .before .before .before .before in
@@ -80,24 +90,43 @@ facts c =
       under = omega (arith, fits .1);
       paged = ap (λ (x : ℕ). x % 4096) stop ∙ chunk-paged 2 (at .loop .at) (a .map .region .end .0) (p .2 .to);
       framed = ap (λ (x : ℕ). (at .loop .frame + (x - at .loop .at)) % 4096) stop
-          ∙ rest-paged 2 (at .loop .at) (a .map .region .end .0) (at .loop .frame) (a .map) (p .2) low (inv .1) (p .2 .to) (inv .2) (inv .3);
+          ∙ rest-paged 2 (at .loop .at) (a .map .region .end .0) (at .loop .frame) (a .map) (p .2) low (inv .1) (p .2 .to) (inv .2)
+          (inv .3);
       room = omega (arith, fits .0, fits .1, inv .3);
       slot = omega (arith, c .before .entry-index .ensures);
       index = c .before .entry-index .ensures ∙ ap (λ (m : Map). entryIndex 2 (m .region .start .0)) (sym chunk);
       some = subst⁻¹ (λ (m : Map). m .region .start .0 < m .region .end .0) chunk above;
       fit = subst⁻¹ Fit chunk (subst⁻¹ (λ (x : ℕ). Fit (chunkMap (a .map) (region (at .loop .at) x) (at .loop .frame))) stop
-          (chunk-fit 2 (at .loop .at) (a .map .region .end .0) (at .loop .frame) (a .map) (p .2) low (inv .1) (p .2 .to) (inv .2) (inv .3)));
+          (chunk-fit 2 (at .loop .at) (a .map .region .end .0) (at .loop .frame) (a .map) (p .2) low (inv .1) (p .2 .to) (inv .2)
+          (inv .3)));
       next =
           ap (λ (m : Map). at .loop .count + (f m + sumChunks 2 f (leftOf c))) chunk
-          ∙ ap (λ (x : ℕ). at .loop .count + (f (chunkMap (a .map) (region (at .loop .at) x) (at .loop .frame)) + sumChunks 2 f (chunkMap (a .map) (region x (a .map .region .end .0)) (at .loop .frame + (x - at .loop .at))))) stop
-          ∙ ap (λ (x : ℕ). at .loop .count + x) (sym (sum-first 2 f (chunkMap (a .map) (region (at .loop .at) (a .map .region .end .0)) (at .loop .frame)) low))
+          ∙ ap (λ (x : ℕ). at .loop .count
+          + (f (chunkMap (a .map) (region (at .loop .at) x) (at .loop .frame))
+          + sumChunks 2 f (chunkMap (a .map) (region x (a .map .region .end .0)) (at .loop .frame + (x - at .loop .at))))) stop
+          ∙ ap (λ (x : ℕ). at .loop .count + x)
+          (sym (sum-first 2 f (chunkMap (a .map) (region (at .loop .at) (a .map .region .end .0)) (at .loop .frame)) low))
           ∙ inv .4;
       most = omega (arith, count-fit (a .handle) s (a .k) 2 (a .map) (omega arith), p .2 .some, p .2 .room);
     }
 
 -- the chunk's part, where it is what the code adds: the sum that is left after it
-counted : (c : Place) (n : ℕ) → counts c (chunkOf c) ≡ n → c .before .before .before .before .loop .count + n + sumChunks 2 (counts c) (leftOf c) ≡ sumChunks 2 (counts c) (c .before .before .before .before .before .before .before .args .map)
+counted : (c : Place) (n : ℕ) → counts c (chunkOf c) ≡ n
+    → c .before .before .before .before .loop .count + n + sumChunks 2 (counts c) (leftOf c)
+    ≡ sumChunks 2 (counts c) (start-of-chunk c .args .map)
 counted c n e = omega (arith, facts c .next)
+
+-- one new table where the entry is a leaf and the rule leads down
+down-here : (c : tie.After-enum-told2 Inv-loop μ-loop)
+    → let place = c .before .before .before .before .before .before .before in counts place (chunkOf place) ≡ 1
+down-here c =
+    let place = c .before .before .before .before .before .before .before in
+    let a = start-of-chunk place .args in
+    last-down (a .handle) (st (a .words .now) (a .ledger .now)) (a .k) (chunkOf place) (facts place .index)
+    (c .before .before .before .before .before .subtable .ensures)
+    (c .before .before .before .enum-told .given .1)
+    (c .before .before .rule-of .ensures)
+    (c .enum-told2 .given .1)
 
 loop-holds : tie.Need-loop-holds Inv-loop μ-loop
 loop-holds c = let p = c .before .before .pre in (p .2 .some, p .2 .from, p .2 .frame, p .2 .room, omega arith)
@@ -118,16 +147,16 @@ add-frame : tie.Need-add-frame Inv-loop μ-loop
 add-frame c = let f = facts c in omega (arith, f .above, f .room)
 
 mul-word : tie.Need-mul-word Inv-loop μ-loop
-mul-word c = omega (arith, facts c .slot, c .before .before .before .before .before .before .before .pre .0, c .before .before .before .before .before .before .before .pre .1)
+mul-word c = omega (arith, facts c .slot, start-of-chunk c .pre .0, start-of-chunk c .pre .1)
 
 add-word : tie.Need-add-word Inv-loop μ-loop
-add-word c = omega (arith, facts c .slot, c .before .before .before .before .before .before .before .pre .0, c .before .before .before .before .before .before .before .pre .1)
+add-word c = omega (arith, facts c .slot, start-of-chunk c .pre .0, start-of-chunk c .pre .1)
 
 mul-word-2 : tie.Need-mul-word-2 Inv-loop μ-loop
-mul-word-2 c = omega (arith, facts c .slot, c .before .before .before .before .before .before .before .pre .0, c .before .before .before .before .before .before .before .pre .1)
+mul-word-2 c = omega (arith, facts c .slot, start-of-chunk c .pre .0, start-of-chunk c .pre .1)
 
 shared-slice-read-word : tie.Need-shared-slice-read-word Inv-loop μ-loop
-shared-slice-read-word c = omega (arith, facts (c .before) .slot, c .before .before .before .before .before .before .before .before .pre .0, c .before .before .before .before .before .before .before .before .pre .1)
+shared-slice-read-word c = omega (arith, facts (c .before) .slot, start-of-chunk (c .before) .pre .0, start-of-chunk (c .before) .pre .1)
 
 subtable-requires : tie.Need-subtable-requires Inv-loop μ-loop
 subtable-requires c κs = tt
@@ -142,8 +171,10 @@ loop-again : tie.Need-loop-again Inv-loop μ-loop
 loop-again c =
     let place = c .before .before .before in
     let f = facts place in
-    let a = c .before .before .before .before .before .before .before .before .before .before .args in
-    let here = last-table (a .handle) (st (a .words .now) (a .ledger .now)) (a .k) (chunkOf place) (f .index) (c .before .subtable .ensures) (no-leaf (c .before .subtable .result) (c .match .keys2)) in
+    let a = start-of-chunk place .args in
+    let sub = c .before .subtable in
+    let other = no-leaf (sub .result) (c .match .keys2) in
+    let here = last-table (a .handle) (st (a .words .now) (a .ledger .now)) (a .k) (chunkOf place) (f .index) (sub .ensures) other in
     (f .under, f .paged, f .framed, f .room, omega (arith, counted place 0 here))
 
 rule-of-requires : tie.Need-rule-of-requires Inv-loop μ-loop
@@ -159,17 +190,17 @@ loop-again-2 : tie.Need-loop-again-2 Inv-loop μ-loop
 loop-again-2 c =
     let place = c .before .before .before .before .before .before in
     let f = facts place in
-    let a = c .before .before .before .before .before .before .before .before .before .before .before .before .before .args in
-    let here = last-none (a .handle) (st (a .words .now) (a .ledger .now)) (a .k) (chunkOf place) (f .index) (c .before .before .before .before .subtable .ensures) (c .before .before .enum-told .given .1) (c .before .rule-of .ensures) (no-down (c .before .rule-of .result) (c .match2 .keys2)) in
+    let a = start-of-chunk place .args in
+    let rule = c .before .rule-of in
+    let none = no-down (rule .result) (c .match2 .keys2) in
+    let here = last-none (a .handle) (st (a .words .now) (a .ledger .now)) (a .k) (chunkOf place) (f .index)
+    (c .before .before .before .before .subtable .ensures) (c .before .before .enum-told .given .1) (rule .ensures) none in
     (f .under, f .paged, f .framed, f .room, omega (arith, counted place 0 here))
 
 add-count : tie.Need-add-count Inv-loop μ-loop
 add-count c =
     let place = c .before .before .before .before .before .before .before in
-    let f = facts place in
-    let a = c .before .before .before .before .before .before .before .before .before .before .before .before .before .before .args in
-    let here = last-down (a .handle) (st (a .words .now) (a .ledger .now)) (a .k) (chunkOf place) (f .index) (c .before .before .before .before .before .subtable .ensures) (c .before .before .before .enum-told .given .1) (c .before .before .rule-of .ensures) (c .enum-told2 .given .1) in
-    omega (arith, counted place 1 here, f .most)
+    omega (arith, counted place 1 (down-here c), facts place .most)
 
 loop-less-3 : tie.Need-loop-less-3 Inv-loop μ-loop
 loop-less-3 c = let f = facts (c .before .before .before .before .before .before .before) in omega (arith, f .above, f .under)
@@ -178,16 +209,15 @@ loop-again-3 : tie.Need-loop-again-3 Inv-loop μ-loop
 loop-again-3 c =
     let place = c .before .before .before .before .before .before .before in
     let f = facts place in
-    let a = c .before .before .before .before .before .before .before .before .before .before .before .before .before .before .args in
-    let here = last-down (a .handle) (st (a .words .now) (a .ledger .now)) (a .k) (chunkOf place) (f .index) (c .before .before .before .before .before .subtable .ensures) (c .before .before .before .enum-told .given .1) (c .before .before .rule-of .ensures) (c .enum-told2 .given .1) in
-    (f .under, f .paged, f .framed, f .room, omega (arith, counted place 1 here))
+    (f .under, f .paged, f .framed, f .room, omega (arith, counted place 1 (down-here c)))
 
 returns : tie.Need-returns Inv-loop μ-loop
 returns c =
     let at = c .before in
     let a = c .before .before .before .before .args in
     let s = st (a .words .now) (a .ledger .now) in
-    let none = sum-none 2 (countAt (a .handle) s (a .k) 2) (chunkMap (a .map) (region (at .loop .at) (a .map .region .end .0)) (at .loop .frame)) (omega arith) in
+    let none = sum-none 2 (countAt (a .handle) s (a .k) 2)
+    (chunkMap (a .map) (region (at .loop .at) (a .map .region .end .0)) (at .loop .frame)) (omega arith) in
     let all = closed-open (a .handle) s (a .k) 2 (a .map) (omega arith) in
     omega (arith, at .loop .inv .4)
 

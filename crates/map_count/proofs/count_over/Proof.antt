@@ -18,13 +18,16 @@ count-most-requires c κs = let f = c .before .before .pre .3 in omega (arith, f
 returns : tie.Need-returns
 returns c =
     let a = c .before .before .before .before .args in
-    over-none (a .free) _ (let m = closed-met (3 - a .handle .level) (a .handle) (st (a .words .now) (a .ledger .now)) 0 (a .map) (omega arith) in omega (arith, c .before .count-most .ensures))
+    over-none (a .free) _
+    (let m = closed-met (3 - a .handle .level) (a .handle) (st (a .words .now) (a .ledger .now)) 0 (a .map) (omega arith) in
+    omega (arith, c .before .count-most .ensures))
 
 count-new-requires : tie.Need-count-new-requires
 count-new-requires c κs = c .before .before .before .before .pre
 
 returns-2 : tie.Need-returns-2
-returns-2 c = let a = c .before .before .before .before .before .before .args in over-none (a .free) _ (omega (arith, c .before .count-new .ensures))
+returns-2 c =
+    let a = c .before .before .before .before .before .before .args in over-none (a .free) _ (omega (arith, c .before .count-new .ensures))
 
 returns-3 : tie.Need-returns-3
 returns-3 c =

@@ -15,9 +15,9 @@ use Rattle.map_count_leaf.proofs.Tags.{no-down}
 use Prim.Native.Nat.{ℕ, _<_}
 use borrow.Fn.Kinds.{In}
 use borrow.Fn.PlainCycle.{Measures, is, falls, and}
-use Rattle.map_count_leaf.proofs.count_leaf.Reads as count-leaf
-use Rattle.map_count_leaf.proofs.count_leaf.Kinds as count-leaf-kinds
-use Rattle.map_count_leaf.proofs.+count_leaf.Lts-count_leaf as count-leaf-lts
+use Rattle.map_count_leaf.proofs.count_leaf.Reads as reads
+use Rattle.map_count_leaf.proofs.count_leaf.Kinds as kinds
+use Rattle.map_count_leaf.proofs.+count_leaf.Lts-count_leaf as lts
 use Rattle.map_count_leaf.proofs.count_rest.Reads as count-rest-reads
 use Rattle.map_count_leaf.proofs.part_of.Reads as part-of-reads
 use Rattle.map_rules.proofs.chunk_of.Reads as chunk-of-reads
@@ -26,158 +26,211 @@ use Rattle.address_slot.proofs.chunk_end.Reads as chunk-end-reads
 use Rattle.map_count_leaf.proofs.+count_leaf.{statement}
 use Rattle.map_count_leaf.proofs.+count_leaf.Tie.{close}
 
-abbrev μ-count-leaf : Measures 0 count-leaf-kinds.ps ℕ
-μ-count-leaf κs a = 3 - a .0
+abbrev μ : Measures 0 kinds.ps ℕ
+μ κs a = 3 - a .0
 
-abbrev count-leaf-at : ℕ → In 0 count-leaf-kinds.ps
-count-leaf-at t =
-    and 0 count-leaf-kinds.ps (is 0 count-leaf-kinds.ps μ-count-leaf t) count-leaf.Pre
+abbrev started : ℕ → In 0 kinds.ps
+started t =
+    and 0 kinds.ps (is 0 kinds.ps μ t) reads.Pre
 
-abbrev count-leaf-below : ℕ → In 0 count-leaf-kinds.ps
-count-leaf-below t =
-    and 0 count-leaf-kinds.ps (falls 0 count-leaf-kinds.ps _<_ μ-count-leaf t) count-leaf.Pre
+abbrev fewer : ℕ → In 0 kinds.ps
+fewer t =
+    and 0 kinds.ps (falls 0 kinds.ps _<_ μ t) reads.Pre
 
-abbrev calls : ℕ → count-leaf-lts.Claims
-calls t = (rule-of-reads.Asked, rule-of-reads.Learnt, chunk-end-reads.Asked, chunk-end-reads.Learnt, chunk-of-reads.Asked, chunk-of-reads.Learnt, part-of-reads.Asked, part-of-reads.Learnt, count-leaf-below t, count-leaf.Post, count-rest-reads.Asked, count-rest-reads.Learnt)
+abbrev calls : ℕ → lts.Claims
+calls t = (
+  rule-of-reads.Asked,
+  rule-of-reads.Learnt,
+  chunk-end-reads.Asked,
+  chunk-end-reads.Learnt,
+  chunk-of-reads.Asked,
+  chunk-of-reads.Learnt,
+  part-of-reads.Asked,
+  part-of-reads.Learnt,
+  fewer t,
+  reads.Post,
+  count-rest-reads.Asked,
+  count-rest-reads.Learnt,
+)
 
 -- after the call that finds where the first chunk below ends
 abbrev Place : ℕ → Type 0
-Place t = count-leaf-lts.After-chunk-end (calls t) (count-leaf-at t) count-leaf.Post
+Place t = lts.After-chunk-end (calls t) (started t) reads.Post
+
+-- the start of the function, seen from the first chunk below
+abbrev start-of-chunk : {t : ℕ} → Place t → lts.Start (calls t) (started t) reads.Post
+start-of-chunk c = c .before .before .before .before .before
 
 -- the first chunk below
 abbrev firstOf : (t : ℕ) → Place t → Map
-firstOf t c = let m = c .before .before .before .before .before .args .map in chunkMap m (region (m .region .start .0) (c .chunk-end .result)) (m .frame .0)
+firstOf t c = let m = start-of-chunk c .args .map in chunkMap m (region (m .region .start .0) (c .chunk-end .result)) (m .frame .0)
 
--- where it ends, and that its map fits
+-- where the first chunk below ends, and that its map fits
 record Facts (t : ℕ) (c : Place t) : Type 0 where
-  fits : (c .before .before .before .before .before .args .map .region .start .0 < c .chunk-end .result) × (c .chunk-end .result ≤ c .before .before .before .before .before .args .map .region .end .0)
+  fits : (start-of-chunk c .args .map .region .start .0 < c .chunk-end .result)
+      × (c .chunk-end .result ≤ start-of-chunk c .args .map .region .end .0)
   fit : Fit (firstOf t c)
-  length : c .before .before .before .before .before .args .map .region .end .0 - c .before .before .before .before .before .args .map .region .start .0 ≤ 2 ^ 48
-  high : c .before .before .before .before .before .args .level < 2
+  length : start-of-chunk c .args .map .region .end .0 - start-of-chunk c .args .map .region .start .0 ≤ 2 ^ 48
+  high : start-of-chunk c .args .level < 2
 
 facts : (t : ℕ) (c : Place t) → Facts t c
 facts t c =
-    let start = c .before .before .before .before .before in
+    let start = start-of-chunk c in
     let a = start .args in
     let p = start .pre .1 in
     let stop = c .chunk-end .ensures in
     let cut = chunk-fits (a .level + 1) (a .map .region .start .0) (a .map .region .end .0) (p .1) in
     record {
       fits = (omega (arith, cut .0), omega (arith, cut .1));
-      fit = subst⁻¹ (λ (x : ℕ). Fit (chunkMap (a .map) (region (a .map .region .start .0) x) (a .map .frame .0))) stop (first-fit (a .level + 1) (a .map) (p .0) (p .1));
+      fit =
+          subst⁻¹ (λ (x : ℕ). Fit (chunkMap (a .map) (region (a .map .region .start .0) x) (a .map .frame .0))) stop
+          (first-fit (a .level + 1) (a .map) (p .0) (p .1));
       length = length-fits (a .level + 1) (a .map) (p .0) (p .1);
       high = omega arith;
     }
 
 -- what the call one level down answers
-below : (t : ℕ) (c : count-leaf-lts.After-count-leaf (calls t) (count-leaf-at t) count-leaf.Post)
-    → c .count-leaf .result ≡ closedLeaf (3 - (c .before .before .before .before .before .before .before .before .before .args .level + 1)) (firstOf t (c .before .before .before .before)) (c .before .part-of .result)
-below t c = c .count-leaf .ensures ∙ ap (λ (m : Map). closedLeaf (3 - (c .before .before .before .before .before .before .before .before .before .args .level + 1)) m (c .before .part-of .result)) (c .before .before .before .chunk-of .ensures)
+below : (t : ℕ) (c : lts.After-count-leaf (calls t) (started t) reads.Post) → let place = c .before .before .before .before in
+    c .count-leaf .result ≡ closedLeaf (3 - (start-of-chunk place .args .level + 1)) (firstOf t place) (c .before .part-of .result)
+below t c =
+    let level = start-of-chunk (c .before .before .before .before) .args .level in
+    let part = c .before .part-of .result in
+    c .count-leaf .ensures ∙ ap (λ (m : Map). closedLeaf (3 - (level + 1)) m part) (c .before .before .before .chunk-of .ensures)
 
-deeper : (t : ℕ) (c : count-leaf-lts.After-count-leaf (calls t) (count-leaf-at t) count-leaf.Post)
-    → let a = c .before .before .before .before .before .before .before .before .before .args in
-    c .count-leaf .result ≡ closedLeaf (3 - (a .level + 1)) (firstChunk (a .level + 1) (a .map)) (childWord (a .level) (a .word) (a .map .region .start .0))
+deeper : (t : ℕ) (c : lts.After-count-leaf (calls t) (started t) reads.Post)
+    → let a = start-of-chunk (c .before .before .before .before) .args in
+    c .count-leaf .result
+    ≡ closedLeaf (3 - (a .level + 1)) (firstChunk (a .level + 1) (a .map)) (childWord (a .level) (a .word) (a .map .region .start .0))
 deeper t c =
-    let a = c .before .before .before .before .before .before .before .before .before .args in
-    below t c
-    ∙ ap₂ (λ (x w : ℕ). closedLeaf (3 - (a .level + 1)) (chunkMap (a .map) (region (a .map .region .start .0) x) (a .map .frame .0)) w) (c .before .before .before .before .chunk-end .ensures) (c .before .part-of .ensures)
+    let place = c .before .before .before .before in
+    let a = start-of-chunk place .args in
+    let first : ℕ → Map = λ x. chunkMap (a .map) (region (a .map .region .start .0) x) (a .map .frame .0) in
+    below t c ∙ ap₂ (λ (x w : ℕ). closedLeaf (3 - (a .level + 1)) (first x) w) (place .chunk-end .ensures) (c .before .part-of .ensures)
 
-deeper-fits : (t : ℕ) (c : count-leaf-lts.After-count-leaf (calls t) (count-leaf-at t) count-leaf.Post) → c .count-leaf .result ≤ 3 * 2 ^ 48
+deeper-fits : (t : ℕ) (c : lts.After-count-leaf (calls t) (started t) reads.Post) → c .count-leaf .result ≤ 3 * 2 ^ 48
 deeper-fits t c =
-    let f = facts t (c .before .before .before .before) in
-    let most = leaf-fit (c .before .before .before .before .before .before .before .before .before .args .level + 1) (firstOf t (c .before .before .before .before)) (c .before .part-of .result) (f .fits .0) in
+    let place = c .before .before .before .before in
+    let f = facts t place in
+    let most = leaf-fit (start-of-chunk place .args .level + 1) (firstOf t place) (c .before .part-of .result) (f .fits .0) in
     omega (arith, below t c, f .fits .0, f .fits .1, f .length)
 
 -- what remains, and its count
 abbrev restOf : (t : ℕ) → Place t → Map
-restOf t c = let m = c .before .before .before .before .before .args .map in chunkMap m (region (c .chunk-end .result) (m .region .end .0)) (m .frame .0 + (c .chunk-end .result - m .region .start .0))
+restOf t c =
+    let m = start-of-chunk c .args .map in
+    chunkMap m (region (c .chunk-end .result) (m .region .end .0)) (m .frame .0 + (c .chunk-end .result - m .region .start .0))
 
-rested : (t : ℕ) (c : count-leaf-lts.After-count-rest (calls t) (count-leaf-at t) count-leaf.Post) → c .count-rest .result ≡ rests (3 - (c .before .before .before .before .before .before .before .before .before .before .args .level + 1)) (restOf t (c .before .before .before .before .before))
-rested t c = c .count-rest .ensures ∙ ap (rests (3 - (c .before .before .before .before .before .before .before .before .before .before .args .level + 1))) (c .before .before .before .chunk-of2 .ensures)
+rested : (t : ℕ) (c : lts.After-count-rest (calls t) (started t) reads.Post) → let place = c .before .before .before .before .before in
+    c .count-rest .result ≡ rests (3 - (start-of-chunk place .args .level + 1)) (restOf t place)
+rested t c =
+    let level = start-of-chunk (c .before .before .before .before .before) .args .level in
+    c .count-rest .ensures ∙ ap (rests (3 - (level + 1))) (c .before .before .before .chunk-of2 .ensures)
 
-count-leaf-rule-of-requires : (t : ℕ) → count-leaf-lts.Need-rule-of-requires (calls t) (count-leaf-at t) count-leaf.Post
-count-leaf-rule-of-requires t c κs = c .pre .1
+rule-of-requires : (t : ℕ) → lts.Need-rule-of-requires (calls t) (started t) reads.Post
+rule-of-requires t c κs = c .pre .1
 
-count-leaf-enum-told : (t : ℕ) → count-leaf-lts.Need-enum-told (calls t) (count-leaf-at t) count-leaf.Post
-count-leaf-enum-told t c = c .match .keys1
+enum-told : (t : ℕ) → lts.Need-enum-told (calls t) (started t) reads.Post
+enum-told t c = c .match .keys1
 
-count-leaf-returns : (t : ℕ) → count-leaf-lts.Need-returns (calls t) (count-leaf-at t) count-leaf.Post
-count-leaf-returns t c = let a = c .before .before .args in leaf-none (a .level) (a .map) (a .word) (c .before .rule-of .ensures) (no-down (c .before .rule-of .result) (c .match .keys2))
+returns : (t : ℕ) → lts.Need-returns (calls t) (started t) reads.Post
+returns t c =
+    let a = c .before .before .args in
+    leaf-none (a .level) (a .map) (a .word) (c .before .rule-of .ensures) (no-down (c .before .rule-of .result) (c .match .keys2))
 
-count-leaf-returns-2 : (t : ℕ) → count-leaf-lts.Need-returns-2 (calls t) (count-leaf-at t) count-leaf.Post
-count-leaf-returns-2 t c = let a = c .before .before .before .before .args in leaf-low (a .level) (a .map) (a .word) (c .before .before .before .rule-of .ensures) (c .before .enum-told .given .1) (down-high (a .level) (a .map) (a .word) (c .before .before .before .rule-of .ensures) (c .before .enum-told .given .1)) (omega arith)
+returns-2 : (t : ℕ) → lts.Need-returns-2 (calls t) (started t) reads.Post
+returns-2 t c =
+    let a = c .before .before .before .before .args in
+    let r = c .before .before .before .rule-of .ensures in
+    let down = c .before .enum-told .given .1 in
+    leaf-low (a .level) (a .map) (a .word) r down (down-high (a .level) (a .map) (a .word) r down) (omega arith)
 
-count-leaf-add-chunk-end : (t : ℕ) → count-leaf-lts.Need-add-chunk-end (calls t) (count-leaf-at t) count-leaf.Post
-count-leaf-add-chunk-end t c = omega arith
+add-chunk-end : (t : ℕ) → lts.Need-add-chunk-end (calls t) (started t) reads.Post
+add-chunk-end t c = omega arith
 
-count-leaf-chunk-end-requires : (t : ℕ) → count-leaf-lts.Need-chunk-end-requires (calls t) (count-leaf-at t) count-leaf.Post
-count-leaf-chunk-end-requires t c κs = tt
+chunk-end-requires : (t : ℕ) → lts.Need-chunk-end-requires (calls t) (started t) reads.Post
+chunk-end-requires t c κs = tt
 
-count-leaf-chunk-of-requires : (t : ℕ) → count-leaf-lts.Need-chunk-of-requires (calls t) (count-leaf-at t) count-leaf.Post
-count-leaf-chunk-of-requires t c κs = tt
+chunk-of-requires : (t : ℕ) → lts.Need-chunk-of-requires (calls t) (started t) reads.Post
+chunk-of-requires t c κs = tt
 
-count-leaf-sub-result : (t : ℕ) → count-leaf-lts.Need-sub-result (calls t) (count-leaf-at t) count-leaf.Post
-count-leaf-sub-result t c = omega (arith, facts t (c .before) .fits .0)
+sub-result : (t : ℕ) → lts.Need-sub-result (calls t) (started t) reads.Post
+sub-result t c = omega (arith, facts t (c .before) .fits .0)
 
-count-leaf-add-result : (t : ℕ) → count-leaf-lts.Need-add-result (calls t) (count-leaf-at t) count-leaf.Post
-count-leaf-add-result t c = let f = facts t (c .before) in omega (arith, f .fits .0, f .fits .1, c .before .before .before .before .before .before .pre .1 .0 .room)
+add-result : (t : ℕ) → lts.Need-add-result (calls t) (started t) reads.Post
+add-result t c = let f = facts t (c .before) in omega (arith, f .fits .0, f .fits .1, start-of-chunk (c .before) .pre .1 .0 .room)
 
-count-leaf-chunk-of-requires-2 : (t : ℕ) → count-leaf-lts.Need-chunk-of-requires-2 (calls t) (count-leaf-at t) count-leaf.Post
-count-leaf-chunk-of-requires-2 t c κs = tt
+chunk-of-requires-2 : (t : ℕ) → lts.Need-chunk-of-requires-2 (calls t) (started t) reads.Post
+chunk-of-requires-2 t c κs = tt
 
-count-leaf-part-of-requires : (t : ℕ) → count-leaf-lts.Need-part-of-requires (calls t) (count-leaf-at t) count-leaf.Post
-count-leaf-part-of-requires t c κs = omega (arith, facts t (c .before .before) .high)
+part-of-requires : (t : ℕ) → lts.Need-part-of-requires (calls t) (started t) reads.Post
+part-of-requires t c κs = omega (arith, facts t (c .before .before) .high)
 
-count-leaf-add-count-leaf : (t : ℕ) → count-leaf-lts.Need-add-count-leaf (calls t) (count-leaf-at t) count-leaf.Post
-count-leaf-add-count-leaf t c = omega (arith, facts t (c .before .before .before) .high)
+add-count-leaf : (t : ℕ) → lts.Need-add-count-leaf (calls t) (started t) reads.Post
+add-count-leaf t c = omega (arith, facts t (c .before .before .before) .high)
 
-count-leaf-count-leaf-requires : (t : ℕ) → count-leaf-lts.Need-count-leaf-requires (calls t) (count-leaf-at t) count-leaf.Post
-count-leaf-count-leaf-requires t c κs = let f = facts t (c .before .before .before) in
-    (omega (arith, f .high, c .before .before .before .before .before .before .before .before .pre .0), subst⁻¹ (λ (m : Map). Fit m × (m .region .start .0 < m .region .end .0)) (c .before .before .chunk-of .ensures) (f .fit, f .fits .0))
+count-leaf-requires : (t : ℕ) → lts.Need-count-leaf-requires (calls t) (started t) reads.Post
+count-leaf-requires t c κs = let f = facts t (c .before .before .before) in (
+  omega (arith, f .high, c .before .before .before .before .before .before .before .before .pre .0),
+  subst⁻¹ (λ (m : Map). Fit m × (m .region .start .0 < m .region .end .0)) (c .before .before .chunk-of .ensures) (f .fit, f .fits .0),
+)
 
-count-leaf-add-result-2 : (t : ℕ) → count-leaf-lts.Need-add-result-2 (calls t) (count-leaf-at t) count-leaf.Post
-count-leaf-add-result-2 t c = omega (arith, deeper-fits t c)
+add-result-2 : (t : ℕ) → lts.Need-add-result-2 (calls t) (started t) reads.Post
+add-result-2 t c = omega (arith, deeper-fits t c)
 
-count-leaf-add-count-rest : (t : ℕ) → count-leaf-lts.Need-add-count-rest (calls t) (count-leaf-at t) count-leaf.Post
-count-leaf-add-count-rest t c = omega (arith, facts t (c .before .before .before .before) .high)
+add-count-rest : (t : ℕ) → lts.Need-add-count-rest (calls t) (started t) reads.Post
+add-count-rest t c = omega (arith, facts t (c .before .before .before .before) .high)
 
-count-leaf-count-rest-requires : (t : ℕ) → count-leaf-lts.Need-count-rest-requires (calls t) (count-leaf-at t) count-leaf.Post
-count-leaf-count-rest-requires t c κs = let f = facts t (c .before .before .before .before) in
-    let length : restOf t (c .before .before .before .before) .region .end .0 - restOf t (c .before .before .before .before) .region .start .0 ≤ 2 ^ 48 = omega (arith, f .fits .0, f .length) in
+count-rest-requires : (t : ℕ) → lts.Need-count-rest-requires (calls t) (started t) reads.Post
+count-rest-requires t c κs = let f = facts t (c .before .before .before .before) in
+    let length : restOf t (c .before .before .before .before) .region .end .0
+    - restOf t (c .before .before .before .before) .region .start .0
+    ≤ 2 ^ 48 =
+    omega (arith, f .fits .0, f .length) in
     subst⁻¹ (λ (m : Map). m .region .end .0 - m .region .start .0 ≤ 2 ^ 48) (c .before .before .chunk-of2 .ensures) length
 
-count-leaf-add-result-3 : (t : ℕ) → count-leaf-lts.Need-add-result-3 (calls t) (count-leaf-at t) count-leaf.Post
-count-leaf-add-result-3 t c =
+add-result-3 : (t : ℕ) → lts.Need-add-result-3 (calls t) (started t) reads.Post
+add-result-3 t c =
     let f = facts t (c .before .before .before .before .before) in
-    omega (arith, deeper-fits t (c .before), rested t c, rests-fit (c .before .before .before .before .before .before .before .before .before .before .args .level + 1) (restOf t (c .before .before .before .before .before)), f .fits .0, f .length)
+    omega (
+      arith,
+      deeper-fits t (c .before),
+      rested t c,
+      rests-fit (start-of-chunk (c .before .before .before .before .before) .args .level + 1)
+          (restOf t (c .before .before .before .before .before)),
+      f .fits .0,
+      f .length,
+    )
 
-count-leaf-returns-3 : (t : ℕ) → count-leaf-lts.Need-returns-3 (calls t) (count-leaf-at t) count-leaf.Post
-count-leaf-returns-3 t c =
-    let a = c .before .before .before .before .before .before .before .before .before .before .args in
-    let high = facts t (c .before .before .before .before .before) .high in
-    let rest = rested t c ∙ ap (λ (x : ℕ). rests (3 - (a .level + 1)) (chunkMap (a .map) (region x (a .map .region .end .0)) (a .map .frame .0 + (x - a .map .region .start .0)))) (c .before .before .before .before .before .chunk-end .ensures) in
+returns-3 : (t : ℕ) → lts.Need-returns-3 (calls t) (started t) reads.Post
+returns-3 t c =
+    let place = c .before .before .before .before .before in
+    let a = start-of-chunk place .args in
+    let high = facts t place .high in
+    let down = place .before .before .enum-told .given .1 in
+    let left : ℕ → Map = λ x. chunkMap (a .map) (region x (a .map .region .end .0)) (a .map .frame .0 + (x - a .map .region .start .0)) in
+    let rest = rested t c ∙ ap (λ (x : ℕ). rests (3 - (a .level + 1)) (left x)) (place .chunk-end .ensures) in
     ap₂ (λ (x y : ℕ). 1 + x + y) (deeper t (c .before)) rest
-    ∙ leaf-down (a .level) (a .map) (a .word) (c .before .before .before .before .before .before .before .before .before .rule-of .ensures) (c .before .before .before .before .before .before .before .enum-told .given .1) (omega (arith, high))
+    ∙ leaf-down (a .level) (a .map) (a .word) (place .before .before .before .before .rule-of .ensures) down (omega (arith, high))
 
 pub +count-leaf-spec : {M : Type 1} → statement M
-+count-leaf-spec = close μ-count-leaf λ t. count-leaf-lts.spec (calls t)
-    (count-leaf-at t)
-    count-leaf.Post
-    (count-leaf-rule-of-requires t)
-    (count-leaf-enum-told t)
-    (count-leaf-returns t)
-    (count-leaf-returns-2 t)
-    (count-leaf-add-chunk-end t)
-    (count-leaf-chunk-end-requires t)
-    (count-leaf-chunk-of-requires t)
-    (count-leaf-sub-result t)
-    (count-leaf-add-result t)
-    (count-leaf-chunk-of-requires-2 t)
-    (count-leaf-part-of-requires t)
-    (count-leaf-add-count-leaf t)
-    (count-leaf-count-leaf-requires t)
-    (count-leaf-add-result-2 t)
-    (count-leaf-add-count-rest t)
-    (count-leaf-count-rest-requires t)
-    (count-leaf-add-result-3 t)
-    (count-leaf-returns-3 t)
++count-leaf-spec = close μ λ t. lts.spec (calls t)
+    (started t)
+    reads.Post
+    (rule-of-requires t)
+    (enum-told t)
+    (returns t)
+    (returns-2 t)
+    (add-chunk-end t)
+    (chunk-end-requires t)
+    (chunk-of-requires t)
+    (sub-result t)
+    (add-result t)
+    (chunk-of-requires-2 t)
+    (part-of-requires t)
+    (add-count-leaf t)
+    (count-leaf-requires t)
+    (add-result-2 t)
+    (add-count-rest t)
+    (count-rest-requires t)
+    (add-result-3 t)
+    (returns-3 t)

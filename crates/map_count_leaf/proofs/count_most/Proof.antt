@@ -23,7 +23,10 @@ entries-met-requires : tie.Need-entries-met-requires Inv-loop μ-loop
 entries-met-requires c κs = omega arith
 
 add-count : tie.Need-add-count Inv-loop μ-loop
-add-count c = let a = c .before .before .before .args in let b = c .before .before .loop .below in omega (arith, mets-open b (a .start) (a .end) (omega arith), mets-fit (a .level) (a .start) (a .end), c .entries-met .ensures)
+add-count c =
+    let a = c .before .before .before .args in
+    let b = c .before .before .loop .below in
+    omega (arith, mets-open b (a .start) (a .end) (omega arith), mets-fit (a .level) (a .start) (a .end), c .entries-met .ensures)
 
 add-below : tie.Need-add-below Inv-loop μ-loop
 add-below c = omega arith
@@ -32,10 +35,14 @@ loop-less : tie.Need-loop-less Inv-loop μ-loop
 loop-less c = omega arith
 
 loop-again : tie.Need-loop-again Inv-loop μ-loop
-loop-again c = let a = c .before .before .before .args in let b = c .before .before .loop .below in omega (arith, mets-open b (a .start) (a .end) (omega arith), c .entries-met .ensures)
+loop-again c =
+    let a = c .before .before .before .args in
+    let b = c .before .before .loop .below in
+    omega (arith, mets-open b (a .start) (a .end) (omega arith), c .entries-met .ensures)
 
 returns : tie.Need-returns Inv-loop μ-loop
-returns c = let a = c .before .before .args in let b = c .before .loop .below in omega (arith, mets-done b (a .start) (a .end) (omega arith))
+returns c =
+    let a = c .before .before .args in let b = c .before .loop .below in omega (arith, mets-done b (a .start) (a .end) (omega arith))
 
 pub count-most-spec : {M : Type 1} → statement M
 count-most-spec =

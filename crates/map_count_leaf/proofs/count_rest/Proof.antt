@@ -23,7 +23,10 @@ count-at-requires : tie.Need-count-at-requires Inv-loop μ-loop
 count-at-requires c κs = omega arith
 
 add-count : tie.Need-add-count Inv-loop μ-loop
-add-count c = let a = c .before .before .before .args in let b = c .before .before .loop .below in omega (arith, rests-open b (a .map) (omega arith), rests-fit (a .level) (a .map), c .count-at .ensures)
+add-count c =
+    let a = c .before .before .before .args in
+    let b = c .before .before .loop .below in
+    omega (arith, rests-open b (a .map) (omega arith), rests-fit (a .level) (a .map), c .count-at .ensures)
 
 add-below : tie.Need-add-below Inv-loop μ-loop
 add-below c = omega arith
@@ -32,7 +35,10 @@ loop-less : tie.Need-loop-less Inv-loop μ-loop
 loop-less c = omega arith
 
 loop-again : tie.Need-loop-again Inv-loop μ-loop
-loop-again c = let a = c .before .before .before .args in let b = c .before .before .loop .below in omega (arith, rests-open b (a .map) (omega arith), c .count-at .ensures)
+loop-again c =
+    let a = c .before .before .before .args in
+    let b = c .before .before .loop .below in
+    omega (arith, rests-open b (a .map) (omega arith), c .count-at .ensures)
 
 returns : tie.Need-returns Inv-loop μ-loop
 returns c = let a = c .before .before .args in let b = c .before .loop .below in omega (arith, rests-done b (a .map) (omega arith))

@@ -23,13 +23,26 @@ entry-number-requires-2 : tie.Need-entry-number-requires-2
 entry-number-requires-2 c κs = omega arith
 
 sub-result : tie.Need-sub-result
-sub-result c = let a = c .before .before .before .args in omega (arith, met-order (a .level) (a .start) (a .end) (omega arith), c .before .entry-number .ensures, c .entry-number2 .ensures)
+sub-result c =
+    let a = c .before .before .before .args in
+    omega (arith, met-order (a .level) (a .start) (a .end) (omega arith), c .before .entry-number .ensures, c .entry-number2 .ensures)
 
 add-result : tie.Need-add-result
-add-result c = let a = c .before .before .before .args in omega (arith, met-some (a .level) (a .start) (a .end) (omega arith), met-most (a .level) (a .start) (a .end), c .before .entry-number .ensures, c .entry-number2 .ensures)
+add-result c =
+    let a = c .before .before .before .args in
+    omega (
+      arith,
+      met-some (a .level) (a .start) (a .end) (omega arith),
+      met-most (a .level) (a .start)
+          (a .end),
+      c .before .entry-number .ensures,
+      c .entry-number2 .ensures,
+    )
 
 returns-2 : tie.Need-returns-2
-returns-2 c = let a = c .before .before .before .args in omega (arith, met-some (a .level) (a .start) (a .end) (omega arith), c .before .entry-number .ensures, c .entry-number2 .ensures)
+returns-2 c =
+    let a = c .before .before .before .args in
+    omega (arith, met-some (a .level) (a .start) (a .end) (omega arith), c .before .entry-number .ensures, c .entry-number2 .ensures)
 
 pub entries-met-spec : {M : Type 1} → statement M
 entries-met-spec =

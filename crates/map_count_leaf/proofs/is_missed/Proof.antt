@@ -14,14 +14,18 @@ use Rattle.map_count_leaf.proofs.is_missed.Lts as lts
 use Rattle.address.proofs.granularity_at_level.Reads as granularity-at-level-reads
 
 -- an offset in an entry, by a mask
-first : (c : tie.After-granularity-at-level) (x : ℕ) → bitAnd x (c .granularity-at-level .result - 1) ≡ x % sizeAt (c .before .args .level + 1)
+first : (c : tie.After-granularity-at-level) (x : ℕ)
+    → bitAnd x (c .granularity-at-level .result - 1) ≡ x % sizeAt (c .before .args .level + 1)
 first c x = ap (λ (g : ℕ). bitAnd x (g - 1)) (c .granularity-at-level .ensures) ∙ size-mod (c .before .args .level + 1) x
 
-offset : (c : tie.After-granularity-at-level2) (x : ℕ) → bitAnd x (c .granularity-at-level2 .result - 1) ≡ x % sizeAt (c .before .before .before .before .args .level)
-offset c x = ap (λ (g : ℕ). bitAnd x (g - 1)) (c .granularity-at-level2 .ensures) ∙ size-mod (c .before .before .before .before .args .level) x
+offset : (c : tie.After-granularity-at-level2) (x : ℕ)
+    → bitAnd x (c .granularity-at-level2 .result - 1) ≡ x % sizeAt (c .before .before .before .before .args .level)
+offset c x =
+    ap (λ (g : ℕ). bitAnd x (g - 1)) (c .granularity-at-level2 .ensures) ∙ size-mod (c .before .before .before .before .args .level) x
 
 -- the chunk begins with an entry of the next level
-starts : (c : tie.After-granularity-at-level2) → c .before .before .before .before .args .map .region .start .0 % sizeAt (c .before .before .before .before .args .level + 1) ≡ 0
+starts : (c : tie.After-granularity-at-level2)
+    → c .before .before .before .before .args .map .region .start .0 % sizeAt (c .before .before .before .before .args .level + 1) ≡ 0
 starts c = sym (first (c .before .before .before) (c .before .before .before .before .args .map .region .start .0)) ∙ c .before .if1 .left
 
 add-granularity-at-level : tie.Need-add-granularity-at-level
@@ -47,16 +51,20 @@ sub-last c = omega (arith, c .granularity-at-level2 .ensures, size-pos (c .befor
 returns-2 : tie.Need-returns-2
 returns-2 c =
     let a = c .before .before .before .before .before .before .args in
-    test-address (a .level) (a .map) (a .word) (starts (c .before .before)) (c .before .if2 .taken) (λ e. c .if3 .taken (mask-address (a .word) ∙ e))
+    test-address (a .level) (a .map) (a .word) (starts (c .before .before)) (c .before .if2 .taken)
+    (λ e. c .if3 .taken (mask-address (a .word) ∙ e))
 
 returns-3 : tie.Need-returns-3
 returns-3 c =
     let a = c .before .before .before .before .before .before .before .before .args in
     ap (λ (x : ℕ). ltb x (a .map .frame .0)) (offset (c .before .before .before .before) (a .map .region .start .0))
-    ∙ test-hole (a .level) (a .map) (a .word) (starts (c .before .before .before .before)) (c .before .before .before .if2 .taken) (sym (mask-address (a .word)) ∙ c .before .before .if3 .left)
+    ∙ test-hole (a .level) (a .map) (a .word) (starts (c .before .before .before .before)) (c .before .before .before .if2 .taken)
+    (sym (mask-address (a .word)) ∙ c .before .before .if3 .left)
 
 returns-4 : tie.Need-returns-4
-returns-4 c = let a = c .before .before .before .before .before .before .args in test-table (a .level) (a .map) (a .word) (starts (c .before .before)) (c .before .if2 .left) (c .if4 .taken)
+returns-4 c =
+    let a = c .before .before .before .before .before .before .args in
+    test-table (a .level) (a .map) (a .word) (starts (c .before .before)) (c .before .if2 .left) (c .if4 .taken)
 
 returns-5 : tie.Need-returns-5
 returns-5 c =

@@ -18,19 +18,23 @@ use Rattle.address_slot.proofs.entry_index.Reads as entry-index-reads
 
 -- the entry's address, cleared below its size by masks
 cleared : (c : tie.After-granularity-at-level)
-    → bitAnd (bitAnd (c .before .before .before .args .word) 0xFFFF_FFFF_F000) (2 ^ 64 - 1 - (c .granularity-at-level .result - 1)) ≡ down (addressOf (c .before .before .before .args .word)) (sizeAt (c .before .before .before .args .level))
+    → bitAnd (bitAnd (c .before .before .before .args .word) 0xFFFF_FFFF_F000) (2 ^ 64 - 1 - (c .granularity-at-level .result - 1))
+    ≡ down (addressOf (c .before .before .before .args .word)) (sizeAt (c .before .before .before .args .level))
 cleared c =
     let a = c .before .before .before .args in
     let below = address-below (a .word) in
-    ap₂ (λ (x g : ℕ). bitAnd x (2 ^ 64 - 1 - (g - 1))) (mask-address (a .word)) (c .granularity-at-level .ensures) ∙ size-down (a .level) (addressOf (a .word)) (omega arith)
+    ap₂ (λ (x g : ℕ). bitAnd x (2 ^ 64 - 1 - (g - 1))) (mask-address (a .word)) (c .granularity-at-level .ensures)
+    ∙ size-down (a .level) (addressOf (a .word)) (omega arith)
 
 -- the part's place in the entry
 step : (c : tie.After-granularity-at-level2) → c .before .entry-index .result * c .granularity-at-level2 .result
-    ≡ entryIndex (c .before .before .before .before .before .args .level + 1) (c .before .before .before .before .before .args .va) * sizeAt (c .before .before .before .before .before .args .level + 1)
+    ≡ entryIndex (c .before .before .before .before .before .args .level + 1) (c .before .before .before .before .before .args .va)
+    * sizeAt (c .before .before .before .before .before .args .level + 1)
 step c = ap₂ (λ (i g : ℕ). i * g) (c .before .entry-index .ensures) (c .granularity-at-level2 .ensures)
 
 room : (c : tie.After-granularity-at-level2)
-    → PartFits (c .before .before .before .before .before .args .level) (c .before .before .before .before .before .args .word) (entryIndex (c .before .before .before .before .before .args .level + 1) (c .before .before .before .before .before .args .va))
+    → PartFits (c .before .before .before .before .before .args .level) (c .before .before .before .before .before .args .word)
+    (entryIndex (c .before .before .before .before .before .args .level + 1) (c .before .before .before .before .before .args .va))
 room c =
     let a = c .before .before .before .before .before .args in
     part-fits (a .level) (a .word) (entryIndex (a .level + 1) (a .va)) (omega arith) (slot-below (a .level + 1) (a .va)) (omega arith)
@@ -69,7 +73,10 @@ add-result-2 : tie.Need-add-result-2
 add-result-2 c = omega (arith, step c, cleared (c .before .before), c .before .before .before .before .flags .ensures, room c .word)
 
 returns-2 : tie.Need-returns-2
-returns-2 c = let a = c .before .before .before .before .before .args in let e = child-block (a .level) (a .word) (a .va) (omega arith) (c .before .before .before .if1 .left) in omega (arith, step c, cleared (c .before .before), c .before .before .before .before .flags .ensures)
+returns-2 c =
+    let a = c .before .before .before .before .before .args in
+    let e = child-block (a .level) (a .word) (a .va) (omega arith) (c .before .before .before .if1 .left) in
+    omega (arith, step c, cleared (c .before .before), c .before .before .before .before .flags .ensures)
 
 pub part-of-spec : {M : Type 1} → statement M
 part-of-spec =

@@ -14,6 +14,13 @@ use Rattle.map_put.proofs.drop_entry.Lts as lts
 use Rattle.entry.proofs.subtable.Reads as subtable-reads
 use Rattle.pool_table.proofs.free.Reads as free-reads
 
+-- ways back from the second return: to the call of `subtable`, and to the start
+abbrev subtable-of-returns-2 : tie.After-slice-known4 → tie.After-subtable
+subtable-of-returns-2 c = c .before .before .before .before .before .before .before .before .before .before
+
+abbrev start-of-returns-2 : tie.After-slice-known4 → tie.Start
+start-of-returns-2 c = subtable-of-returns-2 c .before .before .before
+
 subtable-requires : tie.Need-subtable-requires
 subtable-requires c κs = search needs
 
@@ -24,13 +31,20 @@ returns : tie.Need-returns
 returns c =
     let a = c .before .before .before .before .args in
     let sub = c .before .subtable in
-    ⊎-elim (λ e. drop-outside (a .handle) (a .level) (a .word) (st (a .words .now) (a .ledger .now)) (sub .ensures) e) (λ e. drop-leaf (a .handle) (a .level) (a .word) (st (a .words .now) (a .ledger .now)) (sub .ensures) e) (no-table (sub .result) (c .match .keys2))
+    ⊎-elim (λ e. drop-outside (a .handle) (a .level) (a .word) (st (a .words .now) (a .ledger .now)) (sub .ensures) e)
+    (λ e. drop-leaf (a .handle) (a .level) (a .word) (st (a .words .now) (a .ledger .now)) (sub .ensures) e)
+    (no-table (sub .result) (c .match .keys2))
 
 add-free : tie.Need-add-free
 add-free c = search needs
 
 free-requires : tie.Need-free-requires
-free-requires c κs = (omega arith, sub-below _ _ _ _ _ (sym (c .before .before .before .before .before .subtable .ensures) ∙ c .before .before .before .kind .given .1), omega arith)
+free-requires c κs = (
+  omega arith,
+  sub-below _ _ _ _ _
+      (sym (c .before .before .before .before .before .subtable .ensures) ∙ c .before .before .before .kind .given .1),
+  omega arith,
+)
 
 same-length : tie.Need-same-length
 same-length c = search needs
@@ -40,8 +54,10 @@ same-length-2 c = search needs
 
 returns-2 : tie.Need-returns-2
 returns-2 c =
-    let a = c .before .before .before .before .before .before .before .before .before .before .before .before .before .args in
-    c .before .before .before .before .free .ensures ∙ drop-table (a .handle) (a .level) (a .word) (st (a .words .now) (a .ledger .now)) (c .before .before .before .before .before .before .before .before .before .before .subtable .ensures) _ (c .before .before .before .before .before .before .before .before .kind .given .1)
+    let a = start-of-returns-2 c .args in
+    c .before .before .before .before .free .ensures
+    ∙ drop-table (a .handle) (a .level) (a .word) (st (a .words .now) (a .ledger .now)) (subtable-of-returns-2 c .subtable .ensures) _
+    (c .before .before .before .before .before .before .before .before .kind .given .1)
 
 pub drop-entry-spec : {M : Type 1} → statement M
 drop-entry-spec =

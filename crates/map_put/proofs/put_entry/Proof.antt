@@ -11,6 +11,10 @@ use Rattle.map_put.proofs.put_entry.Reads as reads
 use Rattle.map_put.proofs.put_entry.Lts as lts
 use Rattle.map_put.proofs.drop_entry.Reads as drop-entry-reads
 
+-- the start of the function, seen from the return after the old table is dropped
+abbrev start-of-dropped : tie.After-slice-known5 → tie.Start
+start-of-dropped c = c .before .before .before .before .before .before .before .before .before .before .before .before .before
+
 -- the slot lies in the words
 enum-known-rule : tie.Need-enum-known-rule
 enum-known-rule c = c .match .keys1
@@ -55,7 +59,12 @@ slice-write-words-2 : tie.Need-slice-write-words-2
 slice-write-words-2 c = let p = c .before .before .before .before .before .before .pre in omega (arith, p .0 .sized, p .1, p .2)
 
 drop-entry-requires : tie.Need-drop-entry-requires
-drop-entry-requires c κs = let start = c .before .before .before .before .before .before .before .before in (length-set (start .args .words .now) _ _ ∙ start .pre .0 .sized, start .pre .3 .high _ (c .before .before .before .before .rule2 .given .1))
+drop-entry-requires c κs =
+    let start = c .before .before .before .before .before .before .before .before in (
+      length-set (start .args .words .now) _ _
+          ∙ start .pre .0 .sized,
+      start .pre .3 .high _ (c .before .before .before .before .rule2 .given .1),
+    )
 
 enum-told : tie.Need-enum-told
 enum-told c = c .match .keys3
@@ -68,26 +77,34 @@ same-length c = length-set (c .before .before .before .before .before .args .wor
 
 returns : tie.Need-returns
 returns c =
-    let a = c .before .before .before .before .before .args in
-    (put-write (λ j t. t) (a .handle) (a .k) (a .level) (a .i) (st (a .words .now) (a .ledger .now)) _ (c .before .rule .given .1), λ e. (e, refl))
+    let a = c .before .before .before .before .before .args in (
+      put-write (λ j t. t) (a .handle) (a .k) (a .level) (a .i) (st (a .words .now) (a .ledger .now)) _
+          (c .before .rule .given .1),
+      λ e. (e, refl),
+    )
 
 same-length-2 : tie.Need-same-length-2
-same-length-2 c = c .before .before .before .before .drop-entry .kept .0 ∙ length-set (c .before .before .before .before .before .before .before .before .before .before .before .before .before .args .words .now) _ _
+same-length-2 c = c .before .before .before .before .drop-entry .kept .0 ∙ length-set (start-of-dropped c .args .words .now) _ _
 
 same-length-3 : tie.Need-same-length-3
 same-length-3 c = c .before .before .before .before .drop-entry .kept .1 .0
 
 returns-2 : tie.Need-returns-2
 returns-2 c =
-    let a = c .before .before .before .before .before .before .before .before .before .before .before .before .before .args in (
-      c .before .before .before .before .drop-entry .ensures ∙ put-drop (λ j t. t) (a .handle) (a .k) (a .level) (a .i) (st (a .words .now) (a .ledger .now)) _ (c .before .before .before .before .before .before .before .before .before .rule2 .given .1),
+    let a = start-of-dropped c .args in (
+      c .before .before .before .before .drop-entry .ensures
+          ∙ put-drop (λ j t. t) (a .handle) (a .k) (a .level) (a .i) (st (a .words .now) (a .ledger .now)) _
+          (c .before .before .before .before .before .before .before .before .before .rule2 .given .1),
       λ e. absurd (true≢false e),
     )
 
 returns-3 : tie.Need-returns-3
 returns-3 c =
-    let a = c .before .before .before .before .args in
-    (put-keep (λ j t. t) (a .handle) (a .k) (a .level) (a .i) (st (a .words .now) (a .ledger .now)) (c .enum-told .given .1), λ e. (e, refl))
+    let a = c .before .before .before .before .args in (
+      put-keep (λ j t. t) (a .handle) (a .k) (a .level) (a .i) (st (a .words .now) (a .ledger .now))
+          (c .enum-told .given .1),
+      λ e. (e, refl),
+    )
 
 returns-4 : tie.Need-returns-4
 returns-4 c = absurd (c .before .before .before .before .pre .3 .here (c .enum-told2 .given .1))

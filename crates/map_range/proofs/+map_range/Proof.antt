@@ -21,9 +21,9 @@ use Rattle.map_range.proofs.Tags.{no-down}
 use Prim.Native.Nat.{ℕ, _<_}
 use borrow.Fn.Kinds.{In}
 use borrow.Fn.PlainCycle.{Measures, is, falls, and}
-use Rattle.map_range.proofs.map_range.Reads as map-range
-use Rattle.map_range.proofs.map_range.Kinds as map-range-kinds
-use Rattle.map_range.proofs.+map_range.Lts-map_range as map-range-lts
+use Rattle.map_range.proofs.map_range.Reads as reads
+use Rattle.map_range.proofs.map_range.Kinds as kinds
+use Rattle.map_range.proofs.+map_range.Lts-map_range as lts
 use Rattle.map_split.proofs.descend.Reads as descend-reads
 use Rattle.map_put.proofs.ledger_changed.Reads as ledger-changed-reads
 use Rattle.map_put.proofs.put_entry.Reads as put-entry-reads
@@ -34,32 +34,81 @@ use Rattle.address_slot.proofs.entry_index.Reads as entry-index-reads
 use Rattle.map_range.proofs.+map_range.{statement}
 use Rattle.map_range.proofs.+map_range.Tie.{close}
 
-abbrev μ-map-range : Measures 2 map-range-kinds.ps ℕ
-μ-map-range κs a = 3 - a .1 .1 .1 .1 .0
+abbrev μ : Measures 2 kinds.ps ℕ
+μ κs a = 3 - a .1 .1 .1 .1 .0
 
-abbrev map-range-at : ℕ → In 2 map-range-kinds.ps
-map-range-at t = and 2 map-range-kinds.ps (is 2 map-range-kinds.ps μ-map-range t) map-range.Pre
+abbrev started : ℕ → In 2 kinds.ps
+started t = and 2 kinds.ps (is 2 kinds.ps μ t) reads.Pre
 
-abbrev map-range-below : ℕ → In 2 map-range-kinds.ps
-map-range-below t =
-    and 2 map-range-kinds.ps (falls 2 map-range-kinds.ps _<_ μ-map-range t) map-range.Pre
+abbrev fewer : ℕ → In 2 kinds.ps
+fewer t =
+    and 2 kinds.ps (falls 2 kinds.ps _<_ μ t) reads.Pre
 
-abbrev calls : ℕ → map-range-lts.Claims
-calls t = (chunk-end-reads.Asked, chunk-end-reads.Learnt, entry-index-reads.Asked, entry-index-reads.Learnt, chunk-of-reads.Asked, chunk-of-reads.Learnt, rule-of-reads.Asked, rule-of-reads.Learnt, put-entry-reads.Asked, put-entry-reads.Learnt, descend-reads.Asked, descend-reads.Learnt, map-range-below t, map-range.Post, ledger-changed-reads.Asked, ledger-changed-reads.Learnt)
+abbrev calls : ℕ → lts.Claims
+calls t = (
+  chunk-end-reads.Asked,
+  chunk-end-reads.Learnt,
+  entry-index-reads.Asked,
+  entry-index-reads.Learnt,
+  chunk-of-reads.Asked,
+  chunk-of-reads.Learnt,
+  rule-of-reads.Asked,
+  rule-of-reads.Learnt,
+  put-entry-reads.Asked,
+  put-entry-reads.Learnt,
+  descend-reads.Asked,
+  descend-reads.Learnt,
+  fewer t,
+  reads.Post,
+  ledger-changed-reads.Asked,
+  ledger-changed-reads.Learnt,
+)
 
-abbrev map-range-Inv-loop : map-range-lts.InvT-loop
-map-range-Inv-loop words₀ ledger₀ handle k level map end at₀ frame₀ changed₀ words ledger at frame changed =
+abbrev Inv-loop : lts.InvT-loop
+Inv-loop words₀ ledger₀ handle k level map end at₀ frame₀ changed₀ words ledger at frame changed =
     (at ≤ map .region .end .0) × (at % 4096 ≡ 0) × (frame % 4096 ≡ 0) × (frame + (map .region .end .0 - at) ≤ 2 ^ 48)
     × (length words ≡ length words₀) × (length ledger ≡ length ledger₀)
-    × (eachMapChunk level (mapStep handle k level) (chunkMap map (region at (map .region .end .0)) frame) (st words ledger) ≡ eachMapChunk level (mapStep handle k level) map (st words₀ ledger₀))
+    × (eachMapChunk level (mapStep handle k level) (chunkMap map (region at (map .region .end .0)) frame) (st words ledger)
+    ≡ eachMapChunk level (mapStep handle k level) map (st words₀ ledger₀))
     × (changed ≡ false → ledger ≡ ledger₀)
 
-abbrev map-range-μ-loop : map-range-lts.MeasureT-loop
-map-range-μ-loop words₀ ledger₀ handle k level map end at₀ frame₀ changed₀ words ledger at frame changed = map .region .end .0 - at
+abbrev μ-loop : lts.MeasureT-loop
+μ-loop words₀ ledger₀ handle k level map end at₀ frame₀ changed₀ words ledger at frame changed = map .region .end .0 - at
 
 -- a chunk, once its end, its slot and its map are known
 abbrev Place : ℕ → Type 0
-Place t = map-range-lts.After-chunk-of (calls t) (map-range-at t) map-range.Post map-range-Inv-loop map-range-μ-loop
+Place t = lts.After-chunk-of (calls t) (started t) reads.Post Inv-loop μ-loop
+
+-- ways back: from a chunk to the loop's head and to the start; to the chunk, to where its rule is told (it leads down) and to the call of
+-- `descend`, from the ends of the loop's three ways (`again`) and from the call of the function itself
+abbrev loop-of-chunk : {t : ℕ} → Place t → lts.At-loop (calls t) (started t) reads.Post Inv-loop μ-loop
+loop-of-chunk c = c .before .before .before .before
+
+abbrev start-of-chunk : {t : ℕ} → Place t → lts.Start (calls t) (started t) reads.Post Inv-loop μ-loop
+start-of-chunk c = loop-of-chunk c .before .before .before
+
+abbrev chunk-of-again : {t : ℕ} → lts.After-slice-known5 (calls t) (started t) reads.Post Inv-loop μ-loop → Place t
+chunk-of-again c = c .before .before .before .before .before .before .before .before .before .before
+
+abbrev chunk-of-told : {t : ℕ} → lts.After-enum-told (calls t) (started t) reads.Post Inv-loop μ-loop → Place t
+chunk-of-told c = c .before .before .before .before
+
+abbrev told-of-again-2 : {t : ℕ} → lts.After-enum-told2 (calls t) (started t) reads.Post Inv-loop μ-loop
+    → lts.After-enum-told (calls t) (started t) reads.Post Inv-loop μ-loop
+told-of-again-2 c = c .before .before .before .before .before .before .before .before .before
+
+abbrev told-of-call : {t : ℕ} → lts.After-map-range-arg2 (calls t) (started t) reads.Post Inv-loop μ-loop
+    → lts.After-enum-told (calls t) (started t) reads.Post Inv-loop μ-loop
+told-of-call c = c .before .before .before .before .before .before .before .before .before .before .before .before
+
+abbrev descend-of-again-3 : {t : ℕ} → lts.After-ledger-changed (calls t) (started t) reads.Post Inv-loop μ-loop
+    → lts.After-descend (calls t) (started t) reads.Post Inv-loop μ-loop
+descend-of-again-3 c =
+    c .before .before .before .before .before .before .before .before .before .before .before .before .before .before .before
+
+abbrev told-of-again-3 : {t : ℕ} → lts.After-ledger-changed (calls t) (started t) reads.Post Inv-loop μ-loop
+    → lts.After-enum-told (calls t) (started t) reads.Post Inv-loop μ-loop
+told-of-again-3 c = descend-of-again-3 c .before .before .before
 
 -- the chunk's own map, and what remains after it
 abbrev chunkOf : (t : ℕ) → Place t → Map
@@ -67,45 +116,49 @@ chunkOf t c = c .chunk-of .result
 
 abbrev leftOf : (t : ℕ) → Place t → Map
 leftOf t c =
-    let m = c .before .before .before .before .before .before .before .args .map in
-    chunkMap m (region (c .before .before .chunk-end .result) (m .region .end .0)) (c .before .before .before .before .loop .frame + (c .before .before .chunk-end .result - c .before .before .before .before .loop .at))
+    let m = start-of-chunk c .args .map in
+    chunkMap m (region (c .before .before .chunk-end .result) (m .region .end .0))
+    (loop-of-chunk c .loop .frame + (c .before .before .chunk-end .result - loop-of-chunk c .loop .at))
 
 record Facts (t : ℕ) (c : Place t) : Type 0 where
-  above : c .before .before .before .before .loop .at < c .before .before .chunk-end .result
-  under : c .before .before .chunk-end .result ≤ c .before .before .before .before .before .before .before .args .map .region .end .0
+  above : loop-of-chunk c .loop .at < c .before .before .chunk-end .result
+  under : c .before .before .chunk-end .result ≤ start-of-chunk c .args .map .region .end .0
   paged : c .before .before .chunk-end .result % 4096 ≡ 0
   framed : leftOf t c .frame .0 % 4096 ≡ 0
   room : leftOf t c .frame .0 + (leftOf t c .region .end .0 - leftOf t c .region .start .0) ≤ 2 ^ 48
   slot : c .before .entry-index .result < 512
-  index : c .before .entry-index .result ≡ entryIndex (c .before .before .before .before .before .before .before .args .level) (chunkOf t c .region .start .0)
-  shape : Shaped (c .before .before .before .before .before .before .before .args .handle) (st (c .before .before .before .before .loop .words) (c .before .before .before .before .loop .ledger))
+  index : c .before .entry-index .result ≡ entryIndex (start-of-chunk c .args .level) (chunkOf t c .region .start .0)
+  shape : Shaped (start-of-chunk c .args .handle) (st (loop-of-chunk c .loop .words) (loop-of-chunk c .loop .ledger))
   fit : Fit (chunkOf t c)
   some : chunkOf t c .region .start .0 < chunkOf t c .region .end .0
-  next : let a = c .before .before .before .before .before .before .before .args in let f = mapStep (a .handle) (a .k) (a .level) in
-      eachMapChunk (a .level) f (leftOf t c) (f (chunkOf t c) (st (c .before .before .before .before .loop .words) (c .before .before .before .before .loop .ledger)))
+  next : let a = start-of-chunk c .args in let f = mapStep (a .handle) (a .k) (a .level) in
+      eachMapChunk (a .level) f (leftOf t c) (f (chunkOf t c) (st (loop-of-chunk c .loop .words) (loop-of-chunk c .loop .ledger)))
       ≡ eachMapChunk (a .level) f (a .map) (st (a .words .now) (a .ledger .now))
 
 facts : (t : ℕ) (c : Place t) → Facts t c
 unfolding entryIndex
 facts t c =
-    let start = c .before .before .before .before .before .before .before in
+    let start = start-of-chunk c in
     let a = start .args in
     let p = start .pre .1 in
-    let at = c .before .before .before .before in
+    let at = loop-of-chunk c in
     let inv = at .loop .inv in
     let s = st (at .loop .words) (at .loop .ledger) in
     let low = c .before .before .before .loop-test .taken in
     let stop = c .before .before .chunk-end .ensures in
     let chunk = c .chunk-of .ensures in
+    let f = mapStep (a .handle) (a .k) (a .level) in
     let fits = chunk-fits (a .level) (at .loop .at) (a .map .region .end .0) low in
-    let part = chunk-fit (a .level) (at .loop .at) (a .map .region .end .0) (at .loop .frame) (a .map) (p .3) low (inv .1) (p .3 .to) (inv .2) (inv .3) in
+    let part = chunk-fit (a .level) (at .loop .at) (a .map .region .end .0) (at .loop .frame) (a .map) (p .3) low (inv .1) (p .3 .to)
+    (inv .2) (inv .3) in
     let above : at .loop .at < c .before .before .chunk-end .result = omega (arith, fits .0) in
     record {
       above = above;
       under = omega (arith, fits .1);
       paged = ap (λ (x : ℕ). x % 4096) stop ∙ chunk-paged (a .level) (at .loop .at) (a .map .region .end .0) (p .3 .to);
       framed = ap (λ (x : ℕ). (at .loop .frame + (x - at .loop .at)) % 4096) stop
-          ∙ rest-paged (a .level) (at .loop .at) (a .map .region .end .0) (at .loop .frame) (a .map) (p .3) low (inv .1) (p .3 .to) (inv .2) (inv .3);
+          ∙ rest-paged (a .level) (at .loop .at) (a .map .region .end .0) (at .loop .frame) (a .map) (p .3) low (inv .1) (p .3 .to) (inv .2)
+          (inv .3);
       room = omega (arith, fits .0, fits .1, inv .3);
       slot = omega (arith, c .before .entry-index .ensures);
       index = c .before .entry-index .ensures ∙ ap (λ (m : Map). entryIndex (a .level) (m .region .start .0)) (sym chunk);
@@ -113,206 +166,241 @@ facts t c =
       fit = subst⁻¹ Fit chunk (subst⁻¹ (λ (x : ℕ). Fit (chunkMap (a .map) (region (at .loop .at) x) (at .loop .frame))) stop part);
       some = subst⁻¹ (λ (m : Map). m .region .start .0 < m .region .end .0) chunk above;
       next =
-          ap (λ (m : Map). let f = mapStep (a .handle) (a .k) (a .level) in eachMapChunk (a .level) f (leftOf t c) (f m s)) chunk
-          ∙ ap (λ (x : ℕ). let f = mapStep (a .handle) (a .k) (a .level) in
-          eachMapChunk (a .level) f (chunkMap (a .map) (region x (a .map .region .end .0)) (at .loop .frame + (x - at .loop .at))) (f (chunkMap (a .map) (region (at .loop .at) x) (at .loop .frame)) s)) stop
-          ∙ sym (map-each-step (a .level) (mapStep (a .handle) (a .k) (a .level)) (a .map) (at .loop .at) (a .map .region .end .0) (at .loop .frame) s low) ∙ inv .6;
+          ap (λ (m : Map). eachMapChunk (a .level) f (leftOf t c) (f m s)) chunk
+          ∙ ap (λ (x : ℕ). let m = chunkMap (a .map) (region (at .loop .at) x) (at .loop .frame) in
+          let rest = chunkMap (a .map) (region x (a .map .region .end .0)) (at .loop .frame + (x - at .loop .at)) in
+          eachMapChunk (a .level) f rest (f m s)) stop
+          ∙ sym (map-each-step (a .level) f (a .map) (at .loop .at) (a .map .region .end .0) (at .loop .frame) s low)
+          ∙ inv .6;
     }
 
-map-range-loop-holds : (t : ℕ) → map-range-lts.Need-loop-holds (calls t) (map-range-at t) map-range.Post map-range-Inv-loop map-range-μ-loop
-map-range-loop-holds t c = let p = c .before .before .pre .1 in (p .3 .some, p .3 .from, p .3 .frame, p .3 .room, refl, refl, refl, λ e. refl)
+-- what is left to do after the chunk, where the step is known
+onwards : (t : ℕ) (c : Place t) {x : St} → let a = start-of-chunk c .args in let f = mapStep (a .handle) (a .k) (a .level) in
+    x ≡ f (chunkOf t c) (st (loop-of-chunk c .loop .words) (loop-of-chunk c .loop .ledger))
+    → eachMapChunk (a .level) f (leftOf t c) x ≡ eachMapChunk (a .level) f (a .map) (st (a .words .now) (a .ledger .now))
+onwards t c e =
+    let a = start-of-chunk c .args in
+    ap (eachMapChunk (a .level) (mapStep (a .handle) (a .k) (a .level)) (leftOf t c)) e ∙ facts t c .next
 
-map-range-chunk-end-requires : (t : ℕ) → map-range-lts.Need-chunk-end-requires (calls t) (map-range-at t) map-range.Post map-range-Inv-loop map-range-μ-loop
-map-range-chunk-end-requires t c κs = tt
+-- where the rule leads down there is a level below
+high : (t : ℕ) (c : lts.After-enum-told (calls t) (started t) reads.Post Inv-loop μ-loop)
+    → start-of-chunk (chunk-of-told c) .args .level < 3
+high t c =
+    let place = chunk-of-told c in
+    down-high (start-of-chunk place .args .level) (chunkOf t place) _ (c .before .before .rule-of .ensures) (c .enum-told .given .1)
 
-map-range-entry-index-requires : (t : ℕ) → map-range-lts.Need-entry-index-requires (calls t) (map-range-at t) map-range.Post map-range-Inv-loop map-range-μ-loop
-map-range-entry-index-requires t c κs = tt
+loop-holds : (t : ℕ) → lts.Need-loop-holds (calls t) (started t) reads.Post Inv-loop μ-loop
+loop-holds t c = let p = c .before .before .pre .1 in (p .3 .some, p .3 .from, p .3 .frame, p .3 .room, refl, refl, refl, λ e. refl)
 
-map-range-chunk-of-requires : (t : ℕ) → map-range-lts.Need-chunk-of-requires (calls t) (map-range-at t) map-range.Post map-range-Inv-loop map-range-μ-loop
-map-range-chunk-of-requires t c κs = tt
+chunk-end-requires : (t : ℕ) → lts.Need-chunk-end-requires (calls t) (started t) reads.Post Inv-loop μ-loop
+chunk-end-requires t c κs = tt
 
-map-range-sub-frame : (t : ℕ) → map-range-lts.Need-sub-frame (calls t) (map-range-at t) map-range.Post map-range-Inv-loop map-range-μ-loop
-map-range-sub-frame t c = omega (arith, facts t c .above)
+entry-index-requires : (t : ℕ) → lts.Need-entry-index-requires (calls t) (started t) reads.Post Inv-loop μ-loop
+entry-index-requires t c κs = tt
 
-map-range-add-frame : (t : ℕ) → map-range-lts.Need-add-frame (calls t) (map-range-at t) map-range.Post map-range-Inv-loop map-range-μ-loop
-map-range-add-frame t c = let f = facts t c in omega (arith, f .above, f .room)
+chunk-of-requires : (t : ℕ) → lts.Need-chunk-of-requires (calls t) (started t) reads.Post Inv-loop μ-loop
+chunk-of-requires t c κs = tt
 
-map-range-mul-word : (t : ℕ) → map-range-lts.Need-mul-word (calls t) (map-range-at t) map-range.Post map-range-Inv-loop map-range-μ-loop
-map-range-mul-word t c = let f = facts t c in omega (arith, f .slot, f .shape .sized)
+sub-frame : (t : ℕ) → lts.Need-sub-frame (calls t) (started t) reads.Post Inv-loop μ-loop
+sub-frame t c = omega (arith, facts t c .above)
 
-map-range-add-word : (t : ℕ) → map-range-lts.Need-add-word (calls t) (map-range-at t) map-range.Post map-range-Inv-loop map-range-μ-loop
-map-range-add-word t c = let f = facts t c in omega (arith, f .slot, f .shape .sized)
+add-frame : (t : ℕ) → lts.Need-add-frame (calls t) (started t) reads.Post Inv-loop μ-loop
+add-frame t c = let f = facts t c in omega (arith, f .above, f .room)
 
-map-range-mul-word-2 : (t : ℕ) → map-range-lts.Need-mul-word-2 (calls t) (map-range-at t) map-range.Post map-range-Inv-loop map-range-μ-loop
-map-range-mul-word-2 t c = let f = facts t c in omega (arith, f .slot, f .shape .sized)
+mul-word : (t : ℕ) → lts.Need-mul-word (calls t) (started t) reads.Post Inv-loop μ-loop
+mul-word t c = let f = facts t c in omega (arith, f .slot, f .shape .sized)
 
-map-range-slice-read-word : (t : ℕ) → map-range-lts.Need-slice-read-word (calls t) (map-range-at t) map-range.Post map-range-Inv-loop map-range-μ-loop
-map-range-slice-read-word t c = let f = facts t (c .before) in omega (arith, f .slot, f .shape .sized)
+add-word : (t : ℕ) → lts.Need-add-word (calls t) (started t) reads.Post Inv-loop μ-loop
+add-word t c = let f = facts t c in omega (arith, f .slot, f .shape .sized)
 
-map-range-rule-of-requires : (t : ℕ) → map-range-lts.Need-rule-of-requires (calls t) (map-range-at t) map-range.Post map-range-Inv-loop map-range-μ-loop
-map-range-rule-of-requires t c κs = let f = facts t (c .before) in (f .fit, f .some)
+mul-word-2 : (t : ℕ) → lts.Need-mul-word-2 (calls t) (started t) reads.Post Inv-loop μ-loop
+mul-word-2 t c = let f = facts t c in omega (arith, f .slot, f .shape .sized)
 
-map-range-enum-told : (t : ℕ) → map-range-lts.Need-enum-told (calls t) (map-range-at t) map-range.Post map-range-Inv-loop map-range-μ-loop
-map-range-enum-told t c = c .match .keys1
+slice-read-word : (t : ℕ) → lts.Need-slice-read-word (calls t) (started t) reads.Post Inv-loop μ-loop
+slice-read-word t c = let f = facts t (c .before) in omega (arith, f .slot, f .shape .sized)
 
-map-range-put-entry-requires : (t : ℕ) → map-range-lts.Need-put-entry-requires (calls t) (map-range-at t) map-range.Post map-range-Inv-loop map-range-μ-loop
-map-range-put-entry-requires t c κs =
+rule-of-requires : (t : ℕ) → lts.Need-rule-of-requires (calls t) (started t) reads.Post Inv-loop μ-loop
+rule-of-requires t c κs = let f = facts t (c .before) in (f .fit, f .some)
+
+enum-told : (t : ℕ) → lts.Need-enum-told (calls t) (started t) reads.Post Inv-loop μ-loop
+enum-told t c = c .match .keys1
+
+put-entry-requires : (t : ℕ) → lts.Need-put-entry-requires (calls t) (started t) reads.Post Inv-loop μ-loop
+put-entry-requires t c κs =
     let place = c .before .before .before .before .before in
     let f = facts t place in
-    let a = c .before .before .before .before .before .before .before .before .before .before .before .before .args in
+    let a = start-of-chunk place .args in
     let r = c .before .before .before .rule-of in (
       f .shape,
-      omega (arith, c .before .before .before .before .before .before .before .before .before .loop .inv .5, c .before .before .before .before .before .before .before .before .before .before .before .before .pre .1 .1),
+      omega (arith, loop-of-chunk place .loop .inv .5, start-of-chunk place .pre .1 .1),
       f .slot,
       record { here = no-down (r .result) (c .before .before .match .keys2); high = drop-high (a .level) (chunkOf t place) _ (r .ensures) },
     )
 
-map-range-loop-less : (t : ℕ) → map-range-lts.Need-loop-less (calls t) (map-range-at t) map-range.Post map-range-Inv-loop map-range-μ-loop
-map-range-loop-less t c = omega (arith, facts t (c .before .before .before .before .before .before .before .before .before .before) .above)
+loop-less : (t : ℕ) → lts.Need-loop-less (calls t) (started t) reads.Post Inv-loop μ-loop
+loop-less t c = omega (arith, facts t (chunk-of-again c) .above)
 
-map-range-loop-again : (t : ℕ) → map-range-lts.Need-loop-again (calls t) (map-range-at t) map-range.Post map-range-Inv-loop map-range-μ-loop
-map-range-loop-again t c =
-    let at = c .before .before .before .before .before .before .before .before .before .before .before .before .before .before in
-    let a = c .before .before .before .before .before .before .before .before .before .before .before .before .before .before .before .before .before .args in
-    let place = c .before .before .before .before .before .before .before .before .before .before in
+loop-again : (t : ℕ) → lts.Need-loop-again (calls t) (started t) reads.Post Inv-loop μ-loop
+loop-again t c =
+    let place = chunk-of-again c in
+    let at = loop-of-chunk place in
+    let a = start-of-chunk place .args in
+    let s = st (at .loop .words) (at .loop .ledger) in
     let f = facts t place in
     let r = c .before .before .before .before .before .before .before .before .rule-of in
-    let put = c .before .before .before .before .put-entry in (
+    let here = no-down (r .result) (c .before .before .before .before .before .before .before .match .keys2) in
+    let put = c .before .before .before .before .put-entry in
+    let step = chunk-here (a .handle) (a .k) (a .level) (chunkOf t place) s (f .index) (r .ensures) here in (
       f .under,
       f .paged,
       f .framed,
       f .room,
       put .kept .0 ∙ at .loop .inv .4,
       put .kept .1 .0 ∙ at .loop .inv .5,
-      ap (eachMapChunk (a .level) (mapStep (a .handle) (a .k) (a .level)) (leftOf t place)) (put .ensures .0 ∙ chunk-here (a .handle) (a .k) (a .level) (chunkOf t place) (st (at .loop .words) (at .loop .ledger)) (f .index) (r .ensures) (no-down (r .result) (c .before .before .before .before .before .before .before .match .keys2))) ∙ f .next,
+      onwards t place (put .ensures .0 ∙ step),
       λ e. let q = put .ensures .1 e in q .1 ∙ at .loop .inv .7 (q .0),
     )
 
-map-range-descend-requires : (t : ℕ) → map-range-lts.Need-descend-requires (calls t) (map-range-at t) map-range.Post map-range-Inv-loop map-range-μ-loop
-map-range-descend-requires t c κs =
-    let place = c .before .before .before .before .before .before in
+descend-requires : (t : ℕ) → lts.Need-descend-requires (calls t) (started t) reads.Post Inv-loop μ-loop
+descend-requires t c κs =
+    let told = c .before .before in
+    let place = chunk-of-told told in
     let f = facts t place in
-    (f .shape, down-high (c .before .before .before .before .before .before .before .before .before .before .before .before .before .args .level) (chunkOf t place) _ (c .before .before .before .before .rule-of .ensures) (c .before .before .enum-told .given .1), omega (arith, c .before .before .before .before .before .before .before .before .before .before .loop .inv .5, c .before .before .before .before .before .before .before .before .before .before .before .before .before .pre .1 .1), f .slot)
+    (f .shape, high t told, omega (arith, loop-of-chunk place .loop .inv .5, start-of-chunk place .pre .1 .1), f .slot)
 
-map-range-enum-known-under : (t : ℕ) → map-range-lts.Need-enum-known-under (calls t) (map-range-at t) map-range.Post map-range-Inv-loop map-range-μ-loop
-map-range-enum-known-under t c = c .match2 .keys1
+enum-known-under : (t : ℕ) → lts.Need-enum-known-under (calls t) (started t) reads.Post Inv-loop μ-loop
+enum-known-under t c = c .match2 .keys1
 
-map-range-enum-told-2 : (t : ℕ) → map-range-lts.Need-enum-told-2 (calls t) (map-range-at t) map-range.Post map-range-Inv-loop map-range-μ-loop
-map-range-enum-told-2 t c = c .match2 .keys2
+enum-told-2 : (t : ℕ) → lts.Need-enum-told-2 (calls t) (started t) reads.Post Inv-loop μ-loop
+enum-told-2 t c = c .match2 .keys2
 
-map-range-loop-less-2 : (t : ℕ) → map-range-lts.Need-loop-less-2 (calls t) (map-range-at t) map-range.Post map-range-Inv-loop map-range-μ-loop
-map-range-loop-less-2 t c = omega (arith, facts t (c .before .before .before .before .before .before .before .before .before .before .before .before .before) .above)
+loop-less-2 : (t : ℕ) → lts.Need-loop-less-2 (calls t) (started t) reads.Post Inv-loop μ-loop
+loop-less-2 t c = omega (arith, facts t (chunk-of-told (told-of-again-2 c)) .above)
 
-map-range-loop-again-2 : (t : ℕ) → map-range-lts.Need-loop-again-2 (calls t) (map-range-at t) map-range.Post map-range-Inv-loop map-range-μ-loop
-map-range-loop-again-2 t c =
-    let at = c .before .before .before .before .before .before .before .before .before .before .before .before .before .before .before .before .before in
-    let a = c .before .before .before .before .before .before .before .before .before .before .before .before .before .before .before .before .before .before .before .before .args in
-    let place = c .before .before .before .before .before .before .before .before .before .before .before .before .before in
+loop-again-2 : (t : ℕ) → lts.Need-loop-again-2 (calls t) (started t) reads.Post Inv-loop μ-loop
+loop-again-2 t c =
+    let told = told-of-again-2 c in
+    let place = chunk-of-told told in
+    let at = loop-of-chunk place in
+    let a = start-of-chunk place .args in
     let f = facts t place in
-    let s = st (at .loop .words) (at .loop .ledger) in (
+    let s = st (at .loop .words) (at .loop .ledger) in
+    let r = told .before .before .rule-of .ensures in
+    let down = told .enum-told .given .1 in
+    let under = c .before .before .before .before .before .before .descend in
+    let none = c .enum-told2 .given .1 in
+    let same = below-nothing (a .handle) (a .k) (a .level) (place .before .entry-index .result) s (under .ensures) none in (
       f .under,
       f .paged,
       f .framed,
       f .room,
-      c .before .before .before .before .before .before .descend .kept .0 ∙ at .loop .inv .4,
-      c .before .before .before .before .before .before .descend .kept .1 .0 ∙ at .loop .inv .5,
-      ap (eachMapChunk (a .level) (mapStep (a .handle) (a .k) (a .level)) (leftOf t place)) (chunk-none (a .handle) (a .k) (a .level) (chunkOf t place) s (f .index) (c .before .before .before .before .before .before .before .before .before .before .before .rule-of .ensures) (c .before .before .before .before .before .before .before .before .before .enum-told .given .1) (c .before .before .before .before .before .before .descend .ensures) (c .enum-told2 .given .1)) ∙ f .next,
-      λ e. ap (λ (x : St). x .ledger) (below-nothing (a .handle) (a .k) (a .level) (place .before .entry-index .result) s (c .before .before .before .before .before .before .descend .ensures) (c .enum-told2 .given .1)) ∙ at .loop .inv .7 e,
+      under .kept .0 ∙ at .loop .inv .4,
+      under .kept .1 .0 ∙ at .loop .inv .5,
+      onwards t place (chunk-none (a .handle) (a .k) (a .level) (chunkOf t place) s (f .index) r down (under .ensures) none),
+      λ e. ap (λ (x : St). x .ledger) same ∙ at .loop .inv .7 e,
     )
 
-map-range-add-map-range : (t : ℕ) → map-range-lts.Need-add-map-range (calls t) (map-range-at t) map-range.Post map-range-Inv-loop map-range-μ-loop
-map-range-add-map-range t c = omega (arith, down-high (c .before .before .before .before .before .before .before .before .before .before .before .before .before .before .before .before .before .before .before .before .before .before .before .args .level) (chunkOf t (c .before .before .before .before .before .before .before .before .before .before .before .before .before .before .before .before)) _ (c .before .before .before .before .before .before .before .before .before .before .before .before .before .before .rule-of .ensures) (c .before .before .before .before .before .before .before .before .before .before .before .before .enum-told .given .1))
+add-map-range : (t : ℕ) → lts.Need-add-map-range (calls t) (started t) reads.Post Inv-loop μ-loop
+add-map-range t c = omega (arith, high t (told-of-call c))
 
-map-range-map-range-requires : (t : ℕ) → map-range-lts.Need-map-range-requires (calls t) (map-range-at t) map-range.Post map-range-Inv-loop map-range-μ-loop
-map-range-map-range-requires t c κs =
-    let place = c .before .before .before .before .before .before .before .before .before .before .before .before .before .before .before .before in
+map-range-requires : (t : ℕ) → lts.Need-map-range-requires (calls t) (started t) reads.Post Inv-loop μ-loop
+map-range-requires t c κs =
+    let told = told-of-call c in
+    let place = chunk-of-told told in
     let f = facts t place in
-    let a = c .before .before .before .before .before .before .before .before .before .before .before .before .before .before .before .before .before .before .before .before .before .before .before .args in
-    let at = c .before .before .before .before .before .before .before .before .before .before .before .before .before .before .before .before .before .before .before .before in
-    let under = c .before .before .before .before .before .before .before .before .before in
+    let a = start-of-chunk place .args in
+    let at = loop-of-chunk place in
     let s = st (at .loop .words) (at .loop .ledger) in
-    let high = down-high (a .level) (chunkOf t place) _ (c .before .before .before .before .before .before .before .before .before .before .before .before .before .before .rule-of .ensures) (c .before .before .before .before .before .before .before .before .before .before .before .before .enum-told .given .1) in
-    let found = below-inside (a .handle) (a .k) (a .level) (place .before .entry-index .result) s _ (under .descend .ensures) (c .before .before .before .under .given .1) in (
-      omega (arith, high, c .before .before .before .before .before .before .before .before .before .before .before .before .before .before .before .before .before .before .before .before .before .before .before .pre .0),
-      (shaped-keep (a .handle) s (st (under .descend .last .0) (under .descend .last .1 .0)) (f .shape) (under .descend .kept .0) (under .descend .kept .1 .0), omega (arith, found, under .descend .kept .1 .0), omega (arith, high), f .fit),
+    let under = c .before .before .before .before .before .before .before .before .before .descend in
+    let table = c .before .before .before .under .given .1 in
+    let found = below-inside (a .handle) (a .k) (a .level) (place .before .entry-index .result) s _ (under .ensures) table in
+    let shape = shaped-keep (a .handle) s (st (under .last .0) (under .last .1 .0)) (f .shape) (under .kept .0) (under .kept .1 .0) in (
+      omega (arith, high t told, start-of-chunk place .pre .0),
+      (shape, omega (arith, found, under .kept .1 .0), omega (arith, high t told), f .fit),
     )
 
-map-range-ledger-changed-requires : (t : ℕ) → map-range-lts.Need-ledger-changed-requires (calls t) (map-range-at t) map-range.Post map-range-Inv-loop map-range-μ-loop
-map-range-ledger-changed-requires t c κs = tt
+ledger-changed-requires : (t : ℕ) → lts.Need-ledger-changed-requires (calls t) (started t) reads.Post Inv-loop μ-loop
+ledger-changed-requires t c κs = tt
 
-map-range-loop-less-3 : (t : ℕ) → map-range-lts.Need-loop-less-3 (calls t) (map-range-at t) map-range.Post map-range-Inv-loop map-range-μ-loop
-map-range-loop-less-3 t c = omega (arith, facts t (c .before .before .before .before .before .before .before .before .before .before .before .before .before .before .before .before .before .before .before .before .before .before) .above)
+loop-less-3 : (t : ℕ) → lts.Need-loop-less-3 (calls t) (started t) reads.Post Inv-loop μ-loop
+loop-less-3 t c = omega (arith, facts t (chunk-of-told (told-of-again-3 c)) .above)
 
-map-range-loop-again-3 : (t : ℕ) → map-range-lts.Need-loop-again-3 (calls t) (map-range-at t) map-range.Post map-range-Inv-loop map-range-μ-loop
-map-range-loop-again-3 t c =
-    let at = c .before .before .before .before .before .before .before .before .before .before .before .before .before .before .before .before .before .before .before .before .before .before .before .before .before .before in
-    let a = c .before .before .before .before .before .before .before .before .before .before .before .before .before .before .before .before .before .before .before .before .before .before .before .before .before .before .before .before .before .args in
-    let place = c .before .before .before .before .before .before .before .before .before .before .before .before .before .before .before .before .before .before .before .before .before .before in
+loop-again-3 : (t : ℕ) → lts.Need-loop-again-3 (calls t) (started t) reads.Post Inv-loop μ-loop
+loop-again-3 t c =
+    let told = told-of-again-3 c in
+    let place = chunk-of-told told in
+    let at = loop-of-chunk place in
+    let a = start-of-chunk place .args in
     let f = facts t place in
     let s = st (at .loop .words) (at .loop .ledger) in
-    let r = c .before .before .before .before .before .before .before .before .before .before .before .before .before .before .before .before .before .before .before .before .rule-of .ensures in
-    let down = c .before .before .before .before .before .before .before .before .before .before .before .before .before .before .before .before .before .before .enum-told .given .1 in
-    let under = c .before .before .before .before .before .before .before .before .before .before .before .before .before .before .before .descend in
+    let r = told .before .before .rule-of .ensures in
+    let down = told .enum-told .given .1 in
+    let under = descend-of-again-3 c .descend in
+    let table = c .before .before .before .before .before .before .before .before .before .under .given .1 in
     let lower = c .before .before .before .before .before .map-range in
-    let high = down-high (a .level) (chunkOf t place) _ r down in (
+    let step = chunk-into (a .handle) (a .k) (a .level) (chunkOf t place) s (f .index) r down (under .ensures) _ table (high t told) in
+    let kept = below-kept (a .handle) (a .k) (a .level) (place .before .entry-index .result) s (under .ensures) (high t told) in (
       f .under,
       f .paged,
       f .framed,
       f .room,
       lower .kept .0 ∙ under .kept .0 ∙ at .loop .inv .4,
       lower .kept .1 .0 ∙ under .kept .1 .0 ∙ at .loop .inv .5,
-      ap (eachMapChunk (a .level) (mapStep (a .handle) (a .k) (a .level)) (leftOf t place)) (lower .ensures .0 ∙ chunk-into (a .handle) (a .k) (a .level) (chunkOf t place) s (f .index) r down (under .ensures) _ (c .before .before .before .before .before .before .before .before .before .under .given .1) high) ∙ f .next,
+      onwards t place (lower .ensures .0 ∙ step),
       λ e. let q = c .ledger-changed .ensures e in
-          lower .ensures .1 (q .2) ∙ ap (λ (x : St). x .ledger) (below-kept (a .handle) (a .k) (a .level) (place .before .entry-index .result) s (under .ensures) high (q .1)) ∙ at .loop .inv .7 (q .0),
+          lower .ensures .1 (q .2) ∙ ap (λ (x : St). x .ledger) (kept (q .1)) ∙ at .loop .inv .7 (q .0),
     )
 
-map-range-same-length : (t : ℕ) → map-range-lts.Need-same-length (calls t) (map-range-at t) map-range.Post map-range-Inv-loop map-range-μ-loop
-map-range-same-length t c = omega arith
+same-length : (t : ℕ) → lts.Need-same-length (calls t) (started t) reads.Post Inv-loop μ-loop
+same-length t c = omega arith
 
-map-range-same-length-2 : (t : ℕ) → map-range-lts.Need-same-length-2 (calls t) (map-range-at t) map-range.Post map-range-Inv-loop map-range-μ-loop
-map-range-same-length-2 t c = omega arith
+same-length-2 : (t : ℕ) → lts.Need-same-length-2 (calls t) (started t) reads.Post Inv-loop μ-loop
+same-length-2 t c = omega arith
 
-map-range-returns : (t : ℕ) → map-range-lts.Need-returns (calls t) (map-range-at t) map-range.Post map-range-Inv-loop map-range-μ-loop
-map-range-returns t c =
+returns : (t : ℕ) → lts.Need-returns (calls t) (started t) reads.Post Inv-loop μ-loop
+returns t c =
     let at = c .before in
-    let a = c .before .before .before .before .args in (
-      sym (map-each-done (a .level) (mapStep (a .handle) (a .k) (a .level)) (a .map) (at .loop .at) (a .map .region .end .0) (at .loop .frame) (st (at .loop .words) (at .loop .ledger)) (omega arith))
+    let start = c .before .before .before .before in
+    let a = start .args in
+    let f = mapStep (a .handle) (a .k) (a .level) in
+    let s = st (at .loop .words) (at .loop .ledger) in (
+      sym (map-each-done (a .level) f (a .map) (at .loop .at) (a .map .region .end .0) (at .loop .frame) s (omega arith))
           ∙ at .loop .inv .6
-          ∙ map-open (a .handle) (a .k) (a .level) (a .map) (st (a .words .now) (a .ledger .now)) (c .before .before .before .before .pre .1 .2),
+          ∙ map-open (a .handle) (a .k) (a .level) (a .map) (st (a .words .now) (a .ledger .now)) (start .pre .1 .2),
       at .loop .inv .7,
     )
 
 pub +map-range-spec : {M : Type 1} → statement M
-+map-range-spec = close μ-map-range λ t. map-range-lts.spec (calls t)
-    (map-range-at t)
-    map-range.Post
-    map-range-Inv-loop
-    map-range-μ-loop
-    (map-range-loop-holds t)
-    (map-range-chunk-end-requires t)
-    (map-range-entry-index-requires t)
-    (map-range-chunk-of-requires t)
-    (map-range-sub-frame t)
-    (map-range-add-frame t)
-    (map-range-mul-word t)
-    (map-range-add-word t)
-    (map-range-mul-word-2 t)
-    (map-range-slice-read-word t)
-    (map-range-rule-of-requires t)
-    (map-range-enum-told t)
-    (map-range-put-entry-requires t)
-    (map-range-loop-less t)
-    (map-range-loop-again t)
-    (map-range-descend-requires t)
-    (map-range-enum-known-under t)
-    (map-range-enum-told-2 t)
-    (map-range-loop-less-2 t)
-    (map-range-loop-again-2 t)
-    (map-range-add-map-range t)
-    (map-range-map-range-requires t)
-    (map-range-ledger-changed-requires t)
-    (map-range-loop-less-3 t)
-    (map-range-loop-again-3 t)
-    (map-range-same-length t)
-    (map-range-same-length-2 t)
-    (map-range-returns t)
++map-range-spec = close μ λ t. lts.spec (calls t)
+    (started t)
+    reads.Post
+    Inv-loop
+    μ-loop
+    (loop-holds t)
+    (chunk-end-requires t)
+    (entry-index-requires t)
+    (chunk-of-requires t)
+    (sub-frame t)
+    (add-frame t)
+    (mul-word t)
+    (add-word t)
+    (mul-word-2 t)
+    (slice-read-word t)
+    (rule-of-requires t)
+    (enum-told t)
+    (put-entry-requires t)
+    (loop-less t)
+    (loop-again t)
+    (descend-requires t)
+    (enum-known-under t)
+    (enum-told-2 t)
+    (loop-less-2 t)
+    (loop-again-2 t)
+    (add-map-range t)
+    (map-range-requires t)
+    (ledger-changed-requires t)
+    (loop-less-3 t)
+    (loop-again-3 t)
+    (same-length t)
+    (same-length-2 t)
+    (returns t)

@@ -16,10 +16,14 @@ use Rattle.address.proofs.granularity_at_level.Reads as granularity-at-level-re
 use Rattle.entry.proofs.flags.Reads as flags-reads
 
 -- the chunk's offset in its entry, by a mask
-offset : (c : tie.After-granularity-at-level) → bitAnd (c .before .before .before .before .before .args .map .region .start .0) (c .granularity-at-level .result - 1) ≡ c .before .before .before .before .before .args .map .region .start .0 % sizeAt (c .before .before .before .before .before .args .level)
+offset : (c : tie.After-granularity-at-level)
+    → bitAnd (c .before .before .before .before .before .args .map .region .start .0) (c .granularity-at-level .result - 1)
+    ≡ c .before .before .before .before .before .args .map .region .start .0 % sizeAt
+    (c .before .before .before .before .before .args .level)
 offset c =
     let a = c .before .before .before .before .before .args in
-    ap (λ (g : ℕ). bitAnd (a .map .region .start .0) (g - 1)) (c .granularity-at-level .ensures) ∙ size-mod (a .level) (a .map .region .start .0)
+    ap (λ (g : ℕ). bitAnd (a .map .region .start .0) (g - 1)) (c .granularity-at-level .ensures)
+    ∙ size-mod (a .level) (a .map .region .start .0)
 
 returns : tie.Need-returns
 returns c = let a = c .before .args in same-table (a .level) (a .map) (a .word) (c .if1 .taken)
@@ -28,7 +32,10 @@ flags-requires : tie.Need-flags-requires
 flags-requires c κs = search needs
 
 returns-2 : tie.Need-returns-2
-returns-2 c = let a = c .before .before .before .before .args in same-flags (a .level) (a .map) (a .word) (c .before .before .before .if1 .left) (λ e. c .if2 .taken (c .before .before .flags .ensures ∙ e))
+returns-2 c =
+    let a = c .before .before .before .before .args in
+    same-flags (a .level) (a .map) (a .word) (c .before .before .before .if1 .left)
+    (λ e. c .if2 .taken (c .before .before .flags .ensures ∙ e))
 
 granularity-at-level-requires : tie.Need-granularity-at-level-requires
 granularity-at-level-requires c κs = search needs
@@ -40,14 +47,18 @@ returns-3 : tie.Need-returns-3
 returns-3 c =
     let a = c .before .before .before .before .before .before .before .before .args in
     let e = offset (c .before .before .before) in
-    same-below (a .level) (a .map) (a .word) (c .before .before .before .before .before .before .before .if1 .left) (sym (c .before .before .before .before .before .before .flags .ensures) ∙ c .before .before .before .before .if2 .left) (omega arith)
+    same-below (a .level) (a .map) (a .word) (c .before .before .before .before .before .before .before .if1 .left)
+    (sym (c .before .before .before .before .before .before .flags .ensures) ∙ c .before .before .before .before .if2 .left)
+    (omega arith)
 
 returns-4 : tie.Need-returns-4
 returns-4 c =
-    let a = c .before .before .before .before .before .before .before .before .before .args in
+    let second = c .before .before .before .before .before in
+    let a = second .before .before .before .before .args in
     let e = offset (c .before .before .before .before) in
+    let flags = sym (second .before .before .flags .ensures) ∙ second .if2 .left in
     ap₂ (λ (x y : ℕ). eqb (a .map .frame .0 - x) y) e (mask-address (a .word))
-    ∙ same-place (a .level) (a .map) (a .word) (c .before .before .before .before .before .before .before .before .if1 .left) (sym (c .before .before .before .before .before .before .before .flags .ensures) ∙ c .before .before .before .before .before .if2 .left) (omega arith)
+    ∙ same-place (a .level) (a .map) (a .word) (second .before .before .before .if1 .left) flags (omega arith)
 
 pub is-already-mapped-spec : {M : Type 1} → statement M
 is-already-mapped-spec =

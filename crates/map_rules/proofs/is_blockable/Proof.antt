@@ -14,7 +14,9 @@ use Rattle.map_rules.proofs.is_blockable.Lts as lts
 use Rattle.address.proofs.granularity_at_level.Reads as granularity-at-level-reads
 
 -- the frame's offset in an entry, by a mask
-aligned : (c : tie.After-granularity-at-level) → bitAnd (c .before .args .map .frame .0) (c .granularity-at-level .result - 1) ≡ c .before .args .map .frame .0 % sizeAt (c .before .args .level)
+aligned : (c : tie.After-granularity-at-level)
+    → bitAnd (c .before .args .map .frame .0) (c .granularity-at-level .result - 1)
+    ≡ c .before .args .map .frame .0 % sizeAt (c .before .args .level)
 aligned c =
     let a = c .before .args in
     ap (λ (g : ℕ). bitAnd (a .map .frame .0) (g - 1)) (c .granularity-at-level .ensures) ∙ size-mod (a .level) (a .map .frame .0)
@@ -31,11 +33,19 @@ returns c = rw (ne-eqb _ 0 (λ e. c .if1 .taken (aligned (c .before .before) ∙
 
 returns-2 : tie.Need-returns-2
 unfolding blockable
-returns-2 c = rw (eq-eqb _ 0 (sym (aligned (c .before .before .before .before)) ∙ c .before .before .if1 .left), not-true (c .before .before .before .before .before .args .map .blocks) (c .if2 .taken))
+returns-2 c =
+    rw (
+      eq-eqb _ 0 (sym (aligned (c .before .before .before .before)) ∙ c .before .before .if1 .left),
+      not-true (c .before .before .before .before .before .args .map .blocks) (c .if2 .taken),
+    )
 
 returns-3 : tie.Need-returns-3
 unfolding blockable
-returns-3 c = rw (eq-eqb _ 0 (sym (aligned (c .before .before .before .before)) ∙ c .before .before .if1 .left), not-false (c .before .before .before .before .before .args .map .blocks) (c .if2 .left))
+returns-3 c =
+    rw (
+      eq-eqb _ 0 (sym (aligned (c .before .before .before .before)) ∙ c .before .before .if1 .left),
+      not-false (c .before .before .before .before .before .args .map .blocks) (c .if2 .left),
+    )
 
 pub is-blockable-spec : {M : Type 1} → statement M
 is-blockable-spec =

@@ -20,7 +20,8 @@ loop-holds : tie.Need-loop-holds Inv-loop μ-loop
 loop-holds c = (refl, c .before .before .pre .0 .some, c .before .before .pre .0 .level)
 
 next-table-requires : tie.Need-next-table-requires Inv-loop μ-loop
-next-table-requires c κs = (c .before .before .before .before .pre .0, c .before .loop .inv .1, c .loop-test .taken, c .before .before .before .before .pre .1)
+next-table-requires c κs =
+    (c .before .before .before .before .pre .0, c .before .loop .inv .1, c .loop-test .taken, c .before .before .before .before .pre .1)
 
 enum-known-next : tie.Need-enum-known-next Inv-loop μ-loop
 enum-known-next c = c .match .keys1
@@ -38,7 +39,9 @@ loop-less : tie.Need-loop-less Inv-loop μ-loop
 loop-less c = omega arith
 
 loop-again : tie.Need-loop-again Inv-loop μ-loop
-loop-again c = let leads = c .before .before .before .next-table .ensures _ (c .before .next .given .1) in (leads .0 ∙ c .before .before .before .before .before .loop .inv .0, leads .1, omega arith)
+loop-again c =
+    let leads = c .before .before .before .next-table .ensures _ (c .before .next .given .1) in
+    (leads .0 ∙ c .before .before .before .before .before .loop .inv .0, leads .1, omega arith)
 
 returns-2 : tie.Need-returns-2 Inv-loop μ-loop
 returns-2 c = c .before .loop .inv

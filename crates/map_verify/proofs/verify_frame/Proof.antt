@@ -12,10 +12,14 @@ has-frames-requires : tie.Need-has-frames-requires
 has-frames-requires c κs = tt
 
 returns : tie.Need-returns
-returns c = let a = c .before .before .args in frame-not (a .frame .0) (a .length) (sym (c .before .has-frames .ensures) ∙ not-true _ (c .if1 .taken))
+returns c =
+    let a = c .before .before .args in
+    frame-not (a .frame .0) (a .length) (sym (c .before .has-frames .ensures) ∙ not-true _ (c .if1 .taken))
 
 returns-2 : tie.Need-returns-2
-returns-2 c = let a = c .before .before .args in frame-may (a .frame .0) (a .length) (sym (c .before .has-frames .ensures) ∙ not-false _ (c .if1 .left))
+returns-2 c =
+    let a = c .before .before .args in
+    frame-may (a .frame .0) (a .length) (sym (c .before .has-frames .ensures) ∙ not-false _ (c .if1 .left))
 
 pub verify-frame-spec : {M : Type 1} → statement M
 verify-frame-spec = tie.close (tie.spec has-frames-requires returns returns-2)

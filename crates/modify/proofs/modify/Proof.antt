@@ -18,17 +18,33 @@ use Rattle.modify.proofs.modify_sound.Reads as modify-sound-reads
 use Rattle.pool_handle.proofs.is_shaped.Reads as is-shaped-reads
 use Rattle.region.proofs.MemoryRegion.new.Reads as new-reads
 
+-- ways back: to the start from where the edit is verified; from the last return to where the pool is told accepted
+abbrev start-of-verified : tie.After-verify-edit → tie.Start
+start-of-verified c = c .before .before .before .before .before .before .before .before .before
+
+abbrev told-of-returns-3 : tie.After-slice-known6 → tie.After-enum-told
+told-of-returns-3 c = c .before .before .before .before .before .before .before .before .before .before
+
 -- past the first test the shape is known
-good : (c : tie.Else1) → let a = c .before .before .before .before .before .before .before .args in shaped (a .handle) (st (a .words .now) (a .ledger .now)) ≡ true
+good : (c : tie.Else1)
+    → let a = c .before .before .before .before .before .before .before .args in
+    shaped (a .handle) (st (a .words .now) (a .ledger .now)) ≡ true
 good c = sym (c .before .is-shaped .ensures) ∙ not-false _ (c .if1 .left)
 
 -- the edit that is asked for
-edit : (c : tie.After-new) → let a = c .before .before .before .before .before .before .before .before .args in _≡_ {A = Edit} (record { region = c .new .result; set = a .set; clear = a .clear; live = a .live }) (askedEdit (a .start .0) (a .end .0) (a .set) (a .clear) (a .live))
-edit c = let a = c .before .before .before .before .before .before .before .before .args in asked-is (a .start .0) (a .end .0) (a .set) (a .clear) (a .live) (c .new .ensures)
+edit : (c : tie.After-new)
+    → let a = c .before .before .before .before .before .before .before .before .args in
+    _≡_ {A = Edit} (record { region = c .new .result; set = a .set; clear = a .clear; live = a .live })
+    (askedEdit (a .start .0) (a .end .0) (a .set) (a .clear) (a .live))
+edit c =
+    let a = c .before .before .before .before .before .before .before .before .args in
+    asked-is (a .start .0) (a .end .0) (a .set) (a .clear) (a .live) (c .new .ensures)
 
--- what is asked of it
-verified : (c : tie.After-verify-edit) → let a = c .before .before .before .before .before .before .before .before .before .args in c .verify-edit .result ≡ verifyEdit (a .handle) (a .end .0) (askedEdit (a .start .0) (a .end .0) (a .set) (a .clear) (a .live))
-verified c = let a = c .before .before .before .before .before .before .before .before .before .args in c .verify-edit .ensures ∙ ap (verifyEdit (a .handle) (a .end .0)) (edit (c .before))
+-- what `verify_edit` answers on the edit that is asked for
+verified : (c : tie.After-verify-edit)
+    → let a = start-of-verified c .args in
+    c .verify-edit .result ≡ verifyEdit (a .handle) (a .end .0) (askedEdit (a .start .0) (a .end .0) (a .set) (a .clear) (a .live))
+verified c = let a = start-of-verified c .args in c .verify-edit .ensures ∙ ap (verifyEdit (a .handle) (a .end .0)) (edit (c .before))
 
 is-shaped-requires : tie.Need-is-shaped-requires
 is-shaped-requires c κs = tt
@@ -40,7 +56,10 @@ same-length-2 : tie.Need-same-length-2
 same-length-2 c = omega arith
 
 returns : tie.Need-returns
-returns c = let a = c .before .before .before .before .before .before .before .args in call-misshaped (a .handle) (a .start .0) (a .end .0) (a .set) (a .clear) (a .live) (st (a .words .now) (a .ledger .now)) (a .list .now) (sym (c .before .is-shaped .ensures) ∙ not-true _ (c .if1 .taken))
+returns c =
+    let a = c .before .before .before .before .before .before .before .args in
+    call-misshaped (a .handle) (a .start .0) (a .end .0) (a .set) (a .clear) (a .live) (st (a .words .now) (a .ledger .now)) (a .list .now)
+    (sym (c .before .is-shaped .ensures) ∙ not-true _ (c .if1 .taken))
 
 new-requires : tie.Need-new-requires
 new-requires c κs = tt
@@ -56,9 +75,13 @@ enum-told c = c .match .keys2
 
 modify-sound-requires : tie.Need-modify-sound-requires
 modify-sound-requires c κs =
-    let a = c .before .before .before .before .before .before .before .before .before .before .before .before .before .before .args in
-    let span = asked-span (a .handle) (a .start .0) (a .end .0) (a .set) (a .clear) (a .live) (sym (verified (c .before .before .before .before .before)) ∙ c .before .before .before .enum-told .given .1) in
-    (shaped-says (a .handle) (st (a .words .now) (a .ledger .now)) (rw (good (c .before .before .before .before .before .before .before)) tt), subst⁻¹ (λ (e : Edit). e .region .end .0 - e .region .start .0 ≤ 2 ^ 48) (edit (c .before .before .before .before .before .before)) span)
+    let asked = c .before .before .before .before .before in
+    let a = start-of-verified asked .args in
+    let accepted = sym (verified asked) ∙ c .before .before .before .enum-told .given .1 in
+    let span = asked-span (a .handle) (a .start .0) (a .end .0) (a .set) (a .clear) (a .live) accepted in (
+      shaped-says (a .handle) (st (a .words .now) (a .ledger .now)) (rw (good (asked .before .before)) tt),
+      subst⁻¹ (λ (e : Edit). e .region .end .0 - e .region .start .0 ≤ 2 ^ 48) (edit (asked .before)) span,
+    )
 
 same-length-3 : tie.Need-same-length-3
 same-length-3 c = omega arith
@@ -67,7 +90,11 @@ same-length-4 : tie.Need-same-length-4
 same-length-4 c = omega arith
 
 returns-2 : tie.Need-returns-2
-returns-2 c = let a = c .before .before .before .before .before .before .before .before .before .before .before .before .args in call-refused (a .handle) (a .start .0) (a .end .0) (a .set) (a .clear) (a .live) (st (a .words .now) (a .ledger .now)) (a .list .now) (good (c .before .before .before .before .before)) (verified (c .before .before .before)) _ (c .before .outcome .given .1)
+returns-2 c =
+    let asked = c .before .before .before in
+    let a = start-of-verified asked .args in
+    call-refused (a .handle) (a .start .0) (a .end .0) (a .set) (a .clear) (a .live) (st (a .words .now) (a .ledger .now)) (a .list .now)
+    (good (asked .before .before)) (verified asked) _ (c .before .outcome .given .1)
 
 same-length-5 : tie.Need-same-length-5
 same-length-5 c = c .before .before .before .before .before .before .modify-sound .kept .0
@@ -80,11 +107,14 @@ same-length-7 c = c .before .before .before .before .before .before .modify-soun
 
 returns-3 : tie.Need-returns-3
 returns-3 c =
-    let a = c .before .before .before .before .before .before .before .before .before .before .before .before .before .before .before .before .before .before .before .before .before .args in
+    let told = told-of-returns-3 c in
+    let asked = told .before .before in
+    let a = start-of-verified asked .args in
     let s = st (a .words .now) (a .ledger .now) in
     c .before .before .before .before .before .before .modify-sound .ensures
-    ∙ ap (λ (e : Edit). modifySound (a .handle) e s (a .list .now)) (edit (c .before .before .before .before .before .before .before .before .before .before .before .before .before))
-    ∙ call-asked (a .handle) (a .start .0) (a .end .0) (a .set) (a .clear) (a .live) s (a .list .now) (good (c .before .before .before .before .before .before .before .before .before .before .before .before .before .before)) (verified (c .before .before .before .before .before .before .before .before .before .before .before .before)) (c .before .before .before .before .before .before .before .before .before .before .enum-told .given .1)
+    ∙ ap (λ (e : Edit). modifySound (a .handle) e s (a .list .now)) (edit (asked .before))
+    ∙ call-asked (a .handle) (a .start .0) (a .end .0) (a .set) (a .clear) (a .live) s (a .list .now)
+    (good (asked .before .before)) (verified asked) (told .enum-told .given .1)
 
 pub modify-spec : {M : Type 1} → statement M
 modify-spec =

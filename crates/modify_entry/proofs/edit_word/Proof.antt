@@ -22,16 +22,24 @@ enum-told-4 : tie.Need-enum-told-4
 enum-told-4 c = c .match .keys4
 
 returns : tie.Need-returns
-returns c = let a = c .before .before .before .before .before .args in edit-table (a .level) (a .edit) (a .word) (c .before .before .kind-of .ensures) (c .enum-told .given .1)
+returns c =
+    let a = c .before .before .before .before .before .args in
+    edit-table (a .level) (a .edit) (a .word) (c .before .before .kind-of .ensures) (c .enum-told .given .1)
 
 returns-2 : tie.Need-returns-2
-returns-2 c = let a = c .before .before .before .before .before .args in edit-block (a .level) (a .edit) (a .word) (c .before .before .kind-of .ensures) (c .enum-told2 .given .1)
+returns-2 c =
+    let a = c .before .before .before .before .before .args in
+    edit-block (a .level) (a .edit) (a .word) (c .before .before .kind-of .ensures) (c .enum-told2 .given .1)
 
 returns-3 : tie.Need-returns-3
-returns-3 c = let a = c .before .before .before .before .before .args in edit-page (a .level) (a .edit) (a .word) (c .before .before .kind-of .ensures) (c .enum-told3 .given .1)
+returns-3 c =
+    let a = c .before .before .before .before .before .args in
+    edit-page (a .level) (a .edit) (a .word) (c .before .before .kind-of .ensures) (c .enum-told3 .given .1)
 
 returns-4 : tie.Need-returns-4
-returns-4 c = let a = c .before .before .before .before .before .args in edit-hole (a .level) (a .edit) (a .word) (c .before .before .kind-of .ensures) (c .enum-told4 .given .1)
+returns-4 c =
+    let a = c .before .before .before .before .before .args in
+    edit-hole (a .level) (a .edit) (a .word) (c .before .before .kind-of .ensures) (c .enum-told4 .given .1)
 
 pub edit-word-spec : {M : Type 1} → statement M
 edit-word-spec =

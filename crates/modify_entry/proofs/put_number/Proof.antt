@@ -12,7 +12,9 @@ returns : tie.Need-returns
 returns c = let a = c .before .args in number-off (a .number) (a .count) (a .list .now) (a .live) (not-true _ (c .if1 .taken))
 
 returns-2 : tie.Need-returns-2
-returns-2 c = let a = c .before .before .args in number-full (a .number) (a .count) (a .list .now) (a .live) (not-false _ (c .before .if1 .left)) (c .if2 .taken)
+returns-2 c =
+    let a = c .before .before .args in
+    number-full (a .number) (a .count) (a .list .now) (a .live) (not-false _ (c .before .if1 .left)) (c .if2 .taken)
 
 mul-list : tie.Need-mul-list
 mul-list c = omega arith
@@ -27,7 +29,9 @@ same-length : tie.Need-same-length
 same-length c = let a = c .before .before .args in length-set (a .list .now) (a .count) (a .number)
 
 returns-3 : tie.Need-returns-3
-returns-3 c = let a = c .before .before .args in number-put (a .number) (a .count) (a .list .now) (a .live) (not-false _ (c .before .if1 .left)) (omega arith)
+returns-3 c =
+    let a = c .before .before .args in
+    number-put (a .number) (a .count) (a .list .now) (a .live) (not-false _ (c .before .if1 .left)) (omega arith)
 
 pub put-number-spec : {M : Type 1} → statement M
 put-number-spec =

@@ -15,7 +15,8 @@ are-from-requires : tie.Need-are-from-requires
 are-from-requires c κs = tt
 
 returns : tie.Need-returns
-returns c = let a = c .before .before .args in c .are-from .ensures ∙ change-is (a .handle) (a .old) (a .new) (c .before .house-rule .ensures)
+returns c =
+    let a = c .before .before .args in c .are-from .ensures ∙ change-is (a .handle) (a .old) (a .new) (c .before .house-rule .ensures)
 
 pub may-change-spec : {M : Type 1} → statement M
 may-change-spec = tie.close (tie.spec house-rule-requires are-from-requires returns)

@@ -16,13 +16,19 @@ survey-whole-requires : tie.Need-survey-whole-requires
 survey-whole-requires c κs = c .before .before .before .pre
 
 returns : tie.Need-returns
-returns c = let a = c .before .before .before .before .args in c .survey-whole .ensures ∙ entry-whole (a .handle) (a .level) (a .edit) (a .word) (a .seen) (sym (c .before .before .is-block .ensures) ∙ c .before .if1 .taken)
+returns c =
+    let a = c .before .before .before .before .args in
+    c .survey-whole .ensures
+    ∙ entry-whole (a .handle) (a .level) (a .edit) (a .word) (a .seen) (sym (c .before .before .is-block .ensures) ∙ c .before .if1 .taken)
 
 survey-part-requires : tie.Need-survey-part-requires
 survey-part-requires c κs = c .before .before .before .pre
 
 returns-2 : tie.Need-returns-2
-returns-2 c = let a = c .before .before .before .before .args in c .survey-part .ensures ∙ entry-part (a .handle) (a .level) (a .edit) (a .word) (a .seen) (sym (c .before .before .is-block .ensures) ∙ c .before .if1 .left)
+returns-2 c =
+    let a = c .before .before .before .before .args in
+    c .survey-part .ensures
+    ∙ entry-part (a .handle) (a .level) (a .edit) (a .word) (a .seen) (sym (c .before .before .is-block .ensures) ∙ c .before .if1 .left)
 
 pub survey-entry-spec : {M : Type 1} → statement M
 survey-entry-spec =

@@ -32,28 +32,36 @@ returns-3 : tie.Need-returns-3
 returns-3 c =
     let a = c .before .before .before .before .before .args in
     bits-unsettable (a .handle) (a .set) (a .clear) (c .before .before .before .before .if1 .left) (c .before .before .before .if2 .left)
-    (ap (λ (x : ℕ). settable x (a .set) (a .clear)) (sym (c .before .before .flag-set .ensures)) ∙ sym (c .before .are-settable .ensures) ∙ not-true _ (c .if3 .taken))
+    (ap (λ (x : ℕ). settable x (a .set) (a .clear)) (sym (c .before .before .flag-set .ensures)) ∙ sym (c .before .are-settable .ensures)
+    ∙ not-true _ (c .if3 .taken))
 
 are-from-requires : tie.Need-are-from-requires
 are-from-requires c κs = tt
 
 -- past the tests of the bits to set
-rest : (c : tie.Else3) → let a = c .before .before .before .before .before .args in cond (only (flagSet (a .handle)) (a .clear)) Accepted (Refused (FlagSet (a .clear))) ≡ verifyBits (a .handle) (a .set) (a .clear)
+rest : (c : tie.Else3)
+    → let a = c .before .before .before .before .before .args in
+    cond (only (flagSet (a .handle)) (a .clear)) Accepted (Refused (FlagSet (a .clear))) ≡ verifyBits (a .handle) (a .set) (a .clear)
 rest c =
     let a = c .before .before .before .before .before .args in
     bits-settable (a .handle) (a .set) (a .clear) (c .before .before .before .before .if1 .left) (c .before .before .before .if2 .left)
-    (ap (λ (x : ℕ). settable x (a .set) (a .clear)) (sym (c .before .before .flag-set .ensures)) ∙ sym (c .before .are-settable .ensures) ∙ not-false _ (c .if3 .left))
+    (ap (λ (x : ℕ). settable x (a .set) (a .clear)) (sym (c .before .before .flag-set .ensures)) ∙ sym (c .before .are-settable .ensures)
+    ∙ not-false _ (c .if3 .left))
 
 returns-4 : tie.Need-returns-4
 returns-4 c =
     let a = c .before .before .before .before .before .before .before .args in
-    let outside : only (flagSet (a .handle)) (a .clear) ≡ false = ap (λ (x : ℕ). only x (a .clear)) (sym (c .before .before .before .before .flag-set .ensures)) ∙ sym (c .before .are-from .ensures) ∙ not-true _ (c .if4 .taken) in
+    let outside : only (flagSet (a .handle)) (a .clear) ≡ false =
+    ap (λ (x : ℕ). only x (a .clear)) (sym (c .before .before .before .before .flag-set .ensures)) ∙ sym (c .before .are-from .ensures)
+    ∙ not-true _ (c .if4 .taken) in
     ap (λ (b : Bool). cond b Accepted (Refused (FlagSet (a .clear)))) (sym outside) ∙ rest (c .before .before)
 
 returns-5 : tie.Need-returns-5
 returns-5 c =
     let a = c .before .before .before .before .before .before .before .args in
-    let inside : only (flagSet (a .handle)) (a .clear) ≡ true = ap (λ (x : ℕ). only x (a .clear)) (sym (c .before .before .before .before .flag-set .ensures)) ∙ sym (c .before .are-from .ensures) ∙ not-false _ (c .if4 .left) in
+    let inside : only (flagSet (a .handle)) (a .clear) ≡ true =
+    ap (λ (x : ℕ). only x (a .clear)) (sym (c .before .before .before .before .flag-set .ensures)) ∙ sym (c .before .are-from .ensures)
+    ∙ not-false _ (c .if4 .left) in
     ap (λ (b : Bool). cond b Accepted (Refused (FlagSet (a .clear)))) (sym inside) ∙ rest (c .before .before)
 
 pub verify-bits-spec : {M : Type 1} → statement M

@@ -19,7 +19,9 @@ end-fits-requires : tie.Need-end-fits-requires
 end-fits-requires c κs = tt
 
 returns : tie.Need-returns
-returns c = let a = c .before .before .args in edit-end (a .handle) (a .end) (a .edit) (sym (c .before .end-fits .ensures) ∙ not-true _ (c .if1 .taken))
+returns c =
+    let a = c .before .before .args in
+    edit-end (a .handle) (a .end) (a .edit) (sym (c .before .end-fits .ensures) ∙ not-true _ (c .if1 .taken))
 
 verify-bits-requires : tie.Need-verify-bits-requires
 verify-bits-requires c κs = tt
@@ -31,13 +33,20 @@ enum-told-2 : tie.Need-enum-told-2
 enum-told-2 c = c .match .keys2
 
 returns-2 : tie.Need-returns-2
-returns-2 c = let a = c .before .before .before .before .before .args in edit-bits (a .handle) (a .end) (a .edit) (ends (c .before .before .before)) (c .before .before .verify-bits .ensures) _ (c .enum-told2 .given .1)
+returns-2 c =
+    let a = c .before .before .before .before .before .args in
+    edit-bits (a .handle) (a .end) (a .edit) (ends (c .before .before .before)) (c .before .before .verify-bits .ensures) _
+    (c .enum-told2 .given .1)
 
 verify-region-requires : tie.Need-verify-region-requires
 verify-region-requires c κs = tt
 
 returns-3 : tie.Need-returns-3
-returns-3 c = let a = c .before .before .before .before .before .before .before .args in c .verify-region .ensures ∙ edit-region (a .handle) (a .end) (a .edit) (ends (c .before .before .before .before .before)) (c .before .before .before .before .verify-bits .ensures) (c .before .before .enum-told .given .1)
+returns-3 c =
+    let a = c .before .before .before .before .before .before .before .args in
+    c .verify-region .ensures
+    ∙ edit-region (a .handle) (a .end) (a .edit) (ends (c .before .before .before .before .before))
+    (c .before .before .before .before .verify-bits .ensures) (c .before .before .enum-told .given .1)
 
 pub verify-edit-spec : {M : Type 1} → statement M
 verify-edit-spec =

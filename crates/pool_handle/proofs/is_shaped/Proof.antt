@@ -12,6 +12,10 @@ use Rattle.pool_handle.proofs.is_shaped.Tie as tie
 use Rattle.pool_handle.proofs.is_shaped.Reads as reads
 use Rattle.pool_handle.proofs.is_shaped.Lts as lts
 
+-- the start of the function, seen from its last return
+abbrev start-of-returns-7 : tie.After-struct-known4 → tie.Start
+start-of-returns-7 c = c .before .before .before .before .before .before .before .before .before .before
+
 -- one part that fails
 misshaped : (h : Handle) (s : St) → (Shaped h s → ⊥) → false ≡ shaped h s
 misshaped h s n = sym (is-false (shaped h s) (λ t. n (shaped-says h s t)))
@@ -56,7 +60,7 @@ returns-6 c =
 returns-7 : tie.Need-returns-7
 unfolding maxTables
 returns-7 c =
-    let a = c .before .before .before .before .before .before .before .before .before .before .args in
+    let a = start-of-returns-7 c .args in
     let s = st (a .words .now) (a .ledger .now) in
     same-test (leb (a .handle .level) 3) (shaped (a .handle) s)
     (λ t. says-shaped (a .handle) s (record {

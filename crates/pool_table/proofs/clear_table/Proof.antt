@@ -51,7 +51,8 @@ returns : tie.Need-returns
 returns c =
     let a = c .before .before .before .before .before .before .args in
     let part = c .before .before .zero-words in
-    ap (λ (w : List ℕ). st w (set (a .ledger .now) (a .k) 0)) (zeroed-part (a .k) (a .words .now) (part .last .0) (omega arith) (part .ensures))
+    ap (λ (w : List ℕ). st w (set (a .ledger .now) (a .k) 0))
+    (zeroed-part (a .k) (a .words .now) (part .last .0) (omega arith) (part .ensures))
     ∙ clear-is (a .k) (st (a .words .now) (a .ledger .now))
 
 pub clear-table-spec : {M : Type 1} → statement M

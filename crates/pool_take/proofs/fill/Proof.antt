@@ -14,7 +14,8 @@ use Rattle.pool_take.proofs.fill.Reads as reads
 use Rattle.pool_take.proofs.fill.Lts as lts
 
 abbrev Inv-loop : tie.InvT-loop
-Inv-loop table₀ first step word₀ i₀ table word i = (i ≤ 511) × (length table ≡ 512) × (table ≡ take i (rising 512 first step) ++ drop i table₀) × (word ≡ first + i * step)
+Inv-loop table₀ first step word₀ i₀ table word i =
+    (i ≤ 511) × (length table ≡ 512) × (table ≡ take i (rising 512 first step) ++ drop i table₀) × (word ≡ first + i * step)
 
 abbrev μ-loop : tie.MeasureT-loop
 μ-loop table₀ first step word₀ i₀ table word i = 511 - i
@@ -53,7 +54,8 @@ loop-again c =
     let all = rising 512 (a .first) (a .step) in (
       omega arith,
       length-set (at .loop .table) i (at .loop .word) ∙ at .loop .inv .1,
-      ap₂ (λ (t : List ℕ) (w : ℕ). set t i w) (at .loop .inv .2) (at .loop .inv .3 ∙ sym (rising-at 512 (a .first) (a .step) i (omega arith)))
+      ap₂ (λ (t : List ℕ) (w : ℕ). set t i w) (at .loop .inv .2)
+          (at .loop .inv .3 ∙ sym (rising-at 512 (a .first) (a .step) i (omega arith)))
           ∙ write-more (a .table .now) all i 0 (omega arith) (omega (arith, length-rising 512 (a .first) (a .step))),
       omega (arith, at .loop .inv .3, next-multiple i (a .step)),
     )

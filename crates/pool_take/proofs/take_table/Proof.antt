@@ -21,9 +21,20 @@ use Rattle.entry.proofs.link.Reads as link-reads
 use Rattle.pool_ledger.proofs.lowest_free.Reads as lowest-free-reads
 use Rattle.pool_take.proofs.fill.Reads as fill-reads
 
+-- the start of the function, seen from where a free table is known, from after its words are filled and from after the call of `link`
+abbrev start-of-known : tie.After-known-told → tie.Start
+start-of-known c = c .before .before .before .before .before .before .before
+
+abbrev start-of-filled : tie.After-slice-known3 → tie.Start
+start-of-filled c = start-of-known (c .before .before .before .before)
+
+abbrev start-of-linked : tie.After-link → tie.Start
+start-of-linked c = start-of-filled (c .before)
+
 -- the table that was found
-lowest : (c : tie.After-known-told) → LowestFree (c .before .before .before .before .before .before .before .args .ledger .now) (c .before .free .given .0 .0)
-lowest c = lowest-found (c .before .before .before .before .before .before .before .args .ledger .now) _ (sym (c .before .before .before .lowest-free .ensures) ∙ c .before .free .given .1)
+lowest : (c : tie.After-known-told) → LowestFree (start-of-known c .args .ledger .now) (c .before .free .given .0 .0)
+lowest c =
+    lowest-found (start-of-known c .args .ledger .now) _ (sym (c .before .before .before .lowest-free .ensures) ∙ c .before .free .given .1)
 
 -- the parts of the new table's number fit
 record Fits (p level i : ℕ) : Type 0 where
@@ -53,7 +64,8 @@ same-length c = omega arith
 returns : tie.Need-returns
 returns c =
     let a = c .before .before .before .before .before .before .args in
-    take-none (a .handle) (a .p) (a .level) (a .i) (rising 512 (a .first) (a .step)) (st (a .words .now) (a .ledger .now)) (c .before .before .lowest-free .ensures) (c .enum-told .given .1)
+    take-none (a .handle) (a .p) (a .level) (a .i) (rising 512 (a .first) (a .step)) (st (a .words .now) (a .ledger .now))
+    (c .before .before .lowest-free .ensures) (c .enum-told .given .1)
 
 mul-a : tie.Need-mul-a
 mul-a c = omega (arith, lowest c .inside)
@@ -77,13 +89,13 @@ fill-requires : tie.Need-fill-requires
 fill-requires c κs = omega arith
 
 add-ledger : tie.Need-add-ledger
-add-ledger c = record { fits = parts (c .before .before .before .before .before .before .before .before .before .before .before) .front }
+add-ledger c = record { fits = parts (start-of-filled c) .front }
 
 mul-ledger : tie.Need-mul-ledger
-mul-ledger c = record { fits = parts (c .before .before .before .before .before .before .before .before .before .before .before) .row }
+mul-ledger c = record { fits = parts (start-of-filled c) .row }
 
 add-ledger-2 : tie.Need-add-ledger-2
-add-ledger-2 c = record { fits = parts (c .before .before .before .before .before .before .before .before .before .before .before) .slot }
+add-ledger-2 c = record { fits = parts (start-of-filled c) .slot }
 
 add-ledger-3 : tie.Need-add-ledger-3
 add-ledger-3 c = omega arith
@@ -96,7 +108,7 @@ add-ledger-4 c = omega arith
 
 cast-ledger : tie.Need-cast-ledger
 unfolding maxTables
-cast-ledger c = omega (arith, c .before .before .before .before .before .before .before .before .before .before .before .pre .0 .limit)
+cast-ledger c = omega (arith, start-of-filled c .pre .0 .limit)
 
 mul-ledger-3 : tie.Need-mul-ledger-3
 mul-ledger-3 c = let h = lowest (c .before .before .before .before) .inside in omega arith
@@ -108,7 +120,7 @@ link-requires : tie.Need-link-requires
 link-requires c κs = tt
 
 mul-words : tie.Need-mul-words
-mul-words c = record { fits = parts (c .before .before .before .before .before .before .before .before .before .before .before .before) .row }
+mul-words c = record { fits = parts (start-of-linked c) .row }
 
 add-words : tie.Need-add-words
 add-words c = omega arith
@@ -128,17 +140,21 @@ same-length-3 c = search needs
 returns-2 : tie.Need-returns-2
 unfolding takeAt numberOf
 returns-2 c =
-    let a = c .before .before .before .before .before .before .before .before .before .before .before .before .args in
-    let shape = c .before .before .before .before .before .before .before .before .before .before .before .before .pre .0 in
+    let a = start-of-linked c .args in
+    let shape = start-of-linked c .pre .0 in
     let told = c .before .before .before .before .before in
     let j = told .before .free .given .0 .0 in
     let inside = lowest told .inside in
     let part = c .before .before .before .fill in
     let all = rising 512 (a .first) (a .step) in
-    let linked : c .link .result ≡ linkOf (a .handle .base .0) j = c .link .ensures ∙ link-fits (a .handle .base .0) j (shape .paged) (omega (arith, shape .ended)) in
-    let filled = ap (putMid (512 * j) (512 * j + 512 - 512 * j) (a .words .now)) (part .ensures) ∙ table-part j (a .words .now) all (length-rising 512 (a .first) (a .step)) in
-    ap₂ (λ (w : List ℕ) (x : ℕ). taken (At j) (st (set w (512 * a .p + a .i) x) (set (a .ledger .now) j (4 + a .level + 8 * (512 * a .p + a .i + 1))))) filled linked
-    ∙ take-some (a .handle) (a .p) (a .level) (a .i) all (st (a .words .now) (a .ledger .now)) j (told .before .before .before .lowest-free .ensures) (told .before .free .given .1)
+    let linked : c .link .result ≡ linkOf (a .handle .base .0) j =
+    c .link .ensures ∙ link-fits (a .handle .base .0) j (shape .paged) (omega (arith, shape .ended)) in
+    let filled = ap (putMid (512 * j) (512 * j + 512 - 512 * j) (a .words .now)) (part .ensures)
+    ∙ table-part j (a .words .now) all (length-rising 512 (a .first) (a .step)) in
+    ap₂ (λ (w : List ℕ) (x : ℕ). taken (At j)
+    (st (set w (512 * a .p + a .i) x) (set (a .ledger .now) j (4 + a .level + 8 * (512 * a .p + a .i + 1))))) filled linked
+    ∙ take-some (a .handle) (a .p) (a .level) (a .i) all (st (a .words .now) (a .ledger .now)) j
+    (told .before .before .before .lowest-free .ensures) (told .before .free .given .1)
 
 pub take-table-spec : {M : Type 1} → statement M
 take-table-spec =

@@ -19,7 +19,10 @@ answer-outcome-requires : tie.Need-answer-outcome-requires
 answer-outcome-requires c κs = tt
 
 returns : tie.Need-returns
-returns c = let a = c .before .before .before .before .before .before .args in check-told (a .base) (a .level) (a .range) (st (a .words .now) (a .ledger .now)) (a .answer .now) (c .before .before .before .handle-of .ensures) (c .before .before .check .ensures) (c .answer-outcome .ensures)
+returns c =
+    let a = c .before .before .before .before .before .before .args in
+    check-told (a .base) (a .level) (a .range) (st (a .words .now) (a .ledger .now)) (a .answer .now)
+    (c .before .before .before .handle-of .ensures) (c .before .before .check .ensures) (c .answer-outcome .ensures)
 
 pub ptb-check-spec : {M : Type 1} → statement M
 ptb-check-spec =

@@ -10,6 +10,10 @@ use Rattle.compact.proofs.compact.Reads as compact-reads
 use Rattle.ptb_answer.proofs.answer_counted.Reads as answer-counted-reads
 use Rattle.pool_handle.proofs.handle_of.Reads as handle-of-reads
 
+-- the start of the function, seen from its return
+abbrev start-of-returns : tie.After-answer-counted → tie.Start
+start-of-returns c = c .before .before .before .before .before .before .before .before .before .before .before .before
+
 handle-of-requires : tie.Need-handle-of-requires
 handle-of-requires c κs = tt
 
@@ -27,7 +31,7 @@ same-length-2 c = omega arith
 
 returns : tie.Need-returns
 returns c =
-    let a = c .before .before .before .before .before .before .before .before .before .before .before .before .args in
+    let a = start-of-returns c .args in
     let called = c .before .before .before .before .before .before in
     compact-told (a .base) (a .level) (a .range) (st (a .words .now) (a .ledger .now)) (a .answer .now)
     (called .before .before .before .handle-of .ensures)

@@ -10,6 +10,10 @@ use Rattle.list.proofs.list.Reads as list-reads
 use Rattle.ptb_answer.proofs.answer_listed.Reads as answer-listed-reads
 use Rattle.pool_handle.proofs.handle_of.Reads as handle-of-reads
 
+-- the start of the function, seen from its return
+abbrev start-of-returns : tie.After-answer-listed → tie.Start
+start-of-returns c = c .before .before .before .before .before .before .before .before .before .before
+
 handle-of-requires : tie.Need-handle-of-requires
 handle-of-requires c κs = tt
 
@@ -23,7 +27,12 @@ same-length : tie.Need-same-length
 same-length c = omega arith
 
 returns : tie.Need-returns
-returns c = let a = c .before .before .before .before .before .before .before .before .before .before .args in list-told (a .base) (a .level) (a .range) (st (a .words .now) (a .ledger .now)) (a .start) (a .end) (a .lines .now) (a .answer .now) (c .before .before .before .before .before .before .handle-of .ensures) (c .before .before .before .before .list .ensures) (c .answer-listed .ensures)
+returns c =
+    let a = start-of-returns c .args in
+    list-told (a .base) (a .level) (a .range) (st (a .words .now) (a .ledger .now)) (a .start) (a .end) (a .lines .now) (a .answer .now)
+    (c .before .before .before .before .before .before .handle-of .ensures)
+    (c .before .before .before .before .list .ensures)
+    (c .answer-listed .ensures)
 
 pub ptb-list-spec : {M : Type 1} → statement M
 ptb-list-spec =

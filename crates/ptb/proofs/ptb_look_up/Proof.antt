@@ -19,7 +19,10 @@ answer-looked-requires : tie.Need-answer-looked-requires
 answer-looked-requires c κs = tt
 
 returns : tie.Need-returns
-returns c = let a = c .before .before .before .before .before .before .args in look-up-told (a .base) (a .level) (a .range) (st (a .words .now) (a .ledger .now)) (a .va) (a .answer .now) (c .before .before .before .handle-of .ensures) (c .before .before .look-up .ensures) (c .answer-looked .ensures)
+returns c =
+    let a = c .before .before .before .before .before .before .args in
+    look-up-told (a .base) (a .level) (a .range) (st (a .words .now) (a .ledger .now)) (a .va) (a .answer .now)
+    (c .before .before .before .handle-of .ensures) (c .before .before .look-up .ensures) (c .answer-looked .ensures)
 
 pub ptb-look-up-spec : {M : Type 1} → statement M
 ptb-look-up-spec =

@@ -10,6 +10,10 @@ use Rattle.make.proofs.make.Reads as make-reads
 use Rattle.ptb_answer.proofs.answer_outcome.Reads as answer-outcome-reads
 use Rattle.pool_handle.proofs.handle_of.Reads as handle-of-reads
 
+-- the start of the function, seen from its return
+abbrev start-of-returns : tie.After-answer-outcome → tie.Start
+start-of-returns c = c .before .before .before .before .before .before .before .before .before .before .before .before
+
 handle-of-requires : tie.Need-handle-of-requires
 handle-of-requires c κs = tt
 
@@ -26,7 +30,12 @@ same-length-2 : tie.Need-same-length-2
 same-length-2 c = omega arith
 
 returns : tie.Need-returns
-returns c = let a = c .before .before .before .before .before .before .before .before .before .before .before .before .args in make-told (a .base) (a .level) (a .range) (st (a .words .now) (a .ledger .now)) (a .answer .now) (c .before .before .before .before .before .before .before .before .before .handle-of .ensures) (c .before .before .before .before .before .before .make .ensures) (c .answer-outcome .ensures)
+returns c =
+    let a = start-of-returns c .args in
+    make-told (a .base) (a .level) (a .range) (st (a .words .now) (a .ledger .now)) (a .answer .now)
+    (c .before .before .before .before .before .before .before .before .before .handle-of .ensures)
+    (c .before .before .before .before .before .before .make .ensures)
+    (c .answer-outcome .ensures)
 
 pub ptb-make-spec : {M : Type 1} → statement M
 ptb-make-spec =

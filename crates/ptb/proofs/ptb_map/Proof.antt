@@ -10,6 +10,10 @@ use Rattle.map.proofs.map.Reads as map-reads
 use Rattle.ptb_answer.proofs.answer_counted.Reads as answer-counted-reads
 use Rattle.pool_handle.proofs.handle_of.Reads as handle-of-reads
 
+-- the start of the function, seen from its return
+abbrev start-of-returns : tie.After-answer-counted → tie.Start
+start-of-returns c = c .before .before .before .before .before .before .before .before .before .before .before .before
+
 handle-of-requires : tie.Need-handle-of-requires
 handle-of-requires c κs = tt
 
@@ -26,7 +30,13 @@ same-length-2 : tie.Need-same-length-2
 same-length-2 c = omega arith
 
 returns : tie.Need-returns
-returns c = let a = c .before .before .before .before .before .before .before .before .before .before .before .before .args in map-told (a .base) (a .level) (a .range) (a .start) (a .end) (a .frame) (a .flags) (a .constraints) (st (a .words .now) (a .ledger .now)) (a .answer .now) (c .before .before .before .before .before .before .before .before .before .handle-of .ensures) (c .before .before .before .before .before .before .map .ensures) (c .answer-counted .ensures)
+returns c =
+    let a = start-of-returns c .args in
+    map-told (a .base) (a .level) (a .range) (a .start) (a .end) (a .frame) (a .flags) (a .constraints)
+    (st (a .words .now) (a .ledger .now)) (a .answer .now)
+    (c .before .before .before .before .before .before .before .before .before .handle-of .ensures)
+    (c .before .before .before .before .before .before .map .ensures)
+    (c .answer-counted .ensures)
 
 pub ptb-map-spec : {M : Type 1} → statement M
 ptb-map-spec =

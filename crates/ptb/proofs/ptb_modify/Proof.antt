@@ -9,6 +9,13 @@ use Rattle.modify.proofs.modify.Reads as modify-reads
 use Rattle.ptb_answer.proofs.answer_modified.Reads as answer-modified-reads
 use Rattle.pool_handle.proofs.handle_of.Reads as handle-of-reads
 
+-- ways back from the return: to the call of `handle_of`, and to the start
+abbrev handle-of-returns : tie.After-answer-modified → tie.After-handle-of
+handle-of-returns c = c .before .before .before .before .before .before .before .before .before .before .before .before
+
+abbrev start-of-returns : tie.After-answer-modified → tie.Start
+start-of-returns c = handle-of-returns c .before .before .before .before
+
 handle-of-requires : tie.Need-handle-of-requires
 handle-of-requires c κs = tt
 
@@ -29,8 +36,12 @@ same-length-3 c = c .before .before .before .before .before .before .before .bef
 
 returns : tie.Need-returns
 returns c =
-    let a = c .before .before .before .before .before .before .before .before .before .before .before .before .before .before .before .before .args in
-    modify-told (a .base) (a .level) (a .range) (a .start) (a .end) (a .set) (a .clear) (a .live) (st (a .words .now) (a .ledger .now)) (a .list .now) (a .answer .now) (c .before .before .before .before .before .before .before .before .before .before .before .before .handle-of .ensures) (c .before .before .before .before .before .before .before .before .modify .ensures) (c .answer-modified .ensures)
+    let a = start-of-returns c .args in
+    modify-told (a .base) (a .level) (a .range) (a .start) (a .end) (a .set) (a .clear) (a .live)
+    (st (a .words .now) (a .ledger .now)) (a .list .now) (a .answer .now)
+    (handle-of-returns c .handle-of .ensures)
+    (c .before .before .before .before .before .before .before .before .modify .ensures)
+    (c .answer-modified .ensures)
 
 pub ptb-modify-spec : {M : Type 1} → statement M
 ptb-modify-spec =

@@ -20,12 +20,14 @@ enum-told c = omega arith
 returns : tie.Need-returns
 returns c =
     let a = c .before .before .before .before .before .args in
-    lower-start (a .range) (a .level) (a .region) (c .before .before .before .before .granularity-at-level .ensures) (c .before .before .enum-told .given .1) (c .if1 .taken)
+    lower-start (a .range) (a .level) (a .region) (c .before .before .before .before .granularity-at-level .ensures)
+    (c .before .before .enum-told .given .1) (c .if1 .taken)
 
 returns-2 : tie.Need-returns-2
 returns-2 c =
     let a = c .before .before .before .before .before .before .before .args in
-    lower-end (a .range) (a .level) (a .region) (c .before .before .before .before .before .before .granularity-at-level .ensures) (c .before .before .before .before .enum-told .given .1) (omega arith) (c .if2 .taken)
+    lower-end (a .range) (a .level) (a .region) (c .before .before .before .before .before .before .granularity-at-level .ensures)
+    (c .before .before .before .before .enum-told .given .1) (omega arith) (c .if2 .taken)
 
 enum-told-2 : tie.Need-enum-told-2
 enum-told-2 c = omega arith
@@ -36,17 +38,20 @@ sub-if3 c = omega (arith, c .before .before .granularity-at-level .ensures, size
 returns-3 : tie.Need-returns-3
 returns-3 c =
     let a = c .before .before .before .before .before .args in
-    upper-start (a .range) (a .level) (a .region) (c .before .before .before .before .granularity-at-level .ensures) (c .before .before .enum-told2 .given .1) (c .if3 .taken)
+    upper-start (a .range) (a .level) (a .region) (c .before .before .before .before .granularity-at-level .ensures)
+    (c .before .before .enum-told2 .given .1) (c .if3 .taken)
 
 returns-4 : tie.Need-returns-4
 returns-4 c =
     let a = c .before .before .before .before .before .before .before .args in
-    lower-in (a .range) (a .level) (a .region) (c .before .before .before .before .before .before .granularity-at-level .ensures) (c .before .before .before .before .enum-told .given .1) (omega arith) (omega arith)
+    lower-in (a .range) (a .level) (a .region) (c .before .before .before .before .before .before .granularity-at-level .ensures)
+    (c .before .before .before .before .enum-told .given .1) (omega arith) (omega arith)
 
 returns-5 : tie.Need-returns-5
 returns-5 c =
     let a = c .before .before .before .before .before .args in
-    upper-in (a .range) (a .level) (a .region) (c .before .before .before .before .granularity-at-level .ensures) (c .before .before .enum-told2 .given .1) (omega arith)
+    upper-in (a .range) (a .level) (a .region) (c .before .before .before .before .granularity-at-level .ensures)
+    (c .before .before .enum-told2 .given .1) (omega arith)
 
 pub in-range-spec : {M : Type 1} → statement M
 in-range-spec =

@@ -17,7 +17,7 @@ use Rattle.pool.specs.Number.{rootNumber, parentOf, used}
 use Rattle.pool.specs.Refuse.{Shaped}
 use Rattle.pool.specs.Sound.{namesb, hangsb, tableb, linkb, slotb, soundb, names-says}
 use Rattle.checker_words.specs.Answer.{count-most}
-use Rattle.checker_pass.specs.Stream.{runPasses, tablePasses, tableLinks}
+use Rattle.checker_pass.specs.Pass.{runPasses, tablePasses, tableLinks}
 use Rattle.checker.specs.Row.{wordIn, linkIn, passIn, used-sum, all-links, runs-to, runs-of}
 use Rattle.checker_ledger.specs.Hang.{Named, Hangs, hangs-to}
 use Rattle.checker.specs.Named.{slot-passes, slot-links, slot-of, count-one, place, named-in, links-to, links-of, namedAt, named-yes}

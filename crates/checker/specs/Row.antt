@@ -16,7 +16,7 @@ use Rattle.pool.specs.State.{St, tables, numberAt}
 use Rattle.pool.specs.Number.{used}
 use Rattle.pool.specs.Sound.{flagSet}
 use Rattle.checker_words.specs.Words.{passesb, passAll, linkCount, countAll}
-use Rattle.checker_pass.specs.Stream.{runWords, runPasses, runLinks, tableLinks}
+use Rattle.checker_pass.specs.Pass.{runWords, runPasses, runLinks, tableLinks}
 use Rattle.pool.specs.declared.Handle.{Handle}
 
 -- ---- a run of words, index by index

@@ -13,7 +13,7 @@ use Rattle.pool.specs.Number.{used}
 use Rattle.pool.specs.Refuse.{Shaped}
 use Rattle.pool.specs.Sound.{soundb}
 use Rattle.checker_words.specs.Answer.{count-below, passed-says, failed-says}
-use Rattle.checker_pass.specs.Stream.{runWords, runLinks, tablePasses, tableLinks, tablesRun}
+use Rattle.checker_pass.specs.Pass.{runWords, runLinks, tablePasses, tableLinks, tablesRun}
 use Rattle.checker.specs.Counted.{streamb, stream-sound}
 use Rattle.pool.specs.declared.Handle.{Handle}
 use Rattle.checker_words.specs.declared.Run.{Run}

@@ -1,3 +1,3 @@
 -- The pass of the pool check, and its laws.
-pub mod Stream
+pub mod Pass
 pub mod Tables

@@ -1,4 +1,4 @@
--- Laws that the pass cites: one for each way through a table and all tables. Leans on `Stream`.
+-- Laws that the pass cites: one for each way through a table and all tables. Leans on `Pass`.
 use mathlib.Core.Path.{_≡_, ap}
 use mathlib.Core.Bool.{true, false, _&&_}
 use Prim.Native.Nat.{ℕ, _<_}
@@ -7,7 +7,7 @@ use Rattle.laws.specs.Sum.{sum}
 use Rattle.laws.specs.Test.{is-true, is-false, and-r, allBelow, all-fails}
 use Rattle.pool.specs.State.{St, tables}
 use Rattle.pool.specs.Sound.{tableb}
-use Rattle.checker_pass.specs.Stream.{runPasses, tablePasses, tableLinks, tablesRun}
+use Rattle.checker_pass.specs.Pass.{runPasses, tablePasses, tableLinks, tablesRun}
 use Rattle.pool.specs.declared.Handle.{Handle}
 use Rattle.checker_words.specs.declared.Run.the-variants.{Passed, Failed}
 

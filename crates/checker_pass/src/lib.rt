@@ -4,7 +4,7 @@ use pool::Handle;
 ghost use mathlib.Core.Path.{_≡_};
 ghost use Rattle.pool.specs.State.{st};
 ghost use Rattle.pool.specs.Refuse.{Shaped};
-ghost use Rattle.checker_pass.specs.Stream.{tablesRun};
+ghost use Rattle.checker_pass.specs.Pass.{tablesRun};
 
 // The links of all tables, if every number is right and every run passes. A table is read in four runs of 128 words; a run that fails ends
 // both loops.

@@ -19,7 +19,7 @@ use Rattle.pool.specs.declared.Counted.the-variants as counted
 use Rattle.map_rules.specs.declared.Map.{Map}
 use Rattle.map_put.specs.Put.{mapRange}
 use Rattle.map_count_spec.specs.Needed.{needed}
-use Rattle.map_verify.specs.Ask.{askedMap, verifyMap}
+use Rattle.map_verify.specs.Verify.{askedMap, verifyMap}
 
 -- a refusal leaves the state as it was
 abbrev pub refused : Refusal → St → Out Counted

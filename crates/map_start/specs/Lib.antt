@@ -1,2 +1,2 @@
 -- A map from a lower table: the same map.
-pub mod Lead
+pub mod Start

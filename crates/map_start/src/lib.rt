@@ -9,7 +9,7 @@ ghost use lib.ListN.{length};
 ghost use Rattle.pool.specs.State.{st};
 ghost use Rattle.pool.specs.Refuse.{Shaped};
 ghost use Rattle.map_rules.specs.Fit.{Fit};
-ghost use Rattle.map_start.specs.Lead.{LeadsTo, Serves};
+ghost use Rattle.map_start.specs.Start.{LeadsTo, Serves};
 
 // A table, and its level.
 pub struct Place {

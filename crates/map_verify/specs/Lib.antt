@@ -1,2 +1,2 @@
 -- Ask: what map asks before it writes.
-pub mod Ask
+pub mod Verify

@@ -5,7 +5,7 @@ use pool::Handle;
 use pool::Outcome;
 use pool::Refusal;
 ghost use mathlib.Core.Path.{_≡_};
-ghost use Rattle.map_verify.specs.Ask.{framesFit, frameAsked, verifyMap};
+ghost use Rattle.map_verify.specs.Verify.{framesFit, frameAsked, verifyMap};
 
 // Whether frames of this length can begin there: the bound on the length comes before the difference is formed.
 fn has_frames(frame: PhysicalAddress, length: u64) -> bool

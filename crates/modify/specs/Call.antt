@@ -17,10 +17,10 @@ use Rattle.pool.specs.declared.Outcome.the-variants.{Accepted, Refused}
 use Rattle.modify_entry.specs.declared.Edit.{Edit}
 use Rattle.modify_range.specs.Range.{Work, work, modifyRange}
 use Rattle.modify_survey.specs.declared.Survey.{Survey}
-use Rattle.modify_survey.specs.Find.{surveyRange}
+use Rattle.modify_survey.specs.Survey.{surveyRange}
 use Rattle.modify.specs.declared.Modified.{Modified}
 use Rattle.modify.specs.declared.Modified.the-variants as modified
-use Rattle.modify_verify.specs.Permit.{askedEdit, verifyEdit, verifySurvey}
+use Rattle.modify_verify.specs.Verify.{askedEdit, verifyEdit, verifySurvey}
 
 -- the answer, the state and the list
 pub record Modifying : Type 0 where

@@ -1,4 +1,4 @@
 -- What an edit would do: splits, breaches of the house rule, numbers.
 pub mod House
-pub mod Find
+pub mod Survey
 pub mod Room

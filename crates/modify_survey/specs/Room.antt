@@ -1,4 +1,4 @@
--- What is counted fits: no more than three splits, and no more than three numbers, for each byte of the region. Leans on `Find`.
+-- What is counted fits: no more than three splits, and no more than three numbers, for each byte of the region. Leans on `Survey`.
 use mathlib.Core.Bool.{Bool, true, false, cond}
 use Prim.Native.Nat.{ℕ, zero, suc, _+_, _*_, _-_, _^_, _≤_, _<_}
 use native.Mathlib.Nat.{mul-suc, mul-le-mul-left}
@@ -20,8 +20,8 @@ use Rattle.modify_entry.specs.declared.Edit.{Edit}
 use Rattle.modify_entry.specs.Word.{chunkEdit, editWord}
 use Rattle.modify_survey.specs.declared.Survey.{Survey}
 use Rattle.modify_survey.specs.House.{mayChange}
-use Rattle.modify_survey.specs.Find.{adding, splitsIn, breach, ifBlock, surveyPart, surveyWhole, surveyEntry, surveySub, surveyChunk}
-use Rattle.modify_survey.specs.Find.{surveyRange}
+use Rattle.modify_survey.specs.Survey.{adding, splitsIn, breach, ifBlock, surveyPart, surveyWhole, surveyEntry, surveySub, surveyChunk}
+use Rattle.modify_survey.specs.Survey.{surveyRange}
 
 abbrev pub lengthOf : MemoryRegion → ℕ
 lengthOf r = r .end .0 - r .start .0

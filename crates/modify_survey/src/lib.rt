@@ -11,7 +11,7 @@ ghost use Prim.Native.Nat.{_+_, _*_, _-_, _≤_, _<_, _^_};
 ghost use lib.ListN.{length};
 ghost use Rattle.pool.specs.State.{st};
 ghost use Rattle.modify_survey.specs.House.{houseRule, mayChange};
-ghost use Rattle.modify_survey.specs.Find.{splitsIn, breach, surveyPart, surveyWhole, surveyEntry, surveyRange};
+ghost use Rattle.modify_survey.specs.Survey.{splitsIn, breach, surveyPart, surveyWhole, surveyEntry, surveyRange};
 ghost use Rattle.modify_survey.specs.Room.{Room};
 
 // What was found: the tables that the splits take, the numbers that a list would get, and whether the house rule is broken, with the first

@@ -1,2 +1,2 @@
 -- Permit: what modify asks before it writes.
-pub mod Permit
+pub mod Verify

@@ -5,7 +5,7 @@ use pool::Handle;
 use pool::Outcome;
 use pool::Refusal;
 ghost use mathlib.Core.Path.{_≡_};
-ghost use Rattle.modify_verify.specs.Permit.{settable, verifyBits, verifyEdit, verifySurvey};
+ghost use Rattle.modify_verify.specs.Verify.{settable, verifyBits, verifyEdit, verifySurvey};
 
 // Whether these bits may be set: all from the flags, bit 0 not among them, none that is cleared too.
 fn are_settable(flags: u64, set: u64, clear: u64) -> bool

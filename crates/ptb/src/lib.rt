@@ -6,8 +6,8 @@ ghost use mathlib.Core.Path.{_≡_};
 ghost use Rattle.pool.specs.State.{st};
 ghost use Rattle.pool.specs.Refuse.{out};
 ghost use Rattle.ptb_answer.specs.Answer.{slip};
-ghost use Rattle.ptb_spec.specs.Face.{makeFace, checkFace, lookUpFace, filled, listFace, mapFace, changed, modifyFace, compactFace};
-ghost use Rattle.ptb_spec.specs.Face.{imageFace};
+ghost use Rattle.ptb_spec.specs.Calls.{ptbMake, ptbCheck, ptbLookUp, filled, ptbList, ptbMap, changed, ptbModify, ptbCompact};
+ghost use Rattle.ptb_spec.specs.Calls.{ptbImage};
 
 // Zeroes all words and the ledger, then enters the root as table 0.
 #[no_mangle]
@@ -20,7 +20,7 @@ pub extern "C" fn ptb_make(
     answer: &mut [u64; 4],
 ) -> u64
     ensures { λ r. ⌜ out (slip r (now (answer .exit))) (st (now (words .exit)) (now (ledger .exit)))
-        ≡ makeFace base level range (st (now (words .entry)) (now (ledger .entry))) (now (answer .entry)) ⌝ }
+        ≡ ptbMake base level range (st (now (words .entry)) (now (ledger .entry))) (now (answer .entry)) ⌝ }
 {
     let handle = pool_handle::handle_of(base, level, range);
     let outcome = make::make(words, ledger, handle);
@@ -38,7 +38,7 @@ pub extern "C" fn ptb_check(
     answer: &mut [u64; 4],
 ) -> u64
     ensures { λ r. ⌜ slip r (now (answer .exit))
-        ≡ checkFace base level range (st (now (words .entry)) (now (ledger .entry))) (now (answer .entry)) ⌝ }
+        ≡ ptbCheck base level range (st (now (words .entry)) (now (ledger .entry))) (now (answer .entry)) ⌝ }
 {
     let handle = pool_handle::handle_of(base, level, range);
     let outcome = checker::check(words, ledger, handle);
@@ -57,7 +57,7 @@ pub extern "C" fn ptb_look_up(
     answer: &mut [u64; 4],
 ) -> u64
     ensures { λ r. ⌜ slip r (now (answer .exit))
-        ≡ lookUpFace base level range (st (now (words .entry)) (now (ledger .entry))) va (now (answer .entry)) ⌝ }
+        ≡ ptbLookUp base level range (st (now (words .entry)) (now (ledger .entry))) va (now (answer .entry)) ⌝ }
 {
     let handle = pool_handle::handle_of(base, level, range);
     let looked = look_up::look_up(words, ledger, handle, VirtualAddress(va));
@@ -78,7 +78,7 @@ pub extern "C" fn ptb_list(
     answer: &mut [u64; 4],
 ) -> u64
     ensures { λ r. ⌜ filled (slip r (now (answer .exit))) (now (lines .exit))
-        ≡ listFace base level range (st (now (words .entry)) (now (ledger .entry))) start end (now (lines .entry)) (now (answer .entry)) ⌝ }
+        ≡ ptbList base level range (st (now (words .entry)) (now (ledger .entry))) start end (now (lines .entry)) (now (answer .entry)) ⌝ }
 {
     let handle = pool_handle::handle_of(base, level, range);
     let listed = list::list(
@@ -108,7 +108,7 @@ pub extern "C" fn ptb_map(
     answer: &mut [u64; 4],
 ) -> u64
     ensures { λ r. ⌜ out (slip r (now (answer .exit))) (st (now (words .exit)) (now (ledger .exit)))
-        ≡ mapFace base level range start end frame flags constraints
+        ≡ ptbMap base level range start end frame flags constraints
         (st (now (words .entry)) (now (ledger .entry))) (now (answer .entry)) ⌝ }
 {
     let handle = pool_handle::handle_of(base, level, range);
@@ -142,7 +142,7 @@ pub extern "C" fn ptb_modify(
     answer: &mut [u64; 4],
 ) -> u64
     ensures { λ r. ⌜ changed (slip r (now (answer .exit))) (st (now (words .exit)) (now (ledger .exit))) (now (list .exit))
-        ≡ modifyFace base level range start end set clear live
+        ≡ ptbModify base level range start end set clear live
         (st (now (words .entry)) (now (ledger .entry))) (now (list .entry)) (now (answer .entry)) ⌝ }
 {
     let handle = pool_handle::handle_of(base, level, range);
@@ -171,7 +171,7 @@ pub extern "C" fn ptb_compact(
     answer: &mut [u64; 4],
 ) -> u64
     ensures { λ r. ⌜ out (slip r (now (answer .exit))) (st (now (words .exit)) (now (ledger .exit)))
-        ≡ compactFace base level range (st (now (words .entry)) (now (ledger .entry))) (now (answer .entry)) ⌝ }
+        ≡ ptbCompact base level range (st (now (words .entry)) (now (ledger .entry))) (now (answer .entry)) ⌝ }
 {
     let handle = pool_handle::handle_of(base, level, range);
     let counted = compact::compact(words, ledger, handle);
@@ -191,7 +191,7 @@ pub extern "C" fn ptb_image(
     answer: &mut [u64; 4],
 ) -> u64
     ensures { λ r. ⌜ filled (slip r (now (answer .exit))) (now (page .exit))
-        ≡ imageFace base level range (st (now (words .entry)) (now (ledger .entry))) table (now (page .entry)) (now (answer .entry)) ⌝ }
+        ≡ ptbImage base level range (st (now (words .entry)) (now (ledger .entry))) table (now (page .entry)) (now (answer .entry)) ⌝ }
 {
     let handle = pool_handle::handle_of(base, level, range);
     let outcome = image::page_image(words, ledger, handle, table as usize, page);

@@ -1,2 +1,2 @@
 -- The calls with numbers alone.
-pub mod Face
+pub mod Calls

@@ -19,7 +19,7 @@ use Rattle.map_rules.specs.Rules.{tableWord, rule2, blockable, rule3, rule4, ru
 use Rattle.map_split.specs.Split.{splitEntry, belowOf, below, into}
 use Rattle.map_put.specs.Put.{dropEntry, byRule, mapChunk, framedChunk, eachMapChunk, mapRange}
 use Rattle.map_count_spec.specs.Needed.{ifDown, sumOf, sumChunks, childWord, neededLeaf, needBelow, needChunk, needTable, needed}
-use Rattle.map_verify.specs.Ask.{askedMap, frameAsked, verifyMap}
+use Rattle.map_verify.specs.Verify.{askedMap, frameAsked, verifyMap}
 use Rattle.map_spec.specs.Call.{putDown, mapSound, mapCall}
 
 -- refusals 1 and 8, which every call asks: the pool's shape, and the check of its words and numbers
@@ -41,7 +41,7 @@ takes = tt
 
 -- map: what is asked, the five rules, the new tables that are counted, and what is put down
 unfoldable pub maps : Unit {0}
-unfolding askedMap frameAsked firstRefused verifyMap rule2 blockable rule3 rule4 ruleOf ifDown sumOf sumChunks childWord neededLeaf needBelow
-    needChunk needTable needed iter clear freeSub freeSlot freeTree inFound into dropEntry byRule mapChunk eachOf eachChunk
+unfolding askedMap frameAsked firstRefused verifyMap rule2 blockable rule3 rule4 ruleOf ifDown sumOf sumChunks childWord neededLeaf
+    needBelow needChunk needTable needed iter clear freeSub freeSlot freeTree inFound into dropEntry byRule mapChunk eachOf eachChunk
     framedChunk eachMapChunk mapRange putDown mapSound mapCall
 maps = tt

@@ -13,9 +13,9 @@ use Rattle.pool.specs.Refuse.{firstRefused}
 use Rattle.modify_entry.specs.Own.{putNumber, ownChunk, ownRange}
 use Rattle.modify_range.specs.Range.{own, downChunk, ownWork, modifyRange}
 use Rattle.modify_survey.specs.House.{houseRule, mayChange}
-use Rattle.modify_survey.specs.Find.{adding, splitsIn, breach, ifBlock, surveyPart, surveyWhole, surveyEntry, surveySub, surveyChunk}
-use Rattle.modify_survey.specs.Find.{surveyRange}
-use Rattle.modify_verify.specs.Permit.{askedEdit, settable, verifyBits, verifyEdit, verifySurvey}
+use Rattle.modify_survey.specs.Survey.{adding, splitsIn, breach, ifBlock, surveyPart, surveyWhole, surveyEntry, surveySub, surveyChunk}
+use Rattle.modify_survey.specs.Survey.{surveyRange}
+use Rattle.modify_verify.specs.Verify.{askedEdit, settable, verifyBits, verifyEdit, verifySurvey}
 use Rattle.modify.specs.Call.{modifying, answerOf, editTables, modifySound, modifyCall}
 use Rattle.modify.specs.declared.Modified.{Modified}
 use Rattle.modify.specs.declared.Modified.the-variants.{Tables, Live, Refused}

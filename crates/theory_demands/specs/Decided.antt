@@ -27,7 +27,7 @@ use Rattle.theory_sound.specs.Decide.{sound-exactly}
 use Rattle.region_verify.specs.Verify.{endFits, inRange, verify, refused-never, lower-start, lower-end, lower-in, upper-start, upper-in}
 use Rattle.region_verify.specs.Verify.{verify-backwards, verify-forwards}
 use Rattle.look_up.specs.Call.{spanned}
-use Rattle.map_verify.specs.Ask.{frameAsked, frame-part, frame-past, frame-fits}
+use Rattle.map_verify.specs.Verify.{frameAsked, frame-part, frame-past, frame-fits}
 use Rattle.theory_demands.specs.Slip.{Misshaped, BadEnd, OutsideSet, Backwards, BeyondRange, BeyondSpan, BadFrame}
 
 -- 1

@@ -27,10 +27,10 @@ use Rattle.region_verify.specs.Verify.{endFits, verify}
 use Rattle.modify_entry.specs.declared.Edit.{Edit}
 use Rattle.modify_survey.specs.declared.Survey.{Survey}
 use Rattle.modify.specs.declared.Modified.the-variants as modified
-use Rattle.modify_verify.specs.Permit.{askedEdit, verifyBits, verifyEdit, verifySurvey, bits-set-invalid, bits-clear-invalid}
-use Rattle.modify_verify.specs.Permit.{bits-set-outside, bits-set-valid, bits-clash, bits-clear-outside}
-use Rattle.modify_verify.specs.Permit.{bits-accepted, edit-end, edit-bits, edit-region, survey-full, survey-off, survey-broken}
-use Rattle.modify_verify.specs.Permit.{survey-short, survey-accepted}
+use Rattle.modify_verify.specs.Verify.{askedEdit, verifyBits, verifyEdit, verifySurvey, bits-set-invalid, bits-clear-invalid}
+use Rattle.modify_verify.specs.Verify.{bits-set-outside, bits-set-valid, bits-clash, bits-clear-outside}
+use Rattle.modify_verify.specs.Verify.{bits-accepted, edit-end, edit-bits, edit-region, survey-full, survey-off, survey-broken}
+use Rattle.modify_verify.specs.Verify.{survey-short, survey-accepted}
 use Rattle.modify.specs.Call.{Modifying, modifying, answerOf, editTables, surveyOf, modifySound, modifyCall, sound-not, sound-refused}
 use Rattle.modify.specs.Call.{sound-edited, call-misshaped, call-refused}
 use Rattle.modify.specs.Call.{call-asked}

@@ -39,7 +39,7 @@ use Rattle.list.specs.declared.Listed.{Listed}
 use Rattle.list.specs.declared.Listed.the-variants as listed
 use Rattle.map_count_spec.specs.Needed.{needed}
 use Rattle.map_rules.specs.declared.Map.{Map}
-use Rattle.map_verify.specs.Ask.{askedMap, frameAsked, verifyMap, ask-end, ask-invalid, ask-set, ask-region, ask-frame}
+use Rattle.map_verify.specs.Verify.{askedMap, frameAsked, verifyMap, ask-end, ask-invalid, ask-set, ask-region, ask-frame}
 use Rattle.map_spec.specs.Call.{putDown, mapSound, mapCall, sound-not, sound-full, sound-mapped, call-misshaped, call-refused, call-asked}
 use Rattle.theory_demands.specs.Slip.{Misshaped, BadEnd, HasBit1, OutsideSet, Backwards, BeyondRange, BeyondSpan, BadFrame, MakeSlip}
 use Rattle.theory_demands.specs.Slip.{CheckSlip, LookUpSlip, ImageSlip, ListSlip}

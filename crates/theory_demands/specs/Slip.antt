@@ -26,8 +26,8 @@ use Rattle.theory_sound.specs.Clauses.{SoundPool}
 use Rattle.arm.specs.Arm.{walk, outside}
 use Rattle.list_lines.specs.Lines.{linesOf}
 use Rattle.map_count_spec.specs.Needed.{needed}
-use Rattle.map_verify.specs.Ask.{askedMap}
-use Rattle.modify_verify.specs.Permit.{askedEdit}
+use Rattle.map_verify.specs.Verify.{askedMap}
+use Rattle.modify_verify.specs.Verify.{askedEdit}
 use Rattle.modify.specs.Call.{surveyOf}
 use Rattle.theory_modify.specs.House.{LowestBreach}
 

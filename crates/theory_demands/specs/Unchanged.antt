@@ -30,7 +30,7 @@ use Rattle.map_count_spec.specs.Needed.{needed}
 use Rattle.map_rules.specs.declared.Map.{Map}
 use Rattle.modify.specs.declared.Modified.{Modified}
 use Rattle.modify.specs.Call.{Modifying, modifying}
-use Rattle.map_verify.specs.Ask.{askedMap, verifyMap}
+use Rattle.map_verify.specs.Verify.{askedMap, verifyMap}
 use Rattle.map_spec.specs.Call.{putDown, mapSound, mapCall, sound-not, sound-full, sound-mapped, call-misshaped, call-refused, call-asked}
 use Rattle.theory_demands.specs.Decided.{accepted-not}
 

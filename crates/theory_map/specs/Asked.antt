@@ -26,7 +26,7 @@ use Rattle.pool.specs.declared.Outcome.the-variants.{Accepted, Refused}
 use Rattle.region_verify.specs.Verify.{endFits, inRange, verify, verified-forwards, RegionInSpan, verified-span}
 use Rattle.map_rules.specs.declared.Map.{Map}
 use Rattle.map_rules.specs.Fit.{Fit}
-use Rattle.map_verify.specs.Ask.{askedMap, frameAsked, verifyMap, passes, only-plain, asked-fit, up-pages}
+use Rattle.map_verify.specs.Verify.{askedMap, frameAsked, verifyMap, passes, only-plain, asked-fit, up-pages}
 use Rattle.theory_sound.specs.Clauses.{SoundPool}
 use Rattle.theory_sound.specs.Decide.{decide-sound}
 use Rattle.theory_tree.specs.Page.{pagesIn, span-size, span-suc, first, in-from}

@@ -15,7 +15,7 @@ use Rattle.pool.specs.declared.Refusal.the-variants.{WantOfRoom}
 use Rattle.pool.specs.declared.Counted.{Counted}
 use Rattle.pool.specs.declared.Counted.the-variants.{Refused}
 use Rattle.map_count_spec.specs.Needed.{needed}
-use Rattle.map_verify.specs.Ask.{askedMap}
+use Rattle.map_verify.specs.Verify.{askedMap}
 use Rattle.theory_sound.specs.Clauses.{SoundPool}
 use Rattle.theory_sound.specs.Codec.{shaped-placed, rootTree}
 use Rattle.theory_sound.specs.Hanging.{used-tree}

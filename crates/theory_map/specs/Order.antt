@@ -8,7 +8,7 @@ use Rattle.entry.specs.Word.{valid-of}
 use Rattle.pool.specs.State.{St, tables}
 use Rattle.pool.specs.Number.{used, free, used-free}
 use Rattle.pool.specs.declared.Handle.{Handle}
-use Rattle.map_verify.specs.Ask.{askedMap}
+use Rattle.map_verify.specs.Verify.{askedMap}
 use Rattle.theory_forest.specs.Tree.{Tree}
 use Rattle.theory_forest.specs.Nodes.{nodes}
 use Rattle.theory_forest.specs.Walk.{walkTree}

@@ -12,7 +12,7 @@ use Rattle.pool.specs.State.{St}
 use Rattle.pool.specs.declared.Handle.{Handle}
 use Rattle.pool.specs.declared.VaRange.{VaRange}
 use Rattle.pool.specs.declared.VaRange.the-variants.{Lower, Upper}
-use Rattle.map_verify.specs.Ask.{askedMap}
+use Rattle.map_verify.specs.Verify.{askedMap}
 use Rattle.look_up.specs.Call.{spanned}
 use Rattle.theory_tree.specs.Page.{pagesIn, first, In, in-of}
 use Rattle.theory_tree.specs.Chunks.{Inside}

@@ -16,7 +16,7 @@ use Rattle.pool.specs.declared.Outcome.the-variants.{Accepted}
 use Rattle.pool.specs.declared.Counted.{Counted}
 use Rattle.pool.specs.declared.Counted.the-variants.{Tables}
 use Rattle.map_rules.specs.declared.Map.{Map}
-use Rattle.map_verify.specs.Ask.{askedMap, verifyMap}
+use Rattle.map_verify.specs.Verify.{askedMap, verifyMap}
 use Rattle.map_spec.specs.Call.{mapCall}
 use Rattle.theory_forest.specs.Tree.{Tree}
 use Rattle.theory_sound.specs.Clauses.{SoundPool}

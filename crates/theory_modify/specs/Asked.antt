@@ -15,7 +15,7 @@ use Rattle.pool.specs.declared.Outcome.{Outcome}
 use Rattle.pool.specs.declared.Outcome.the-variants.{Accepted, Refused}
 use Rattle.region_verify.specs.Verify.{endFits, verify, verified-forwards}
 use Rattle.modify_entry.specs.declared.Edit.{Edit}
-use Rattle.modify_verify.specs.Permit.{askedEdit, settable, settable-says, verifyBits, verifyEdit, asked-span}
+use Rattle.modify_verify.specs.Verify.{askedEdit, settable, settable-says, verifyBits, verifyEdit, asked-span}
 use Rattle.theory_map.specs.Terms.{rootOf}
 use Rattle.theory_map.specs.Stand.{Allowed}
 use Rattle.theory_map.specs.Pieces.{Area}

@@ -24,8 +24,8 @@ use Rattle.modify_entry.specs.Own.{Numbered, numbered}
 use Rattle.modify_range.specs.Range.{Work, work, modifyRange}
 use Rattle.modify.specs.declared.Modified.{Modified}
 use Rattle.modify.specs.declared.Modified.the-variants as modified
-use Rattle.modify_verify.specs.Permit.{askedEdit, verifySurvey, survey-full, survey-off, survey-broken, survey-short}
-use Rattle.modify_verify.specs.Permit.{survey-accepted}
+use Rattle.modify_verify.specs.Verify.{askedEdit, verifySurvey, survey-full, survey-off, survey-broken, survey-short}
+use Rattle.modify_verify.specs.Verify.{survey-accepted}
 use Rattle.modify.specs.Call.{Modifying, modifying, refused, answerOf, editTables, modifySound, sound-not, sound-refused, sound-edited}
 use Rattle.modify.specs.Call.{call-misshaped, call-refused, call-asked}
 use Rattle.modify.specs.Call.{nothing}

@@ -1,4 +1,4 @@
--- The house rule bit by bit (document 01, "Putting down a map", Modify): `survey::House.mayChange` allows a change exactly if no bit
+-- The house rule bit by bit (document 01, "Putting down a map", Modify): `mayChange` of modify_survey allows a change exactly if no bit
 -- outside "0, 7, 10, 11, 51, 53, 54 and 55 to 58" differs.
 use mathlib.Core.Path.{_≡_, refl, sym, ap, _∙_}
 use mathlib.Core.Bool.{Bool, true, false, cond, _&&_, _||_}

@@ -27,8 +27,8 @@ use Rattle.modify_entry.specs.declared.Edit.{Edit}
 use Rattle.modify_entry.specs.Word.{chunkEdit, editWord}
 use Rattle.modify_survey.specs.declared.Survey.{Survey}
 use Rattle.modify_survey.specs.House.{mayChange}
-use Rattle.modify_survey.specs.Find.{splitsIn, breach, ifBlock, surveyPart, surveyWhole, surveyEntry, surveyChunk, surveyRange, entry-whole}
-use Rattle.modify_survey.specs.Find.{entry-part}
+use Rattle.modify_survey.specs.Survey.{splitsIn, breach, ifBlock, surveyPart, surveyWhole, surveyEntry, surveyChunk, surveyRange, entry-whole}
+use Rattle.modify_survey.specs.Survey.{entry-part}
 use Rattle.theory_forest.specs.Tree.{Tree, leaf, node}
 use Rattle.theory_sound.specs.Codec.{Placed, treeFrom}
 use Rattle.theory_sound.specs.Step.{Ready}

@@ -16,7 +16,7 @@ use Rattle.map_count_spec.specs.Needed.{slot-below}
 use Rattle.modify_entry.specs.declared.Edit.{Edit}
 use Rattle.modify_entry.specs.Word.{chunkEdit, editWord}
 use Rattle.modify_survey.specs.declared.Survey.{Survey}
-use Rattle.modify_survey.specs.Find.{surveyEntry, surveySub, surveyChunk}
+use Rattle.modify_survey.specs.Survey.{surveyEntry, surveySub, surveyChunk}
 use Rattle.modify_range.specs.Range.{own, own-table, own-leaf}
 use Rattle.theory_forest.specs.Tree.{Tree, leaf, node, treeAt-node}
 use Rattle.theory_sound.specs.Codec.{Placed, childOf, slotWord, treeFrom}

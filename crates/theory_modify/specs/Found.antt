@@ -24,9 +24,9 @@ use Rattle.modify_entry.specs.declared.Edit.{Edit}
 use Rattle.modify_entry.specs.Word.{chunkEdit, ofKind, editWord}
 use Rattle.modify_survey.specs.declared.Survey.{Survey}
 use Rattle.modify_survey.specs.House.{mayChange}
-use Rattle.modify_survey.specs.Find.{splitsIn, breach, breach-kept, breach-first, surveyPart, surveyWhole, surveyEntry, surveyChunk}
-use Rattle.modify_survey.specs.Find.{surveyRange, part-block, part-other, whole-same}
-use Rattle.modify_survey.specs.Find.{whole-allowed, whole-breach, entry-whole, entry-part}
+use Rattle.modify_survey.specs.Survey.{splitsIn, breach, breach-kept, breach-first, surveyPart, surveyWhole, surveyEntry, surveyChunk}
+use Rattle.modify_survey.specs.Survey.{surveyRange, part-block, part-other, whole-same}
+use Rattle.modify_survey.specs.Survey.{whole-allowed, whole-breach, entry-whole, entry-part}
 use Rattle.theory_forest.specs.Tree.{Tree, leaf, node, treeAt-node}
 use Rattle.theory_forest.specs.Walk.{Ends, walkTree}
 use Rattle.theory_sound.specs.Codec.{Placed, childOf, slotWord, treeFrom}

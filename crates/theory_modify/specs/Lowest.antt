@@ -16,7 +16,7 @@ use Rattle.pool.specs.declared.Handle.{Handle}
 use Rattle.modify_entry.specs.declared.Edit.{Edit}
 use Rattle.modify_entry.specs.Word.{editWord}
 use Rattle.modify_survey.specs.House.{mayChange}
-use Rattle.modify_verify.specs.Permit.{askedEdit}
+use Rattle.modify_verify.specs.Verify.{askedEdit}
 use Rattle.modify.specs.Call.{nothing}
 use Rattle.theory_forest.specs.Tree.{Tree}
 use Rattle.theory_forest.specs.Walk.{Ends, walkTree}

@@ -17,7 +17,7 @@ use Rattle.pool.specs.declared.Refusal.the-variants.{WantOfRoom, HouseRule, Sho
 use Rattle.modify_entry.specs.Word.{editWord}
 use Rattle.modify_survey.specs.House.{mayChange}
 use Rattle.modify.specs.declared.Modified.the-variants.{Refused}
-use Rattle.modify_verify.specs.Permit.{askedEdit}
+use Rattle.modify_verify.specs.Verify.{askedEdit}
 use Rattle.modify.specs.Call.{Modifying, modifying}
 use Rattle.theory_forest.specs.Tree.{Tree}
 use Rattle.theory_sound.specs.Clauses.{SoundPool}

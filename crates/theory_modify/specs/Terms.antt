@@ -15,7 +15,7 @@ use Rattle.modify_entry.specs.declared.Edit.{Edit}
 use Rattle.modify_survey.specs.declared.Survey.{Survey}
 use Rattle.modify.specs.declared.Modified.{Modified}
 use Rattle.modify.specs.declared.Modified.the-variants.{Tables, Live}
-use Rattle.modify_verify.specs.Permit.{askedEdit, verifyEdit}
+use Rattle.modify_verify.specs.Verify.{askedEdit, verifyEdit}
 use Rattle.modify.specs.Call.{Modifying, modifying, modifyCall, surveyOf}
 use Rattle.theory_forest.specs.Tree.{Tree}
 use Rattle.theory_sound.specs.Clauses.{SoundPool}

@@ -11,7 +11,7 @@ use Rattle.laws.specs.Test.{allBelow, all-none, all-more}
 use Rattle.pool.specs.State.{st, tables, numberAt}
 use Rattle.pool.specs.Refuse.{maxTables}
 use Rattle.pool.specs.Sound.{flagSet}
-use Rattle.checker_pass.specs.Stream.{runWords, runPasses, runLinks, tablePasses, tableLinks}
+use Rattle.checker_pass.specs.Pass.{runWords, runPasses, runLinks, tablePasses, tableLinks}
 use Rattle.checker_words.specs.Words.{runOf}
 use Rattle.checker_words.specs.Mask.{PlainSet, el1-plain}
 use Rattle.checker_words.specs.Answer.{count-below, run-passed, run-failed}

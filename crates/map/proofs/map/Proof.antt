@@ -10,7 +10,7 @@ use Rattle.pool.specs.State.{st}
 use Rattle.pool.specs.Refuse.{shaped, shaped-says}
 use Rattle.map_rules.specs.declared.Map.{Map}
 use Rattle.map_rules.specs.Fit.{Fit}
-use Rattle.map_verify.specs.Ask.{askedMap, verifyMap, asked-is, asked-fit}
+use Rattle.map_verify.specs.Verify.{askedMap, verifyMap, asked-is, asked-fit}
 use Rattle.map_spec.specs.Call.{mapSound, call-misshaped, call-refused, call-asked}
 use Rattle.map.proofs.map.Statement.{statement}
 use Rattle.map.proofs.map.Tie as tie

@@ -3,7 +3,7 @@ use mathlib.Core.Path.{refl, _∙_}
 use Prim.Native.Nat.{_-_}
 use native.Mathlib.Omega.{arith}
 use Rattle.pool.specs.State.{st}
-use Rattle.map_start.specs.Lead.{Serves}
+use Rattle.map_start.specs.Start.{Serves}
 use Rattle.map_start.proofs.lowest_table.Statement.{statement}
 use Rattle.map_start.proofs.lowest_table.Tie as tie
 use Rattle.map_start.proofs.lowest_table.Reads as reads

@@ -5,7 +5,7 @@ use Rattle.entry.specs.Sub.{sub-below}
 use Rattle.address_slot.specs.Slot.{entryIndex}
 use Rattle.pool.specs.State.{st}
 use Rattle.pool.specs.Refuse.{maxTables}
-use Rattle.map_start.specs.Lead.{map-below, none-leads, some-leads}
+use Rattle.map_start.specs.Start.{map-below, none-leads, some-leads}
 use Rattle.map_start.proofs.next_table.Statement.{statement}
 use Rattle.map_start.proofs.next_table.Tie as tie
 use Rattle.map_start.proofs.next_table.Reads as reads

@@ -1,6 +1,6 @@
 -- `has_frames`: each way through the code by its law.
 use native.Mathlib.Omega.{arith}
-use Rattle.map_verify.specs.Ask.{fit-part, fit-past, fit-rest}
+use Rattle.map_verify.specs.Verify.{fit-part, fit-past, fit-rest}
 use Rattle.map_verify.proofs.has_frames.Statement.{statement}
 use Rattle.map_verify.proofs.has_frames.Tie as tie
 use Rattle.map_verify.proofs.has_frames.Reads as reads

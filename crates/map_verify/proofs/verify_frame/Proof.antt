@@ -1,7 +1,7 @@
 -- `verify_frame`: each way through the code by its law.
 use mathlib.Core.Path.{sym, _∙_}
 use borrow.Author.Tests.{not-true, not-false}
-use Rattle.map_verify.specs.Ask.{frame-not, frame-may}
+use Rattle.map_verify.specs.Verify.{frame-not, frame-may}
 use Rattle.map_verify.proofs.verify_frame.Statement.{statement}
 use Rattle.map_verify.proofs.verify_frame.Tie as tie
 use Rattle.map_verify.proofs.verify_frame.Reads as reads

@@ -6,7 +6,7 @@ use borrow.Author.Tests.{not-true, not-false}
 use Rattle.entry.specs.Word.{only}
 use Rattle.pool.specs.Sound.{flagSet}
 use Rattle.region_verify.specs.Verify.{endFits}
-use Rattle.map_verify.specs.Ask.{frameAsked, ask-end, ask-invalid, ask-set, ask-region, ask-frame}
+use Rattle.map_verify.specs.Verify.{frameAsked, ask-end, ask-invalid, ask-set, ask-region, ask-frame}
 use borrow.Author.Needs.{needs}
 use Rattle.map_verify.proofs.verify_map.Statement.{statement}
 use Rattle.map_verify.proofs.verify_map.Tie as tie

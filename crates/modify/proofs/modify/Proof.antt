@@ -7,7 +7,7 @@ use borrow.Author.Tests.{not-true, not-false}
 use Rattle.pool.specs.State.{st}
 use Rattle.pool.specs.Refuse.{shaped, shaped-says}
 use Rattle.modify_entry.specs.declared.Edit.{Edit}
-use Rattle.modify_verify.specs.Permit.{verifyEdit, askedEdit, asked-is, asked-span}
+use Rattle.modify_verify.specs.Verify.{verifyEdit, askedEdit, asked-is, asked-span}
 use Rattle.modify.specs.Call.{modifySound, call-misshaped, call-refused, call-asked}
 use Rattle.modify.proofs.modify.Statement.{statement}
 use Rattle.modify.proofs.modify.Tie as tie

@@ -5,7 +5,7 @@ use native.Mathlib.Omega.{arith}
 use Rattle.region.specs.Region.{region}
 use Rattle.region.specs.Chunks.{chunk-fits}
 use Rattle.region.specs.Each.{eachChunk, each-done, each-step}
-use Rattle.modify_survey.specs.Find.{adding, adding-is, splitsIn, splits-page, splits-whole, splits-part}
+use Rattle.modify_survey.specs.Survey.{adding, adding-is, splitsIn, splits-page, splits-whole, splits-part}
 use Rattle.modify_survey.specs.Room.{splits-most}
 use Prim.Native.Nat.{ℕ, _<_}
 use borrow.Fn.Kinds.{In}

@@ -12,7 +12,7 @@ use Rattle.pool.specs.State.{st, wordAt}
 use Rattle.modify_entry.specs.Word.{chunkEdit}
 use Rattle.modify_entry.specs.declared.Edit.{Edit}
 use Rattle.modify_survey.specs.declared.Survey.{Survey}
-use Rattle.modify_survey.specs.Find.{surveyEntry, surveyRange, surveyStep, survey-open, step-table, step-entry, step-outside}
+use Rattle.modify_survey.specs.Survey.{surveyEntry, surveyRange, surveyStep, survey-open, step-table, step-entry, step-outside}
 use Rattle.modify_survey.specs.Room.{Room, Adds, same-adds, entry-adds, range-adds, room-chunk, room-after}
 use Prim.Native.Nat.{ℕ, _<_}
 use borrow.Fn.Kinds.{In}

@@ -1,5 +1,5 @@
 -- `add_breach`: each way through the code by its law.
-use Rattle.modify_survey.specs.Find.{breach-kept, breach-first}
+use Rattle.modify_survey.specs.Survey.{breach-kept, breach-first}
 use Rattle.modify_survey.proofs.add_breach.Statement.{statement}
 use Rattle.modify_survey.proofs.add_breach.Tie as tie
 use Rattle.modify_survey.proofs.add_breach.Reads as reads

@@ -1,6 +1,6 @@
 -- `survey_entry`: each way through the code by its law.
 use mathlib.Core.Path.{sym, _∙_}
-use Rattle.modify_survey.specs.Find.{entry-whole, entry-part}
+use Rattle.modify_survey.specs.Survey.{entry-whole, entry-part}
 use Rattle.modify_survey.proofs.survey_entry.Statement.{statement}
 use Rattle.modify_survey.proofs.survey_entry.Tie as tie
 use Rattle.modify_survey.proofs.survey_entry.Reads as reads

@@ -6,7 +6,7 @@ use denote.Enum.Declared.{tagOf, declared}
 use Rattle.entry.specs.declared.Kind.{Kind}
 use Rattle.entry.specs.declared.Kind.the-variants.{Table, Block, Page, Hole}
 use Rattle.entry.proofs.Kind.{enum}
-use Rattle.modify_survey.specs.Find.{part-block, part-other}
+use Rattle.modify_survey.specs.Survey.{part-block, part-other}
 use Rattle.modify_survey.specs.Room.{splits-most}
 use Rattle.modify_survey.proofs.survey_part.Statement.{statement}
 use Rattle.modify_survey.proofs.survey_part.Tie as tie

@@ -1,7 +1,7 @@
 -- `survey_whole`: each way through the code by its law.
 use mathlib.Core.Path.{sym, _∙_}
 use native.Mathlib.Omega.{arith}
-use Rattle.modify_survey.specs.Find.{whole-same, whole-allowed, whole-breach}
+use Rattle.modify_survey.specs.Survey.{whole-same, whole-allowed, whole-breach}
 use Rattle.modify_survey.proofs.survey_whole.Statement.{statement}
 use Rattle.modify_survey.proofs.survey_whole.Tie as tie
 use Rattle.modify_survey.proofs.survey_whole.Reads as reads

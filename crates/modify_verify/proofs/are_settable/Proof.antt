@@ -1,7 +1,7 @@
 -- `are_settable`: each way through the code by its law.
 use mathlib.Core.Path.{sym, _∙_}
 use borrow.Author.Tests.{not-true, not-false}
-use Rattle.modify_verify.specs.Permit.{set-outside, set-valid, set-apart}
+use Rattle.modify_verify.specs.Verify.{set-outside, set-valid, set-apart}
 use Rattle.modify_verify.proofs.are_settable.Statement.{statement}
 use Rattle.modify_verify.proofs.are_settable.Tie as tie
 use Rattle.modify_verify.proofs.are_settable.Reads as reads

@@ -7,7 +7,7 @@ use Rattle.entry.specs.Word.{only}
 use Rattle.pool.specs.Sound.{flagSet}
 use Rattle.pool.specs.declared.Refusal.the-variants.{FlagSet}
 use Rattle.pool.specs.declared.Outcome.the-variants.{Accepted, Refused}
-use Rattle.modify_verify.specs.Permit.{settable, verifyBits, bits-set-invalid, bits-clear-invalid, bits-unsettable, bits-settable}
+use Rattle.modify_verify.specs.Verify.{settable, verifyBits, bits-set-invalid, bits-clear-invalid, bits-unsettable, bits-settable}
 use Rattle.modify_verify.proofs.verify_bits.Statement.{statement}
 use Rattle.modify_verify.proofs.verify_bits.Tie as tie
 use Rattle.modify_verify.proofs.verify_bits.Reads as reads

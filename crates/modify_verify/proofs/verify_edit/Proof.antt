@@ -3,7 +3,7 @@ use mathlib.Core.Path.{_≡_, sym, _∙_}
 use mathlib.Core.Bool.{true}
 use borrow.Author.Tests.{not-true, not-false}
 use Rattle.region_verify.specs.Verify.{endFits}
-use Rattle.modify_verify.specs.Permit.{edit-end, edit-bits, edit-region}
+use Rattle.modify_verify.specs.Verify.{edit-end, edit-bits, edit-region}
 use Rattle.modify_verify.proofs.verify_edit.Statement.{statement}
 use Rattle.modify_verify.proofs.verify_edit.Tie as tie
 use Rattle.modify_verify.proofs.verify_edit.Reads as reads

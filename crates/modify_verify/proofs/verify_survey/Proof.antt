@@ -1,7 +1,7 @@
 -- `verify_survey`: each way through the code by its law.
 use native.Mathlib.Omega.{arith}
 use borrow.Author.Tests.{not-true, not-false}
-use Rattle.modify_verify.specs.Permit.{survey-full, survey-off, survey-broken, survey-short, survey-accepted}
+use Rattle.modify_verify.specs.Verify.{survey-full, survey-off, survey-broken, survey-short, survey-accepted}
 use Rattle.modify_verify.proofs.verify_survey.Statement.{statement}
 use Rattle.modify_verify.proofs.verify_survey.Tie as tie
 use Rattle.modify_verify.proofs.verify_survey.Reads as reads

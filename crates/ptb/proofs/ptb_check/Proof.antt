@@ -1,6 +1,6 @@
 -- `ptb_check`: the call told outside.
 use Rattle.pool.specs.State.{st}
-use Rattle.ptb_spec.specs.Face.{check-told}
+use Rattle.ptb_spec.specs.Calls.{ptb-check-told}
 use Rattle.ptb.proofs.ptb_check.Statement.{statement}
 use Rattle.ptb.proofs.ptb_check.Tie as tie
 use Rattle.ptb.proofs.ptb_check.Reads as reads
@@ -21,7 +21,7 @@ answer-outcome-requires c κs = tt
 returns : tie.Need-returns
 returns c =
     let a = c .before .before .before .before .before .before .args in
-    check-told (a .base) (a .level) (a .range) (st (a .words .now) (a .ledger .now)) (a .answer .now)
+    ptb-check-told (a .base) (a .level) (a .range) (st (a .words .now) (a .ledger .now)) (a .answer .now)
     (c .before .before .before .handle-of .ensures) (c .before .before .check .ensures) (c .answer-outcome .ensures)
 
 pub ptb-check-spec : {M : Type 1} → statement M

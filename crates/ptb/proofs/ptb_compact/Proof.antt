@@ -1,7 +1,7 @@
 -- `ptb_compact`: the call told outside.
 use native.Mathlib.Omega.{arith}
 use Rattle.pool.specs.State.{st}
-use Rattle.ptb_spec.specs.Face.{compact-told}
+use Rattle.ptb_spec.specs.Calls.{ptb-compact-told}
 use Rattle.ptb.proofs.ptb_compact.Statement.{statement}
 use Rattle.ptb.proofs.ptb_compact.Tie as tie
 use Rattle.ptb.proofs.ptb_compact.Reads as reads
@@ -33,7 +33,7 @@ returns : tie.Need-returns
 returns c =
     let a = start-of-returns c .args in
     let called = c .before .before .before .before .before .before in
-    compact-told (a .base) (a .level) (a .range) (st (a .words .now) (a .ledger .now)) (a .answer .now)
+    ptb-compact-told (a .base) (a .level) (a .range) (st (a .words .now) (a .ledger .now)) (a .answer .now)
     (called .before .before .before .handle-of .ensures)
     (called .compact .ensures)
     (c .answer-counted .ensures)

@@ -1,7 +1,7 @@
 -- `ptb_image`: the call told outside.
 use native.Mathlib.Omega.{arith}
 use Rattle.pool.specs.State.{st}
-use Rattle.ptb_spec.specs.Face.{image-told}
+use Rattle.ptb_spec.specs.Calls.{ptb-image-told}
 use Rattle.ptb.proofs.ptb_image.Statement.{statement}
 use Rattle.ptb.proofs.ptb_image.Tie as tie
 use Rattle.ptb.proofs.ptb_image.Reads as reads
@@ -29,7 +29,7 @@ same-length c = omega arith
 returns : tie.Need-returns
 returns c =
     let a = start-of-returns c .args in
-    image-told (a .base) (a .level) (a .range) (st (a .words .now) (a .ledger .now)) (a .table) (a .page .now) (a .answer .now)
+    ptb-image-told (a .base) (a .level) (a .range) (st (a .words .now) (a .ledger .now)) (a .table) (a .page .now) (a .answer .now)
     (c .before .before .before .before .before .before .handle-of .ensures)
     (c .before .before .before .before .page-image .ensures)
     (c .answer-outcome .ensures)

@@ -1,7 +1,7 @@
 -- `ptb_list`: the call told outside.
 use native.Mathlib.Omega.{arith}
 use Rattle.pool.specs.State.{st}
-use Rattle.ptb_spec.specs.Face.{list-told}
+use Rattle.ptb_spec.specs.Calls.{ptb-list-told}
 use Rattle.ptb.proofs.ptb_list.Statement.{statement}
 use Rattle.ptb.proofs.ptb_list.Tie as tie
 use Rattle.ptb.proofs.ptb_list.Reads as reads
@@ -29,7 +29,7 @@ same-length c = omega arith
 returns : tie.Need-returns
 returns c =
     let a = start-of-returns c .args in
-    list-told (a .base) (a .level) (a .range) (st (a .words .now) (a .ledger .now)) (a .start) (a .end) (a .lines .now) (a .answer .now)
+    ptb-list-told (a .base) (a .level) (a .range) (st (a .words .now) (a .ledger .now)) (a .start) (a .end) (a .lines .now) (a .answer .now)
     (c .before .before .before .before .before .before .handle-of .ensures)
     (c .before .before .before .before .list .ensures)
     (c .answer-listed .ensures)

@@ -1,6 +1,6 @@
 -- `ptb_look_up`: the call told outside.
 use Rattle.pool.specs.State.{st}
-use Rattle.ptb_spec.specs.Face.{look-up-told}
+use Rattle.ptb_spec.specs.Calls.{ptb-look-up-told}
 use Rattle.ptb.proofs.ptb_look_up.Statement.{statement}
 use Rattle.ptb.proofs.ptb_look_up.Tie as tie
 use Rattle.ptb.proofs.ptb_look_up.Reads as reads
@@ -21,7 +21,7 @@ answer-looked-requires c κs = tt
 returns : tie.Need-returns
 returns c =
     let a = c .before .before .before .before .before .before .args in
-    look-up-told (a .base) (a .level) (a .range) (st (a .words .now) (a .ledger .now)) (a .va) (a .answer .now)
+    ptb-look-up-told (a .base) (a .level) (a .range) (st (a .words .now) (a .ledger .now)) (a .va) (a .answer .now)
     (c .before .before .before .handle-of .ensures) (c .before .before .look-up .ensures) (c .answer-looked .ensures)
 
 pub ptb-look-up-spec : {M : Type 1} → statement M

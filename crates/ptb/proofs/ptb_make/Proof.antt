@@ -1,7 +1,7 @@
 -- `ptb_make`: the call told outside.
 use native.Mathlib.Omega.{arith}
 use Rattle.pool.specs.State.{st}
-use Rattle.ptb_spec.specs.Face.{make-told}
+use Rattle.ptb_spec.specs.Calls.{ptb-make-told}
 use Rattle.ptb.proofs.ptb_make.Statement.{statement}
 use Rattle.ptb.proofs.ptb_make.Tie as tie
 use Rattle.ptb.proofs.ptb_make.Reads as reads
@@ -32,7 +32,7 @@ same-length-2 c = omega arith
 returns : tie.Need-returns
 returns c =
     let a = start-of-returns c .args in
-    make-told (a .base) (a .level) (a .range) (st (a .words .now) (a .ledger .now)) (a .answer .now)
+    ptb-make-told (a .base) (a .level) (a .range) (st (a .words .now) (a .ledger .now)) (a .answer .now)
     (c .before .before .before .before .before .before .before .before .before .handle-of .ensures)
     (c .before .before .before .before .before .before .make .ensures)
     (c .answer-outcome .ensures)

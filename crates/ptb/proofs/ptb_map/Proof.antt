@@ -1,7 +1,7 @@
 -- `ptb_map`: the call told outside.
 use native.Mathlib.Omega.{arith}
 use Rattle.pool.specs.State.{st}
-use Rattle.ptb_spec.specs.Face.{map-told}
+use Rattle.ptb_spec.specs.Calls.{ptb-map-told}
 use Rattle.ptb.proofs.ptb_map.Statement.{statement}
 use Rattle.ptb.proofs.ptb_map.Tie as tie
 use Rattle.ptb.proofs.ptb_map.Reads as reads
@@ -32,7 +32,7 @@ same-length-2 c = omega arith
 returns : tie.Need-returns
 returns c =
     let a = start-of-returns c .args in
-    map-told (a .base) (a .level) (a .range) (a .start) (a .end) (a .frame) (a .flags) (a .constraints)
+    ptb-map-told (a .base) (a .level) (a .range) (a .start) (a .end) (a .frame) (a .flags) (a .constraints)
     (st (a .words .now) (a .ledger .now)) (a .answer .now)
     (c .before .before .before .before .before .before .before .before .before .handle-of .ensures)
     (c .before .before .before .before .before .before .map .ensures)

@@ -1,6 +1,6 @@
 -- `ptb_modify`: the call told outside.
 use Rattle.pool.specs.State.{st}
-use Rattle.ptb_spec.specs.Face.{modify-told}
+use Rattle.ptb_spec.specs.Calls.{ptb-modify-told}
 use Rattle.ptb.proofs.ptb_modify.Statement.{statement}
 use Rattle.ptb.proofs.ptb_modify.Tie as tie
 use Rattle.ptb.proofs.ptb_modify.Reads as reads
@@ -37,7 +37,7 @@ same-length-3 c = c .before .before .before .before .before .before .before .bef
 returns : tie.Need-returns
 returns c =
     let a = start-of-returns c .args in
-    modify-told (a .base) (a .level) (a .range) (a .start) (a .end) (a .set) (a .clear) (a .live)
+    ptb-modify-told (a .base) (a .level) (a .range) (a .start) (a .end) (a .set) (a .clear) (a .live)
     (st (a .words .now) (a .ledger .now)) (a .list .now) (a .answer .now)
     (handle-of-returns c .handle-of .ensures)
     (c .before .before .before .before .before .before .before .before .modify .ensures)

@@ -3,8 +3,8 @@
 
 usage: tools/spell.py [FILE..]     with no file: every .antt and .rt file below crates/
 
-Whole words alone are turned, and all rows at once. In a .rt file only words that Rust has no use for are turned. Of a
-function's proof files, a word behind a dot that is no field of ours stays. Comments: words in backquotes.
+Whole words alone are turned, and all rows at once. In a .rt file only words that Rust has no use for are turned. A word with
+dashes behind a dot is turned if a record of specs/ has it as a field. Comments: words in backquotes.
 """
 import os
 import re
@@ -20,14 +20,33 @@ def rows():
 
 
 TABLE = rows()
+FIELDS = set()
+
+
+def fields():
+    """The fields of records in specs/: what is declared, further in, below a line with `record`."""
+    for path in files():
+        if "/specs/" not in path or not path.endswith(".antt"):
+            continue
+        inside = None
+        with open(path, encoding="utf-8") as it:
+            for line in it:
+                depth = len(line) - len(line.lstrip())
+                if re.match(r" *(pub )?record ", line):
+                    inside = depth
+                elif inside is not None and line.strip() and depth <= inside:
+                    inside = None
+                m = inside is not None and re.match(r" *(?:pub )?([^\s(){}.;,]+) :", line)
+                if m:
+                    FIELDS.add(m.group(1))
 
 
 def turned(word, before, rust):
     if word not in TABLE:
         return word
     camel = bool(re.fullmatch(r"[a-z]\w*[a-z0-9][A-Z]\w*", word))
-    # a name that was camel case is turned as a field too; what has dashes or underscores behind a dot is the toolchain's own
-    if before == "." and not camel:
+    # behind a dot, what is no field of ours and was not camel case is the toolchain's own
+    if before == "." and not camel and word not in FIELDS:
         return word
     if rust and not camel and "-" not in word:
         return word
@@ -61,6 +80,7 @@ def files():
 
 
 def main():
+    fields()
     for path in sys.argv[1:] or files():
         with open(path, encoding="utf-8") as it:
             text = it.read()

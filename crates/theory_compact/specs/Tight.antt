@@ -33,7 +33,7 @@ module _ {C : Codec} {s : State} (S : Sound C s) where
 
   tight_under : (depth k : ℕ) → LevelsLeft C s k depth → Tight depth (tree_of C s depth k) → (d j : ℕ) → Under C s k (suc d) j
       → empty_words (s.word j) ≡ false
-  tight_under zero k low tight d j under = absurd (omega (arith, low, under.deep, C.level-le (s.ledger j)))
+  tight_under zero k low tight d j under = absurd (omega (arith, low, under.deep, C.level_le (s.ledger j)))
   tight_under (suc depth) k low tight d j under =
       let via = under_via S under in
       let r = via.refers in

@@ -134,7 +134,7 @@ module _ {C : Codec} {s : State} where
   root_one {c} {c'} S root root' under under' = go (under_either (used c root) (used c' root') under under')
     where
       used : (k : ℕ) → C.Root k (s.ledger k) → Used s k
-      used k r = C.root-used k (s.ledger k) r
+      used k r = C.root_used k (s.ledger k) r
 
       top : (a b x : ℕ) → C.Root b (s.ledger b) → Under C s a x b → b ≡ a
       top a b zero r under = under-zero under

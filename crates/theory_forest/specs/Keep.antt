@@ -26,7 +26,7 @@ module _ (C : Codec) where
     pub good : C.Leaf x v
 
   pub zero-fits : (x : ℕ) → Fits x 0
-  zero-fits x = record { plain = λ t. omega (arith, t.1); good = C.zero-leaf x }
+  zero-fits x = record { plain = λ t. omega (arith, t.1); good = C.zero_leaf_lem x }
 
   -- in a table at level l a word that is no table word is a leaf
   pub slot_leaf : (s : State) (depth k i : ℕ) {l v : ℕ} → l + depth ≡ 3 → s.word k i ≡ v → ¬ (TableWord l v)

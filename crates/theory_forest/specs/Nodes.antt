@@ -131,7 +131,7 @@ module _ {C : Codec} {s : State} (S : Sound C s) where
       where
         at : (j d : ℕ) → Under C s c d j → lies C s c j ≡ is c j
         at j zero under = lies_yes C s c 0 j under ∙ sym (is_yes c j (under-zero under))
-        at j (suc d) under = absurd (omega (arith, under.deep, low, C.level-le (s.ledger j)))
+        at j (suc d) under = absurd (omega (arith, under.deep, low, C.level_le (s.ledger j)))
 
         only : (j : ℕ) → ((d : ℕ) × Under C s c d j) ⊎ NotUnder C s c j → lies C s c j ≡ is c j
         only j (inl under) = at j under.0 under.1
@@ -168,7 +168,7 @@ module _ {C : Codec} {s : State} (S : Sound C s) where
     unfolding in_use
     used-nodes depth root is_root single low =
         sum_ext n (λ k. cond (eqb (s.ledger k) 0) 0 1) (lies C s root) (λ k l. at k (eqb_cases (s.ledger k) 0))
-        ∙ under-nodes depth root (C.root-used root (s.ledger root) is_root) low
+        ∙ under-nodes depth root (C.root_used root (s.ledger root) is_root) low
       where
         at : (k : ℕ) → ((s.ledger k ≡ 0) × (eqb (s.ledger k) 0 ≡ true)) ⊎ ((s.ledger k ≢ 0) × (eqb (s.ledger k) 0 ≡ false))
             → cond (eqb (s.ledger k) 0) 0 1 ≡ lies C s root k

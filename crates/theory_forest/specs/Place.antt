@@ -143,8 +143,8 @@ module _ {C : Codec} {s s' : State} (S : Sound C s) where
   pub root_stays : (all : ℕ) {k c : ℕ} → Over C s s' k → C.Root k (s.ledger k) → C.Root c (s.ledger c) → k ≢ c → LevelsLeft C s c all
       → tree_of C s' all c ≡ tree_of C s all c
   root_stays all {k} {c} o root root' other low =
-      let used : Used s k = C.root-used k (s.ledger k) root in
-      let used' : Used s c = C.root-used c (s.ledger c) root' in
+      let used : Used s k = C.root_used k (s.ledger k) root in
+      let used' : Used s c = C.root_used c (s.ledger c) root' in
       over_stays all o used used' low
       (λ d under. other (root_one S root root' (under_self used) under)) (λ d under. other (root_one S root root' under (under_self used')))
 

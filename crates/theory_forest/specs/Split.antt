@@ -38,7 +38,7 @@ module _ {C : Codec} {s s' : State} {p i f x : ℕ} {g : ℕ → ℕ} (S : Sound
 
   -- table p is not at the lowest level
   high : level_in C s p < 3
-  high = omega (arith, fit.level, C.level-le x)
+  high = omega (arith, fit.level, C.level_le x)
 
   plain : (j : ℕ) → ¬ (TableWord (C.level x) (g j))
   plain j t = go (le_or 512 j)
@@ -74,7 +74,7 @@ module _ {C : Codec} {s s' : State} {p i f x : ℕ} {g : ℕ → ℕ} (S : Sound
   pub split_sound : Sound C s'
   split_sound = record {
     rooted =
-        λ k y root. splits.ledger k (λ e. omega (arith, fresh, C.root-used k y root, ap s.ledger e, S.rooted k y root))
+        λ k y root. splits.ledger k (λ e. omega (arith, fresh, C.root_used k y root, ap s.ledger e, S.rooted k y root))
         ∙ S.rooted k y root;
     hangs = λ k u. hang k u (eq_or k f);
     names = λ k j u t. name k j u t (eq_or k f) (same_slot_or k j p i);
@@ -112,7 +112,7 @@ module _ {C : Codec} {s s' : State} {p i f x : ℕ} {g : ℕ → ℕ} (S : Sound
       leafy : (k j : ℕ) → Used s' k → j < 512 → ¬ (IsTable C s' k j) → (k ≡ f) ⊎ (k ≢ f) → SameSlot k j p i ⊎ (¬ (SameSlot k j p i))
           → C.Leaf (s'.ledger k) (s'.word k j)
       leafy k j u l nt (inl e) at = rw (e, splits.number, splits.filled j) (fit.fits j l).good
-      leafy k j u l nt (inr ne) (inl e) = absurd (nt (rw (e.0, p_ledger, level_in) high, rw (e.0, e.1, splits.linked) (C.link-table f)))
+      leafy k j u l nt (inr ne) (inl e) = absurd (nt (rw (e.0, p_ledger, level_in) high, rw (e.0, e.1, splits.linked) (C.link_table f)))
       leafy k j u l nt (inr ne) (inr off) =
           rw (splits.ledger k ne, splits.words k j ne off)
           (S.leaves k j (before k ne u) l (λ t. nt (rw (splits.ledger k ne, level_in) t.0, rw (splits.words k j ne off) t.1)))

@@ -118,10 +118,10 @@ module _ {C : Codec} {s : State} where
 
   -- at a table word
   pub refers_table : {k i c : ℕ} → Refers C s k i c → IsTable C s k i
-  refers_table {c = c} r = (omega (arith, refers_level r, C.level-le (s.ledger c)), rw r.says (C.link-table c))
+  refers_table {c = c} r = (omega (arith, refers_level r, C.level_le (s.ledger c)), rw r.says (C.link_table c))
 
   pub refers_child : {k i c : ℕ} → Refers C s k i c → C.child (s.word k i) ≡ c
-  refers_child {c = c} r = ap C.child r.says ∙ C.child-link c
+  refers_child {c = c} r = ap C.child r.says ∙ C.child_link c
 
   -- what lies under c lies under k; k itself does not lie under c
   pub refers_under : {k i c d j : ℕ} → Refers C s k i c → Under C s c d j → Under C s k (suc d) j

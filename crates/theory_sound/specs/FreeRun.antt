@@ -180,7 +180,7 @@ module _ {h : Handle} {s : St} (shape : Shaped h s) (S : Sound (codec_of h (shap
   pub tree_freed : (depth d : ℕ) (q : St) → InUse s d → LevelsLeft C (view s) d depth → Starts d q → Freed d q (free_tree depth h d q)
   unfolding free_tree
   tree_freed zero d q used low start = clear-freed d q q used start.size (record {
-    gone = λ j i e m r l under. absurd (omega (arith, refers_level r, low, C.level-le (number_at s e)));
+    gone = λ j i e m r l under. absurd (omega (arith, refers_level r, low, C.level_le (number_at s e)));
     rest = λ j off. kept_self;
     size = size_refl;
   })

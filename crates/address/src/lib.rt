@@ -1,15 +1,17 @@
 // Numbers: addresses of two kinds that can't be exchanged, rounding, and the sizes of entries by level.
 // Port of the helper functions of paging.rs (aarch64-paging 0.12.3) and of the two address types of descriptor.rs.
+#![tactic(auto)]
+
 ghost use Rattle.std.specs.Prelude.{◌≡◌, ◌/◌, ◌%◌, ◌^◌, eqb};
 ghost use Rattle.laws.specs.Size.{size_at, down};
 ghost use Rattle.address.specs.Address.{align_up};
 
 // An address that a walk translates.
-#[derive(Drop)]
+#[derive(Clone, Copy)]
 pub struct VirtualAddress(pub u64);
 
 // An address that a walk answers with, or at which a table stands.
-#[derive(Drop)]
+#[derive(Clone, Copy)]
 pub struct PhysicalAddress(pub u64);
 
 // The bytes of a page.

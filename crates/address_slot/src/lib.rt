@@ -1,4 +1,6 @@
 // The entry of a level that holds an address: its last address and its slot; where a chunk ends that begins there.
+#![tactic(auto)]
+
 ghost use Rattle.std.specs.Prelude.{◌≡◌};
 ghost use Rattle.address_slot.specs.Slot.{entry_last, entry_index, chunk_end};
 

@@ -1,4 +1,6 @@
 // The pool check: it accepts exactly the sound pools, whoever wrote the words, in one pass over them.
+#![tactic(auto)]
+
 ghost use Rattle.std.specs.Prelude.{◌≡◌};
 ghost use Rattle.pool.specs.State.{st};
 ghost use Rattle.pool.specs.Refuse.{Shaped};

@@ -1,4 +1,6 @@
 // Whether a table's ledger number is right: a table in use hangs from the slot that its number names.
+#![tactic(auto)]
+
 ghost use Rattle.std.specs.Prelude.{◌≡◌, ◌<◌, length};
 ghost use Rattle.pool.specs.State.{st};
 ghost use Rattle.pool.specs.Refuse.{Shaped};

@@ -1,10 +1,12 @@
 // A run of words of one table, judged by unions of its words: as a free table, one of pages or one of links; and as its ledger number says.
+#![tactic(auto)]
+
 ghost use Rattle.std.specs.Prelude.{◌≡◌};
 ghost use Rattle.checker_words.specs.Words.{free_run, pages_run, links_run, run_of, allowed_at};
 ghost use Rattle.checker_words.specs.Mask.{PlainSet};
 
 // A run of words that passed, with how many of them refer to tables; or one that holds a wrong word.
-#[derive(Drop)]
+#[derive(Clone, Copy)]
 pub enum Run {
     Passed(usize),
     Failed,

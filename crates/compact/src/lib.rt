@@ -1,4 +1,6 @@
 // Compacting a pool: compact_subtables of paging.rs (aarch64-paging 0.12.3), on a pool of tables.
+#![tactic(auto)]
+
 ghost use Rattle.std.specs.Prelude.{◌≡◌, ◌*◌, ◌-◌, ◌≤◌, ◌<◌, length};
 ghost use Rattle.pool.specs.State.{st};
 ghost use Rattle.pool.specs.Refuse.{out};

@@ -1,4 +1,6 @@
 // A table that is empty freed, and the slot that refers to it zeroed.
+#![tactic(auto)]
+
 ghost use Rattle.std.specs.Prelude.{◌≡◌, ◌*◌, ◌<◌, length};
 ghost use Rattle.pool.specs.State.{st};
 ghost use Rattle.compact_spec.specs.Compact.{all_zero, release_empty};

@@ -1,1 +1,2 @@
 // Theorems alone: what compact does, on lists, stands in specs/.
+#![tactic(auto)]

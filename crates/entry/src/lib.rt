@@ -1,5 +1,7 @@
 // What a word says at its level: address, flags, kind, and the table that it refers to. Port of Descriptor of descriptor.rs (aarch64-paging
 // 0.12.3).
+#![tactic(auto)]
+
 ghost use Rattle.std.specs.Prelude.{◌≡◌, ◌%◌, ◌^◌};
 ghost use Rattle.entry.specs.Word.{flags_of, kind_of, link_of, only};
 ghost use Rattle.entry.specs.Sub.{sub_of};
@@ -13,7 +15,7 @@ pub const EL1_FLAGS: u64 = 0xFFFC_0000_0000_0FFD;
 pub const ADDRESS_BITS: u64 = 0x0000_FFFF_FFFF_F000;
 
 // What an entry is.
-#[derive(Drop)]
+#[derive(Clone, Copy)]
 pub enum Kind {
     Table,
     Block,
@@ -22,7 +24,7 @@ pub enum Kind {
 }
 
 // Where an entry leads: to a table of the pool, to a table that the pool doesn't have, or nowhere.
-#[derive(Drop)]
+#[derive(Clone, Copy)]
 pub enum Sub {
     Table(usize),
     Outside,

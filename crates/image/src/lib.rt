@@ -1,4 +1,6 @@
 // One table as the bytes of a page.
+#![tactic(auto)]
+
 ghost use Rattle.std.specs.Prelude.{◌≡◌};
 ghost use Rattle.pool.specs.State.{st};
 ghost use Rattle.image.specs.Call.{imaged, image_call};

@@ -1,4 +1,6 @@
 // Words as bytes: PageTable::write_to of paging.rs (aarch64-paging 0.12.3).
+#![tactic(auto)]
+
 ghost use Rattle.std.specs.Prelude.{◌≡◌, ◌*◌, length};
 ghost use Rattle.image_bytes.specs.Image.{bytes_of, image_of};
 

@@ -1,1 +1,2 @@
 // Theorems alone: what the other crates' definitions and proofs lean on stands in specs/.
+#![tactic(auto)]

@@ -1,4 +1,6 @@
 // The call list: the region and the pool looked at, then a line for each entry that the region meets, if there is room.
+#![tactic(auto)]
+
 ghost use Rattle.std.specs.Prelude.{◌≡◌, ◌*◌, ◌-◌, ◌^◌, ◌≤◌, length};
 ghost use Rattle.pool.specs.State.{st};
 ghost use Rattle.list_lines.specs.Lines.{lines_from};
@@ -9,7 +11,7 @@ use pool::{Handle, Outcome, Refusal};
 use region::MemoryRegion;
 
 // What list answers: the count of its lines.
-#[derive(Drop)]
+#[derive(Clone, Copy)]
 pub enum Listed {
     Lines(usize),
     Refused(Refusal),

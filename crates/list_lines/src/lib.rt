@@ -1,4 +1,6 @@
 // Every entry that a region meets, four numbers a line: visit_range of paging.rs (aarch64-paging 0.12.3).
+#![tactic(auto)]
+
 ghost use Rattle.std.specs.Prelude.{◌≡◌, [], ◌∷◌, ◌+◌, ◌*◌, ◌-◌, ◌^◌, ◌≤◌, ◌<◌, length};
 ghost use Rattle.laws.specs.Part.{put_part};
 ghost use Rattle.region.specs.Chunks.{met};

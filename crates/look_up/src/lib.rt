@@ -1,4 +1,6 @@
 // Look up: the walk of one address.
+#![tactic(auto)]
+
 ghost use Rattle.std.specs.Prelude.{◌≡◌, ◌*◌, ◌≤◌, length};
 ghost use Rattle.pool.specs.State.{st};
 ghost use Rattle.arm.specs.Arm.{at, says, walk};
@@ -9,7 +11,7 @@ use entry::{Kind, Sub};
 use pool::{Handle, Refusal, VaRange};
 
 // What look up answers: kind, level, flags without bit 1, and the frame of the address's page. A hole has no frame.
-#[derive(Drop)]
+#[derive(Clone, Copy)]
 pub enum Looked {
     Hole(usize, u64),
     Block(usize, u64, PhysicalAddress),

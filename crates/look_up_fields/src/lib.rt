@@ -1,4 +1,6 @@
 // What the walk reads of an address and of a word: slot numbers, frame, flags.
+#![tactic(auto)]
+
 ghost use Rattle.std.specs.Prelude.{◌≡◌};
 ghost use Rattle.arm.specs.Arm.{frame_of, flags_in};
 ghost use Rattle.arm.specs.Walk.{slots_of};

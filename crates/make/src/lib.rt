@@ -1,4 +1,6 @@
 // Making a pool: refusal 1, then all words and numbers 0 and the root entered.
+#![tactic(auto)]
+
 ghost use Rattle.std.specs.Prelude.{◌≡◌};
 ghost use Rattle.pool.specs.State.{st};
 ghost use Rattle.pool.specs.Refuse.{out};

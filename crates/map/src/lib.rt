@@ -1,4 +1,6 @@
 // The call that puts down a map: map_range of paging.rs (aarch64-paging 0.12.3), on a pool of tables.
+#![tactic(auto)]
+
 ghost use Rattle.std.specs.Prelude.{◌≡◌};
 ghost use Rattle.pool.specs.State.{st};
 ghost use Rattle.pool.specs.Refuse.{out};
@@ -10,7 +12,7 @@ use pool::{Counted, Handle, Outcome, Refusal};
 use region::MemoryRegion;
 
 // The crate's two constraints; only the first is read.
-#[derive(Drop)]
+#[derive(Clone, Copy)]
 pub struct Constraints(pub u64);
 
 // Puts a map down: each page of the region to its frame, ascending, with these flags.

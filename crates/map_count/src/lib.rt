@@ -1,4 +1,6 @@
 // Refusal 9's count: the new tables that a map needs. Only entries that exist are visited.
+#![tactic(auto)]
+
 ghost use Rattle.std.specs.Prelude.{◌≡◌, ◌*◌, ◌-◌, ◌≤◌, ◌<◌, length};
 ghost use Rattle.pool.specs.State.{st};
 ghost use Rattle.map_rules.specs.Fit.{Fit};

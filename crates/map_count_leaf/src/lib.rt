@@ -1,4 +1,6 @@
 // Refusal 9's count from two ends, without a walk of the region: where rule 2 fits nothing, and for an entry that is no table.
+#![tactic(auto)]
+
 ghost use Rattle.std.specs.Prelude.{◌≡◌, ◌-◌, ◌/◌, ◌≤◌, ◌<◌, ◌^◌, ◌+◌};
 ghost use Rattle.laws.specs.Size.{size_at};
 ghost use Rattle.region.specs.Chunks.{met};

@@ -1,4 +1,6 @@
 // What a rule that goes no lower does: a word is written, a subtree freed. Parts of map_range of PageTableWithLevel.
+#![tactic(auto)]
+
 ghost use Rattle.std.specs.Prelude.{false, ◌≡◌, ◌*◌, ◌%◌, ◌<◌, length};
 ghost use Rattle.pool.specs.State.{st};
 ghost use Rattle.pool.specs.Refuse.{Shaped};

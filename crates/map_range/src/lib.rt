@@ -1,4 +1,6 @@
 // Putting a map down in one table and the tables below it: map_range of PageTableWithLevel.
+#![tactic(auto)]
+
 ghost use Rattle.std.specs.Prelude.{false, ◌≡◌, ◌-◌, ◌≤◌, ◌<◌, length};
 ghost use Rattle.pool.specs.State.{st};
 ghost use Rattle.pool.specs.Refuse.{Shaped};

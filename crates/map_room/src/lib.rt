@@ -1,4 +1,6 @@
 // A map whose numbers were verified: refusals 8 and 9, then the map.
+#![tactic(auto)]
+
 ghost use Rattle.std.specs.Prelude.{◌≡◌};
 ghost use Rattle.pool.specs.State.{st};
 ghost use Rattle.pool.specs.Number.{used};

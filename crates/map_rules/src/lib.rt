@@ -1,5 +1,7 @@
 // A map, the tests of its five rules, which of them fits a chunk, and the word that they write: map_range of paging.rs (aarch64-paging
 // 0.12.3).
+#![tactic(auto)]
+
 ghost use Rattle.std.specs.Prelude.{◌≡◌, ◌%◌, ◌^◌, ◌<◌};
 ghost use Rattle.region.specs.Region.{region};
 ghost use Rattle.entry.specs.Word.{leaf_word, Plain};
@@ -10,7 +12,7 @@ use address::{PhysicalAddress, VirtualAddress};
 use region::MemoryRegion;
 
 // What to put down: the region, the frame of its first page, the flags, and whether blocks are allowed.
-#[derive(Drop)]
+#[derive(Clone, Copy)]
 pub struct Map {
     pub region: MemoryRegion,
     pub frame: PhysicalAddress,
@@ -19,7 +21,7 @@ pub struct Map {
 }
 
 // What is done with one chunk.
-#[derive(Drop)]
+#[derive(Clone, Copy)]
 pub enum Rule {
     Write(u64),
     Keep,

@@ -1,1 +1,2 @@
 // Theorems alone: the call map, on lists, stands in specs/.
+#![tactic(auto)]

@@ -1,4 +1,6 @@
 // An entry that is no table becomes one: split_entry of paging.rs (aarch64-paging 0.12.3). Map and modify go down by it.
+#![tactic(auto)]
+
 ghost use Rattle.std.specs.Prelude.{◌≡◌, ◌+◌, ◌*◌, ◌%◌, ◌<◌, length, get_or};
 ghost use Rattle.pool.specs.State.{st};
 ghost use Rattle.pool.specs.Refuse.{Shaped};

@@ -1,4 +1,6 @@
 // Where a map begins: a table that holds all of its region, as low as links lead. What stands above it is left as it is.
+#![tactic(auto)]
+
 ghost use Rattle.std.specs.Prelude.{◌<◌, length};
 ghost use Rattle.pool.specs.State.{st};
 ghost use Rattle.pool.specs.Refuse.{Shaped};
@@ -10,7 +12,7 @@ use map_rules::{Map, Rule};
 use pool::{Found, Handle};
 
 // A table, and its level.
-#[derive(Drop)]
+#[derive(Clone, Copy)]
 pub struct Place {
     pub table: usize,
     pub level: usize,

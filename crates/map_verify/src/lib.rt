@@ -1,4 +1,6 @@
 // What map asks of its arguments: refusals 2 to 7, in their order.
+#![tactic(auto)]
+
 ghost use Rattle.std.specs.Prelude.{◌≡◌};
 ghost use Rattle.map_verify.specs.Verify.{frames_fit, frame_asked, verify_map};
 

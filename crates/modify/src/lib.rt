@@ -1,5 +1,7 @@
 // Modify: bits set and cleared in the valid blocks and pages of a region. modify_range of paging.rs (aarch64-paging 0.12.3), on a pool of
 // tables.
+#![tactic(auto)]
+
 ghost use Rattle.std.specs.Prelude.{◌≡◌, ◌-◌, ◌≤◌, ◌^◌};
 ghost use Rattle.pool.specs.State.{st};
 ghost use Rattle.pool.specs.Refuse.{Shaped};
@@ -12,7 +14,7 @@ use pool::{Handle, Outcome, Refusal};
 use region::MemoryRegion;
 
 // What modify answers: the tables in use afterwards, counted off the ledger, and, live, how many numbers it listed.
-#[derive(Drop)]
+#[derive(Clone, Copy)]
 pub enum Modified {
     Tables(usize),
     Live(usize, usize),

@@ -1,4 +1,6 @@
 // An edit: one word of it, its part for a chunk, and a table's own entries, words edited and numbers listed.
+#![tactic(auto)]
+
 ghost use Rattle.std.specs.Prelude.{◌≡◌, ◌+◌, ◌*◌, ◌≤◌, length};
 ghost use Rattle.region.specs.Region.{region};
 ghost use Rattle.modify_entry.specs.Word.{chunk_edit, edit_word};
@@ -9,7 +11,7 @@ use entry::Kind;
 use region::MemoryRegion;
 
 // What to do: the region, the bits to set and to clear, and whether the tables are in use meanwhile.
-#[derive(Drop)]
+#[derive(Clone, Copy)]
 pub struct Edit {
     pub region: MemoryRegion,
     pub set: u64,

@@ -1,4 +1,6 @@
 // Modify in the tables of a pool: entries split, each table's own entries edited. modify_range of paging.rs (aarch64-paging 0.12.3).
+#![tactic(auto)]
+
 ghost use Rattle.std.specs.Prelude.{◌≡◌, ◌-◌, ◌≤◌, ◌<◌, length};
 ghost use Rattle.pool.specs.State.{st};
 ghost use Rattle.pool.specs.Refuse.{Shaped};

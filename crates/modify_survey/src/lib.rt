@@ -1,5 +1,7 @@
 // What an edit would do, found before anything is written: the splits, the first word that breaks the house rule, and how many words
 // change.
+#![tactic(auto)]
+
 ghost use Rattle.std.specs.Prelude.{◌≡◌, ◌+◌, ◌*◌, ◌-◌, ◌≤◌, ◌<◌, ◌^◌, length};
 ghost use Rattle.pool.specs.State.{st};
 ghost use Rattle.modify_survey.specs.House.{house_rule, may_change};
@@ -14,7 +16,7 @@ use region::MemoryRegion;
 
 // What was found: the tables that the splits take, the numbers that a list would get, and whether the house rule is broken, with the first
 // word that does.
-#[derive(Drop)]
+#[derive(Clone, Copy)]
 pub struct Survey {
     pub splits: u64,
     pub numbers: u64,

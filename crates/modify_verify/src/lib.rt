@@ -1,4 +1,6 @@
 // What modify asks: of its arguments, refusals 2 to 6, and of what it would do, refusals 9 to 11, in their order.
+#![tactic(auto)]
+
 ghost use Rattle.std.specs.Prelude.{◌≡◌};
 ghost use Rattle.modify_verify.specs.Verify.{settable, verify_bits, verify_edit, verify_survey};
 

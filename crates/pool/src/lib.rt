@@ -1,16 +1,18 @@
 // The pool: 512 words for each table, and a ledger number for each table (document 01, "Pool and ledger").
+#![tactic(auto)]
+
 use address::{PhysicalAddress, VirtualAddress};
 use region::MemoryRegion;
 
 // Which end of the address space a root spans.
-#[derive(Drop)]
+#[derive(Clone, Copy)]
 pub enum VaRange {
     Lower,
     Upper,
 }
 
 // What a caller keeps between calls: where the tables stand, the root's level, and its range.
-#[derive(Drop)]
+#[derive(Clone, Copy)]
 pub struct Handle {
     pub base: PhysicalAddress,
     pub level: usize,
@@ -18,7 +20,7 @@ pub struct Handle {
 }
 
 // The refusal slip, with what each carries.
-#[derive(Drop)]
+#[derive(Clone, Copy)]
 pub enum Refusal {
     Shape,
     End(u64),
@@ -34,21 +36,21 @@ pub enum Refusal {
 }
 
 // The answer of a call that has nothing more to say than that it was done.
-#[derive(Drop)]
+#[derive(Clone, Copy)]
 pub enum Outcome {
     Accepted,
     Refused(Refusal),
 }
 
 // The answer of a call that changes tables: those in use afterwards, counted off the ledger.
-#[derive(Drop)]
+#[derive(Clone, Copy)]
 pub enum Counted {
     Tables(usize),
     Refused(Refusal),
 }
 
 // A table that was looked for.
-#[derive(Drop)]
+#[derive(Clone, Copy)]
 pub enum Found {
     At(usize),
     Nothing,

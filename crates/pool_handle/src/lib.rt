@@ -1,4 +1,6 @@
 // A handle: one of three numbers; what every call asks of it and of what is lent, refusal 1; the flags that may stand in its tables.
+#![tactic(auto)]
+
 ghost use Rattle.std.specs.Prelude.{◌≡◌};
 ghost use Rattle.pool.specs.State.{st};
 ghost use Rattle.pool.specs.Refuse.{shaped};

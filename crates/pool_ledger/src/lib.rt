@@ -1,4 +1,6 @@
 // The ledger read: the lowest free table, and how many are in use.
+#![tactic(auto)]
+
 ghost use Rattle.std.specs.Prelude.{◌≡◌, ◌^◌, ◌<◌, length};
 ghost use Rattle.pool.specs.Number.{lowest_free, used};
 

@@ -1,4 +1,6 @@
 // Tables freed: one, whose words, lent as a part of the pool from its middle, are made 0; and one with all that hangs from it.
+#![tactic(auto)]
+
 ghost use Rattle.std.specs.Prelude.{◌≡◌, ◌*◌, ◌<◌, ◌-◌, ◌≤◌, length};
 ghost use Rattle.pool.specs.State.{st};
 ghost use Rattle.pool_table.specs.Table.{clear, free_tree};

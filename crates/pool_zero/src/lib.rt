@@ -1,4 +1,6 @@
 // All words, and all ledger numbers, made 0.
+#![tactic(auto)]
+
 ghost use Rattle.std.specs.Prelude.{◌≡◌, length, replicate};
 
 // All words 0.

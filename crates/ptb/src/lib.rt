@@ -1,4 +1,6 @@
 // The face for other languages: each call by its C name, with numbers alone (include/ptb.h says what each is).
+#![tactic(auto)]
+
 ghost use Rattle.std.specs.Prelude.{◌≡◌};
 ghost use Rattle.pool.specs.State.{st};
 ghost use Rattle.pool.specs.Refuse.{out};

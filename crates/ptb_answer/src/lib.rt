@@ -1,4 +1,6 @@
 // What a caller outside sees of an answer: its number is returned, its values go over the front of `answer`.
+#![tactic(auto)]
+
 ghost use Rattle.std.specs.Prelude.{◌≡◌, [], ◌∷◌};
 ghost use Rattle.ptb_answer.specs.Answer.{slip, over_front, accepted, told_refusal, told, told_counted, told_looked, told_listed};
 ghost use Rattle.ptb_answer.specs.Answer.{told_modified};

@@ -130,7 +130,7 @@ module _ (base level range start end frame flags constraints : ℕ) (s : St) (ol
   unfolding ptb_map told_counted
   map_no_range above =
       ap (told_count old)
-      (sym (map.call-misshaped (handle_of base level range) start end frame flags constraints s (no_range base level range s above)))
+      (sym (map.call_misshaped (handle_of base level range) start end frame flags constraints s (no_range base level range s above)))
 
 -- ---- compact
 
@@ -148,7 +148,7 @@ module _ (base level range : ℕ) (s : St) (old : List ℕ) where
   pub compact_no_range : 1 < range → ptb_compact base level range s old ≡ out (told_refusal Shape old) s
   unfolding ptb_compact told_counted
   compact_no_range above =
-      ap (told_count old) (sym (compact.call-misshaped (handle_of base level range) s (no_range base level range s above)))
+      ap (told_count old) (sym (compact.call_misshaped (handle_of base level range) s (no_range base level range s above)))
 
 -- ---- modify
 
@@ -187,7 +187,7 @@ module _ (base level range start end set clear live : ℕ) (s : St) (list old : 
   modify_no_range above =
       ap (told_modify old)
       (sym
-      (modify.call-misshaped (handle_of base level range) start end set clear (live_of live) s list
+      (modify.call_misshaped (handle_of base level range) start end set clear (live_of live) s list
       (no_range base level range s above)))
 
 -- ---- page image

@@ -1,25 +1,27 @@
 // Regions of virtual addresses and their chunks: MemoryRegion and ChunkedIterator of paging.rs (aarch64-paging 0.12.3).
+#![tactic(auto)]
+
 ghost use Rattle.std.specs.Prelude.{◌≡◌, ◌-◌};
 ghost use Rattle.region.specs.Region.{rounded, whole, next_chunk};
 
 use address::VirtualAddress;
 
 // The addresses from start up to end, which is not among them.
-#[derive(Drop)]
+#[derive(Clone, Copy)]
 pub struct MemoryRegion {
     pub start: VirtualAddress,
     pub end: VirtualAddress,
 }
 
 // What remains of a region that is being cut at the entries of a level.
-#[derive(Drop)]
+#[derive(Clone, Copy)]
 pub struct ChunkedIterator {
     pub range: MemoryRegion,
     pub level: usize,
 }
 
 // The next chunk with what remains after it.
-#[derive(Drop)]
+#[derive(Clone, Copy)]
 pub enum NextChunk {
     Chunk(MemoryRegion, ChunkedIterator),
     Done,

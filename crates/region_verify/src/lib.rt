@@ -1,4 +1,6 @@
 // Refusals 2, 5 and 6: what list, map and modify ask of a region. verify_region of paging.rs (aarch64-paging 0.12.3).
+#![tactic(auto)]
+
 ghost use Rattle.std.specs.Prelude.{◌≡◌};
 ghost use Rattle.region_verify.specs.Verify.{end_fits, in_range, verify};
 

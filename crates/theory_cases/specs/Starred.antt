@@ -22,4 +22,4 @@ starred_maps = (quick.0, quick.1, quick.2, quick.3, quick.4, quick.5, long.0, lo
 
 -- the pools as make gives them; A to H of map; compact's half of G; I of modify; J of list
 pub starred : Made × StarredMaps × compact.GCompacted × (WholeEdited × PartEdited × StillEdited) × J
-starred = (made, starred_maps, compact.case-G, case_I, case_J)
+starred = (made, starred_maps, compact.case_G, case_I, case_J)

@@ -1,1 +1,2 @@
 // Theorems alone: document 01's starred bench cases stand in specs/.
+#![tactic(auto)]

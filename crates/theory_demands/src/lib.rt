@@ -1,1 +1,2 @@
 // Theorems alone: the demands, sentence by sentence, and the refusal slip stand in specs/.
+#![tactic(auto)]

@@ -244,7 +244,7 @@ module _ (h : Handle) (set clear depth q : ℕ) (m : Map) (low : depth ≤ 3) (f
       ap (λ (i : ℕ). walk_tree (slot_of_page y) depth (slots i))
       (index_slot depth c.start.0 low ∙ sym (slot_in_lem depth q (slot_at depth c) y (slot_lt (c.start.0 / 4096) depth) at))
 
-  fold_finds : EachFinds → {level s e : ℕ} {cs : List MemoryRegion} → Tiles level e s cs → (a p : ℕ) (x : Survey) → Pieces depth q m a p cs
+  fold_finds : EachFinds → {level e s : ℕ} {cs : List MemoryRegion} → Tiles level e s cs → (a p : ℕ) (x : Survey) → Pieces depth q m a p cs
       → s ≤ e
       → Finds (λ y w. Broken h set clear (s / 4096) (e / 4096) (ends_of y) y w) (s / 4096) (e / 4096) x (each_of f cs x)
   unfolding each_of

@@ -197,7 +197,7 @@ module _ (set clear : ℕ) where
         outside_last : (x s z y0 n : ℕ) → x ≡ y0 % 2 ^ 44 → z ≤ y0 → s ≤ z → y0 < s + 2 ^ 44 → n + pages_below x s ≤ pages_below x z → n ≡ 0
         outside_last x s z y0 n is l k r f = omega arith
 
-        table_tells : {level s e : ℕ} {cs : List MemoryRegion} → Tiles level e s cs → (a p : ℕ) → Pieces depth q m a p cs → (v : ℕ → Tree)
+        table_tells : {level e s : ℕ} {cs : List MemoryRegion} → Tiles level e s cs → (a p : ℕ) → Pieces depth q m a p cs → (v : ℕ → Tree)
             → ((j : ℕ) → a ≤ j → j < 512 → FineTree depth (v j)) → s / 4096 ≤ y → y < e / 4096 → e / 4096 ≤ s / 4096 + 2 ^ 36 → s ≤ e
             → TableTells a s (sweep depth (after depth) cs p (node v)) (node v) (gathered depth (entry_numbers depth) cs (node v))
         unfolding sweep gathered

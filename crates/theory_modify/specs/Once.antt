@@ -78,7 +78,7 @@ module _ (set clear x : ℕ) where
   module _ (depth q : ℕ) (m : Map) (f : MemoryRegion → Tree → List ℕ) (t : Tree)
       (each : (c : MemoryRegion) (p : ℕ) (u : Tree) → Piece depth (child q (slot_at depth c)) (chunk_map m c p)
       → Few x c (occurs x (f c u))) where
-    pub gathered_few : {level s e : ℕ} {cs : List MemoryRegion} → Tiles level e s cs → (a p : ℕ) → Pieces depth q m a p cs → s ≤ e
+    pub gathered_few : {level e s : ℕ} {cs : List MemoryRegion} → Tiles level e s cs → (a p : ℕ) → Pieces depth q m a p cs → s ≤ e
         → occurs x (gathered depth f cs t) + pages_below x (s / 4096) ≤ pages_below x (e / 4096)
     unfolding gathered occurs
     gathered_few (none l) a p all some = omega arith

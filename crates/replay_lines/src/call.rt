@@ -3,7 +3,7 @@ use crate::kind;
 use crate::numbers::PLACES;
 
 // How many words and ledger numbers a call is lent, its handle, and its line's numbers.
-#[derive(Drop)]
+#[derive(Clone, Copy)]
 pub struct Call {
     pub words: usize,
     pub numbers: usize,

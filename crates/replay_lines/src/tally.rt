@@ -1,8 +1,7 @@
 // How many lines there were of each kind, and how many that differ.
 use crate::kind;
 use crate::numbers::{ANSWER, PLACES, SUM, VALUES};
-use libc::STDOUT_FILENO;
-use std::num::wrapping_add_u64;
+use std::io;
 use text_access::face::ANSWER_VALUES;
 use text_forms::NO_PADDING;
 
@@ -15,7 +14,7 @@ const MOST_SAID: u64 = 20;
 // One more line of a kind, if the kind has a tally.
 fn add(tallies: &mut [u64; TALLIES], kind: usize) {
     if kind < TALLIES {
-        tallies[kind] = wrapping_add_u64(tallies[kind], 1);
+        tallies[kind] = tallies[kind].wrapping_add(1);
     }
 }
 
@@ -35,28 +34,33 @@ fn same(kind: usize, came: &[u64; PLACES], line: &[u64; PLACES]) -> bool {
 }
 
 // The numbers of a line's answer, each after a blank.
-fn say_answer(line: &[u64; PLACES]) {
+fn say_answer(out: &impl Print, line: &[u64; PLACES]) -> io::Result<()> {
     let mut place = ANSWER;
     while place < PLACES {
-        io::write_all(STDOUT_FILENO, b" ");
-        io::print_hex(STDOUT_FILENO, line[place], NO_PADDING);
+        text_forms::say(out, b" ")?;
+        text_forms::say_digits(out, line[place], NO_PADDING)?;
         place += 1;
     }
+    Ok(())
 }
 
 // Counts a line that differs, and says what came and what the list says, if not too many were said before.
-fn differ(tallies: &mut [u64; TALLIES], number: u64, came: &[u64; PLACES], line: &[u64; PLACES]) {
+fn differ(
+    out: &impl Print,
+    tallies: &mut [u64; TALLIES],
+    number: u64,
+    came: &[u64; PLACES],
+    line: &[u64; PLACES],
+) -> io::Result<()> {
     add(tallies, kind::DIFFERENT);
     if MOST_SAID < tallies[kind::DIFFERENT] {
-        return;
+        return Ok(());
     }
-    io::write_all(STDOUT_FILENO, b"line ");
-    io::print_decimal(STDOUT_FILENO, number);
-    io::write_all(STDOUT_FILENO, b": came");
-    say_answer(came);
-    io::write_all(STDOUT_FILENO, b", the list says");
-    say_answer(line);
-    io::write_all(STDOUT_FILENO, b"\n");
+    print!(out; "line {number}: came")?;
+    say_answer(out, came)?;
+    text_forms::say(out, b", the list says")?;
+    say_answer(out, line)?;
+    text_forms::say(out, b"\n")
 }
 
 // An answer's numbers at the places where a line has them, if a call was made.
@@ -75,6 +79,7 @@ fn fill(came: &mut [u64; PLACES], refusal: u64, answer: &[u64; ANSWER_VALUES], s
 
 // Counts a line, and holds what came to what it says.
 pub fn compare(
+    out: &impl Print,
     tallies: &mut [u64; TALLIES],
     kind: usize,
     number: u64,
@@ -82,17 +87,18 @@ pub fn compare(
     refusal: u64,
     answer: &[u64; ANSWER_VALUES],
     sum: u64,
-) {
+) -> io::Result<()> {
     let mut came = [crate::NO_CALL; PLACES];
     fill(&mut came, refusal, answer, sum);
     add(tallies, kind);
     if !same(kind, &came, line) {
-        differ(tallies, number, &came, line);
+        differ(out, tallies, number, &came, line)?;
     }
+    Ok(())
 }
 
 // What a tally counts, by its number; the names stand in the order of the kinds.
-fn say_kind(kind: u64) {
+fn say_kind(out: &impl Print, kind: u64) -> io::Result<()> {
     let names = b"make 
 , lent anew 
 , words by hand 
@@ -106,16 +112,17 @@ fn say_kind(kind: u64) {
 , check 
 , lines that differ 
 ";
-    text_forms::say_line(names, kind);
+    text_forms::say_line(out, names, kind)
 }
 
 // Says the tallies, in one line.
-pub fn close(tallies: &[u64; TALLIES]) {
+pub fn close(out: &impl Print, tallies: &[u64; TALLIES]) -> io::Result<()> {
     let mut kind = 0;
     while kind < TALLIES {
-        say_kind(kind as u64);
-        io::print_decimal(STDOUT_FILENO, tallies[kind]);
+        say_kind(out, kind as u64)?;
+        let tally = tallies[kind];
+        print!(out; "{tally}")?;
         kind += 1;
     }
-    io::write_all(STDOUT_FILENO, b"\n");
+    text_forms::say(out, b"\n")
 }

@@ -1,5 +1,7 @@
 // The sum of what a call leaves: xorshift64 of the sum so far and the next number. Each step is one to one, so another number in
 // one place always shows. Leans on text_access for a byte. No function needs anything of its caller.
+#![tactic(auto)]
+
 use text_access::face::{PAGE_BYTES, TABLE_WORDS};
 
 // The tables, and so the ledger numbers, that a call can be lent.

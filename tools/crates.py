@@ -15,7 +15,6 @@ import sys
 PAGE = 'docs/ARCHITECTURE.md'
 FAMILIES = '| Floor | Family | What it is for |'
 CRATES = '| Crate | Holds | Open first | Leans on |'
-KIT = ['io', 'libc']  # libraries of the toolchain
 
 
 # ---- the tables
@@ -59,7 +58,7 @@ class Tables:
             if crate.name != crate.family and not crate.name.startswith(crate.family + '_'):
                 yield f'{crate.name} stands under {crate.family}, and is not named after it'
             for lower in crate.leans:
-                if lower not in listed + KIT:
+                if lower not in listed:
                     yield f'{crate.name} leans on {lower}, which is no crate'
             for file in crate.first:
                 if not os.path.isfile(f'crates/{crate.name}/{file}'):
@@ -68,8 +67,8 @@ class Tables:
     def settle(self):
         """Finds all that stands below each crate, and an order of the crates: family by family, each after those of
         its family that it leans on. Gives what is at fault."""
-        self.below = {name: set() for name in KIT}
-        while len(self.below) < len(self.rows) + len(KIT):
+        self.below = {}
+        while len(self.below) < len(self.rows):
             waiting = [crate for crate in self.rows if crate.name not in self.below]
             ready = [crate for crate in waiting if self.below.keys() >= set(crate.leans)]
             if not ready:
@@ -94,7 +93,7 @@ class Tables:
         for family in self.floor:
             yield f'\n# -- {family}: {self.purpose[family]}'
             for name in self.members(family):
-                below = [lower for lower in self.order + KIT if lower in self.below[name]]
+                below = [lower for lower in self.order if lower in self.below[name]]
                 yield ' '.join([name + ':'] + below)
 
 
@@ -149,7 +148,7 @@ class Drawing:
         """What each family leans on. Where two lean on each other, the one whose bare crate stands lower leans back:
         that is kept apart, with the crates that do."""
         t = self.tables
-        under = {name: {t.family[lower] for lower in t.below[name].difference(KIT)} for name in t.order}
+        under = {name: {t.family[lower] for lower in t.below[name]} for name in t.order}
         whole = {family: set().union(*(under[name] for name in t.members(family))) for family in t.floor}
         self.back = {(lower, upper): [name for name in t.members(lower) if upper in under[name]]
                      for lower in whole for upper in whole

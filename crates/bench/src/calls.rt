@@ -3,6 +3,7 @@
 use bench_report::LIST_NUMBERS;
 use bench_session::commands::{CHECK, LIST, LIVE, LOOK, MAKE, MAP, MODIFY, UNMAP};
 use bench_session::{Answer, Args, DONE, ENTRIES, Handle, IN_USE, answered, say_answer};
+use std::io;
 use text_access::face::{ACCEPTED, ANSWER_VALUES, PAGE_BYTES};
 
 // The page numbers that a live modify is lent room for.
@@ -15,7 +16,12 @@ const PAGE_NUMBER_COUNT: usize = 1;
 const LINE_COUNT: usize = 0;
 
 // `make TABLES BASE LEVEL RANGE`: a pool of as many tables.
-fn make(words: &mut [u64], ledger: &mut [u32], handle: Handle) -> Answer {
+fn make(
+    out: &impl Print,
+    words: &mut [u64],
+    ledger: &mut [u32],
+    handle: Handle,
+) -> io::Result<Answer> {
     let mut answer = [0u64; ANSWER_VALUES];
     let refusal = ptb::ptb_make(
         words,
@@ -25,12 +31,12 @@ fn make(words: &mut [u64], ledger: &mut [u32], handle: Handle) -> Answer {
         handle.range,
         &mut answer,
     );
-    say_answer(DONE, refusal, &answer);
-    answered(refusal, &answer)
+    say_answer(out, DONE, refusal, &answer)?;
+    Ok(answered(refusal, &answer))
 }
 
 // `check`: whether the pool is sound.
-fn check(words: &[u64], ledger: &[u32], handle: Handle) -> Answer {
+fn check(out: &impl Print, words: &[u64], ledger: &[u32], handle: Handle) -> io::Result<Answer> {
     let mut answer = [0u64; ANSWER_VALUES];
     let refusal = ptb::ptb_check(
         words,
@@ -40,12 +46,18 @@ fn check(words: &[u64], ledger: &[u32], handle: Handle) -> Answer {
         handle.range,
         &mut answer,
     );
-    say_answer(DONE, refusal, &answer);
-    answered(refusal, &answer)
+    say_answer(out, DONE, refusal, &answer)?;
+    Ok(answered(refusal, &answer))
 }
 
 // `map START END FRAME FLAGS [noblocks]`; `unmap START END` is a map with frame and flags 0.
-fn map(words: &mut [u64], ledger: &mut [u32], handle: Handle, args: Args) -> Answer {
+fn map(
+    out: &impl Print,
+    words: &mut [u64],
+    ledger: &mut [u32],
+    handle: Handle,
+    args: Args,
+) -> io::Result<Answer> {
     let mut answer = [0u64; ANSWER_VALUES];
     let refusal = ptb::ptb_map(
         words,
@@ -60,12 +72,17 @@ fn map(words: &mut [u64], ledger: &mut [u32], handle: Handle, args: Args) -> Ans
         args.fifth,
         &mut answer,
     );
-    say_answer(IN_USE, refusal, &answer);
-    answered(refusal, &answer)
+    say_answer(out, IN_USE, refusal, &answer)?;
+    Ok(answered(refusal, &answer))
 }
 
 // `compact`: the tables that hold nothing are freed.
-fn compact(words: &mut [u64], ledger: &mut [u32], handle: Handle) -> Answer {
+fn compact(
+    out: &impl Print,
+    words: &mut [u64],
+    ledger: &mut [u32],
+    handle: Handle,
+) -> io::Result<Answer> {
     let mut answer = [0u64; ANSWER_VALUES];
     let refusal = ptb::ptb_compact(
         words,
@@ -75,13 +92,20 @@ fn compact(words: &mut [u64], ledger: &mut [u32], handle: Handle) -> Answer {
         handle.range,
         &mut answer,
     );
-    say_answer(IN_USE, refusal, &answer);
-    answered(refusal, &answer)
+    say_answer(out, IN_USE, refusal, &answer)?;
+    Ok(answered(refusal, &answer))
 }
 
 // `modify START END SET CLEAR`, and `live` with the same values. It answers with the tables in use and, live, with the page numbers
 // of the entries that it changed.
-fn modify(words: &mut [u64], ledger: &mut [u32], handle: Handle, args: Args, live: u64) -> Answer {
+fn modify(
+    out: &impl Print,
+    words: &mut [u64],
+    ledger: &mut [u32],
+    handle: Handle,
+    args: Args,
+    live: u64,
+) -> io::Result<Answer> {
     let mut answer = [0u64; ANSWER_VALUES];
     let mut list = [0u64; PAGE_NUMBERS];
     let refusal = ptb::ptb_modify(
@@ -98,15 +122,21 @@ fn modify(words: &mut [u64], ledger: &mut [u32], handle: Handle, args: Args, liv
         &mut list,
         &mut answer,
     );
-    say_answer(IN_USE, refusal, &answer);
+    say_answer(out, IN_USE, refusal, &answer)?;
     if refusal == ACCEPTED {
-        bench_report::say_numbers(&list, answer[PAGE_NUMBER_COUNT]);
+        bench_report::say_numbers(out, &list, answer[PAGE_NUMBER_COUNT])?;
     }
-    answered(refusal, &answer)
+    Ok(answered(refusal, &answer))
 }
 
 // `look ADDRESS`: the entry at which a walk ends.
-fn look(words: &[u64], ledger: &[u32], handle: Handle, address: u64) -> Answer {
+fn look(
+    out: &impl Print,
+    words: &[u64],
+    ledger: &[u32],
+    handle: Handle,
+    address: u64,
+) -> io::Result<Answer> {
     let mut answer = [0u64; ANSWER_VALUES];
     let refusal = ptb::ptb_look_up(
         words,
@@ -118,15 +148,21 @@ fn look(words: &[u64], ledger: &[u32], handle: Handle, address: u64) -> Answer {
         &mut answer,
     );
     if refusal == ACCEPTED {
-        bench_report::say_looked(&answer);
+        bench_report::say_looked(out, &answer)?;
     } else {
-        bench_report::say_refusal(refusal, &answer);
+        bench_report::say_refusal(out, refusal, &answer)?;
     }
-    answered(refusal, &answer)
+    Ok(answered(refusal, &answer))
 }
 
 // `list START END`: the entries of a region.
-fn list(words: &[u64], ledger: &[u32], handle: Handle, args: Args) -> Answer {
+fn list(
+    out: &impl Print,
+    words: &[u64],
+    ledger: &[u32],
+    handle: Handle,
+    args: Args,
+) -> io::Result<Answer> {
     let mut answer = [0u64; ANSWER_VALUES];
     let mut lines = [0u64; LIST_NUMBERS];
     let refusal = ptb::ptb_list(
@@ -140,15 +176,21 @@ fn list(words: &[u64], ledger: &[u32], handle: Handle, args: Args) -> Answer {
         &mut lines,
         &mut answer,
     );
-    say_answer(ENTRIES, refusal, &answer);
+    say_answer(out, ENTRIES, refusal, &answer)?;
     if refusal == ACCEPTED {
-        bench_report::say_lines(&lines, answer[LINE_COUNT]);
+        bench_report::say_lines(out, &lines, answer[LINE_COUNT])?;
     }
-    answered(refusal, &answer)
+    Ok(answered(refusal, &answer))
 }
 
 // `image TABLE`: a table as the bytes of a page.
-fn image(words: &[u64], ledger: &[u32], handle: Handle, table: u64) -> Answer {
+fn image(
+    out: &impl Print,
+    words: &[u64],
+    ledger: &[u32],
+    handle: Handle,
+    table: u64,
+) -> io::Result<Answer> {
     let mut answer = [0u64; ANSWER_VALUES];
     let mut page = [0u8; PAGE_BYTES];
     let refusal = ptb::ptb_image(
@@ -161,20 +203,27 @@ fn image(words: &[u64], ledger: &[u32], handle: Handle, table: u64) -> Answer {
         &mut page,
         &mut answer,
     );
-    say_answer(DONE, refusal, &answer);
+    say_answer(out, DONE, refusal, &answer)?;
     if refusal == ACCEPTED {
-        bench_report::say_page(&page);
+        bench_report::say_page(out, &page)?;
     }
-    answered(refusal, &answer)
+    Ok(answered(refusal, &answer))
 }
 
 // The calls that only read the pool: check, look and list; any other is image.
-pub fn read(command: u64, words: &[u64], ledger: &[u32], handle: Handle, args: Args) -> Answer {
+pub fn read(
+    out: &impl Print,
+    command: u64,
+    words: &[u64],
+    ledger: &[u32],
+    handle: Handle,
+    args: Args,
+) -> io::Result<Answer> {
     match command {
-        CHECK => check(words, ledger, handle),
-        LOOK => look(words, ledger, handle, args.first),
-        LIST => list(words, ledger, handle, args),
-        _ => image(words, ledger, handle, args.first),
+        CHECK => check(out, words, ledger, handle),
+        LOOK => look(out, words, ledger, handle, args.first),
+        LIST => list(out, words, ledger, handle, args),
+        _ => image(out, words, ledger, handle, args.first),
     }
 }
 
@@ -185,16 +234,17 @@ fn live_of(command: u64) -> u64 {
 
 // The calls that write the pool: make, map, unmap, modify and live; any other is compact.
 pub fn write(
+    out: &impl Print,
     command: u64,
     words: &mut [u64],
     ledger: &mut [u32],
     handle: Handle,
     args: Args,
-) -> Answer {
+) -> io::Result<Answer> {
     match command {
-        MAKE => make(words, ledger, handle),
-        MAP | UNMAP => map(words, ledger, handle, args),
-        MODIFY | LIVE => modify(words, ledger, handle, args, live_of(command)),
-        _ => compact(words, ledger, handle),
+        MAKE => make(out, words, ledger, handle),
+        MAP | UNMAP => map(out, words, ledger, handle, args),
+        MODIFY | LIVE => modify(out, words, ledger, handle, args, live_of(command)),
+        _ => compact(out, words, ledger, handle),
     }
 }

@@ -1,10 +1,13 @@
 // A bench to type at: it reads a script from standard input, a call a line, and prints each answer in words.
 // Leans on ptb for the calls, on text_script for the lines, on bench_session for what it keeps, on bench_report for the words.
+#![tactic(auto)]
+
 mod calls;
 mod command;
 
 use bench_session::Bench;
 use bench_view::MOST_TABLES;
+use std::io;
 use text_access::face::TABLE_WORDS;
 use text_script::{LINE_BYTES, Line, MOST_LINES};
 use text_words::{MOST_VALUES, why};
@@ -17,6 +20,7 @@ const WORDS: usize = TABLES * TABLE_WORDS;
 
 // What one line of the script does.
 fn turn(
+    out: &impl Print,
     text: &[u8; LINE_BYTES],
     length: usize,
     usage: &[u8],
@@ -24,11 +28,12 @@ fn turn(
     ledger: &mut [u32],
     bench: Bench,
     number: u64,
-) -> Bench {
+) -> io::Result<Bench> {
     let mut values = [0u64; MOST_VALUES];
     let ask = text_script::asked(text, length, usage, &mut values);
     if ask.why == why::UNDERSTOOD {
         return command::run(
+            out,
             ask.command,
             ask.count,
             words,
@@ -39,31 +44,37 @@ fn turn(
         );
     }
     if ask.why == why::NO_WORD {
-        return bench;
+        return Ok(bench);
     }
-    bench_session::complain(text, usage, ask, number);
-    bench.missed()
+    bench_session::complain(out, text, usage, ask, number)?;
+    Ok(bench.missed())
 }
 
 // Line by line to the end of the input.
-fn lines(usage: &[u8], words: &mut [u64], ledger: &mut [u32]) -> Bench {
+fn lines(
+    rt: &(impl Input + Print),
+    usage: &[u8],
+    words: &mut [u64],
+    ledger: &mut [u32],
+) -> io::Result<Bench> {
+    let mut input = rt.reader();
     let mut text = [0u8; LINE_BYTES];
     let mut bench = Bench::new();
     let mut number = 0;
     while number < MOST_LINES {
         number += 1;
-        let Line::Length(length) = text_script::read_line(&mut text) else {
-            return bench;
+        let Line::Length(length) = text_script::read_line(&mut input, &mut text)? else {
+            return Ok(bench);
         };
-        bench_session::echo(&text, length);
-        bench = turn(&text, length, usage, words, ledger, bench, number);
+        bench_session::echo(rt, &text, length)?;
+        bench = turn(rt, &text, length, usage, words, ledger, bench, number)?;
     }
-    bench
+    Ok(bench)
 }
 
 // The usage table: each command with what it takes, what may be left out in brackets. The rows stand in the order of
 // bench_session::commands.
-fn main() {
+fn main(rt: HostRuntime) -> io::Result<()> {
     let usage = b"expect accepted|refused [VALUE] [VALUE] [VALUE] [VALUE] [VALUE]
 words [TABLE] [FIRST] [COUNT]
 ledger
@@ -82,5 +93,6 @@ compact
 ";
     let mut words = [0u64; WORDS];
     let mut ledger = [0u32; TABLES];
-    bench_session::close(lines(usage, &mut words, &mut ledger));
+    let bench = lines(&rt, usage, &mut words, &mut ledger)?;
+    bench_session::close(&rt, bench)
 }

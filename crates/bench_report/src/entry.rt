@@ -1,5 +1,6 @@
 // An entry: what a walk answers, and the line of a list. The names of flags are those of El1Attributes (descriptor.rs,
 // aarch64-paging 0.12.3). The bits that have a name, 0 to 11 and 50 to 63, are brought together and counted from 0 to 25.
+use std::io;
 use text_access::face::ANSWER_VALUES;
 use text_forms::{ONLY_LINE, say, say_form, say_line};
 
@@ -91,7 +92,7 @@ fn name_of(bit: u64, rest: u64) -> u64 {
 }
 
 // The name of a bit: a line for each, empty for the bits of a field.
-fn say_bit(line: u64) {
+fn say_bit(out: &impl Print, line: u64) -> io::Result<()> {
     let names = b" VALID
  TABLE_OR_PAGE
 
@@ -119,11 +120,11 @@ fn say_bit(line: u64) {
  AP_TABLE_NO_WRITE
  NS_TABLE
 ";
-    say_line(names, line);
+    say_line(out, names, line)
 }
 
 // The name of a field's value: of the attribute index 0 to 7, then of the shareability 0 to 3, whose 1 has none.
-fn say_field(line: u64) {
+fn say_field(out: &impl Print, line: u64) -> io::Result<()> {
     let names = b"
  ATTRIBUTE_INDEX_1
  ATTRIBUTE_INDEX_2
@@ -137,38 +138,40 @@ fn say_field(line: u64) {
  OUTER_SHAREABLE
  INNER_SHAREABLE
 ";
-    say_line(names, line);
+    say_line(out, names, line)
 }
 
 // A name by its number: the bits' names come first, then the fields'.
-fn say_name(number: u64) {
+fn say_name(out: &impl Print, number: u64) -> io::Result<()> {
     if number < NAMED_BITS {
-        return say_bit(number);
+        return say_bit(out, number);
     }
-    say_field(number - NAMED_BITS);
+    say_field(out, number - NAMED_BITS)
 }
 
 // The flags that have a name, each after a blank.
-fn say_named(flags: u64) {
+fn say_named(out: &impl Print, flags: u64) -> io::Result<()> {
     let mut rest = flags / HIGH_NAMED * LOW_NAMED + flags % LOW_NAMED;
     let mut bit = 0;
     while bit < NAMED_BITS {
-        say_name(name_of(bit, rest));
+        say_name(out, name_of(bit, rest))?;
         rest /= 2;
         bit += 1;
     }
+    Ok(())
 }
 
 // The flags by name, then the bits without a name in hexadecimal.
-fn say_flags(flags: u64) {
+fn say_flags(out: &impl Print, flags: u64) -> io::Result<()> {
     if flags == 0 {
-        return say(b" none");
+        return say(out, b" none");
     }
-    say_named(flags);
+    say_named(out, flags)?;
     let unnamed = flags & UNNAMED_BITS;
     if unnamed != 0 {
-        say_form(b" #\n", ONLY_LINE, &[unnamed, 0, 0, 0]);
+        say_form(out, b" #\n", ONLY_LINE, &[unnamed, 0, 0, 0])?;
     }
+    Ok(())
 }
 
 // Which kind of entry a word is at a level.
@@ -187,43 +190,51 @@ fn kind_of(word: u64, level: u64) -> u64 {
 }
 
 // The end of a list's line: the word of a hole that still has an address, and of how many equal entries the line speaks.
-fn say_more(kind: u64, word: u64, entries: u64) {
+fn say_more(out: &impl Print, kind: u64, word: u64, entries: u64) -> io::Result<()> {
     if kind == HOLE {
         if word & ADDRESS_BITS != 0 {
-            say_form(b", word #\n", ONLY_LINE, &[word, 0, 0, 0]);
+            say_form(out, b", word #\n", ONLY_LINE, &[word, 0, 0, 0])?;
         }
     }
     if 1 < entries {
-        say_form(b", entries alike: $\n", ONLY_LINE, &[entries, 0, 0, 0]);
+        say_form(out, b", entries alike: $\n", ONLY_LINE, &[entries, 0, 0, 0])?;
     }
-    say(b"\n");
+    say(out, b"\n")
 }
 
 // A line of a list: region, level, kind, frame, flags. The forms stand in the order of the kinds.
-pub fn say_entry(start: u64, end: u64, word: u64, level: u64, entries: u64) {
+pub fn say_entry(
+    out: &impl Print,
+    start: u64,
+    end: u64,
+    word: u64,
+    level: u64,
+    entries: u64,
+) -> io::Result<()> {
     let forms = b"  %..%  level $  hole   -              
   %..%  level $  block  % 
   %..%  level $  page   % 
   %..%  level $  table  % 
 ";
     let kind = kind_of(word, level);
-    say_form(forms, kind, &[start, end, level, word & ADDRESS_BITS]);
-    say_flags(word & FLAG_BITS);
-    say_more(kind, word, entries);
+    say_form(out, forms, kind, &[start, end, level, word & ADDRESS_BITS])?;
+    say_flags(out, word & FLAG_BITS)?;
+    say_more(out, kind, word, entries)
 }
 
 // What a walk answers: level, kind, frame, flags. The forms stand in the order of the kinds.
-pub fn say_looked(answer: &[u64; ANSWER_VALUES]) {
+pub fn say_looked(out: &impl Print, answer: &[u64; ANSWER_VALUES]) -> io::Result<()> {
     let forms = b"  accepted, at level $: hole, flags
   accepted, at level $: block, frame #, flags
   accepted, at level $: page, frame #, flags
   accepted, at level $: table, frame #, flags
 ";
     say_form(
+        out,
         forms,
         answer[ANSWER_KIND],
         &[answer[ANSWER_LEVEL], answer[ANSWER_FRAME], 0, 0],
-    );
-    say_flags(answer[ANSWER_FLAGS]);
-    say(b"\n");
+    )?;
+    say_flags(out, answer[ANSWER_FLAGS])?;
+    say(out, b"\n")
 }

@@ -1,5 +1,7 @@
 // Answers in words that a person reads, written to standard output.
 // Leans on text_forms for the texts, on text_access for a byte. No function needs anything of its caller.
+#![tactic(auto)]
+
 mod entry;
 mod listing;
 mod page;

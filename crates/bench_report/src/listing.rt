@@ -1,6 +1,7 @@
 // What stands in a list that a call filled, in words that a person reads: its entries, or the page numbers of those that a live
 // modify changed. Leans on `entry` for an entry, on text_forms for a page number, on text_access for a word at any place.
 // No function needs anything of its caller.
+use std::io;
 use text_forms::ONLY_LINE;
 
 // The lines that a list has room for.
@@ -57,45 +58,48 @@ fn after_run(lines: &[u64], line: u64, count: u64) -> u64 {
 }
 
 // What the lines from one up to the next say: a single one, or a run.
-fn say_run(lines: &[u64], line: u64, next: u64) {
+fn say_run(out: &impl Print, lines: &[u64], line: u64, next: u64) -> io::Result<()> {
     if next <= line {
-        return;
+        return Ok(());
     }
     crate::say_entry(
+        out,
         number_at(lines, line, START),
         number_at(lines, next - 1, END),
         number_at(lines, line, WORD),
         number_at(lines, line, LEVEL),
         next - line,
-    );
+    )
 }
 
 // The lines of a list; empty entries of one level that follow each other share a line.
-pub fn say_lines(lines: &[u64], count: u64) {
+pub fn say_lines(out: &impl Print, lines: &[u64], count: u64) -> io::Result<()> {
     let mut line = 0;
     while line < count {
         let next = after_run(lines, line, count);
         if next <= line {
-            return;
+            return Ok(());
         }
-        say_run(lines, line, next);
+        say_run(out, lines, line, next)?;
         line = next;
     }
+    Ok(())
 }
 
 // A page number of the list that a live modify fills.
-fn say_number(number: u64) {
-    text_forms::say_row(b"  page number #\n", ONLY_LINE, &[number, 0, 0, 0]);
+fn say_number(out: &impl Print, number: u64) -> io::Result<()> {
+    text_forms::say_row(out, b"  page number #\n", ONLY_LINE, &[number, 0, 0, 0])
 }
 
 // The first numbers of a list, a line each.
-pub fn say_numbers(list: &[u64], count: u64) {
+pub fn say_numbers(out: &impl Print, list: &[u64], count: u64) -> io::Result<()> {
     let mut place = 0;
     while place < list.len() {
         if count <= place as u64 {
-            return;
+            return Ok(());
         }
-        say_number(list[place]);
+        say_number(out, list[place])?;
         place += 1;
     }
+    Ok(())
 }

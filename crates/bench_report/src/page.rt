@@ -1,8 +1,8 @@
 // A page image: a row for each word that is not zero, its eight bytes.
-use libc::STDOUT_FILENO;
+use std::io;
 use text_access::byte_at;
 use text_access::face::PAGE_BYTES;
-use text_forms::{say, say_hex};
+use text_forms::{say, say_digits, say_hex};
 
 // The bytes of a row: those of a word.
 const ROW_BYTES: usize = 8;
@@ -32,37 +32,39 @@ fn end_of(at: usize) -> usize {
 }
 
 // A byte, after a blank.
-fn say_byte(byte: u8) {
-    say(b" ");
-    io::print_hex(STDOUT_FILENO, byte as u64, BYTE_WIDTH);
+fn say_byte(out: &impl Print, byte: u8) -> io::Result<()> {
+    say(out, b" ")?;
+    say_digits(out, byte as u64, BYTE_WIDTH)
 }
 
 // The bytes of the row that begins at a place.
-fn say_row(page: &[u8], at: usize) {
+fn say_row(out: &impl Print, page: &[u8], at: usize) -> io::Result<()> {
     let end = end_of(at);
     let mut place = at;
     while place < end {
-        say_byte(byte_at(page, place));
+        say_byte(out, byte_at(page, place))?;
         place += 1;
     }
+    Ok(())
 }
 
 // The row that begins at a place, after that place, unless it is zero.
-fn say_row_if(page: &[u8], at: usize) {
+fn say_row_if(out: &impl Print, page: &[u8], at: usize) -> io::Result<()> {
     if is_zero(page, at) {
-        return;
+        return Ok(());
     }
-    say(b"  byte ");
-    say_hex(at as u64, PLACE_WIDTH);
-    say_row(page, at);
-    say(b"\n");
+    say(out, b"  byte ")?;
+    say_hex(out, at as u64, PLACE_WIDTH)?;
+    say_row(out, page, at)?;
+    say(out, b"\n")
 }
 
 // The rows of a page that are not zero.
-pub fn say_page(page: &[u8]) {
+pub fn say_page(out: &impl Print, page: &[u8]) -> io::Result<()> {
     let mut at = 0;
     while at < PAGE_BYTES {
-        say_row_if(page, at);
+        say_row_if(out, page, at)?;
         at += ROW_BYTES;
     }
+    Ok(())
 }

@@ -1,9 +1,14 @@
 // The refusal slip of document 01: what each number means, and what it carries.
+use std::io;
 use text_access::face::ANSWER_VALUES;
 use text_forms::say_row;
 
 // A refusal by its number, from 1 on, with its meaning and the values that it carries; 1 and 8 carry nothing.
-pub fn say_refusal(refusal: u64, values: &[u64; ANSWER_VALUES]) {
+pub fn say_refusal(
+    out: &impl Print,
+    refusal: u64,
+    values: &[u64; ANSWER_VALUES],
+) -> io::Result<()> {
     let forms = b"
   refused 1: n is 0 or above 4096, lengths disagree, base not a multiple of 4096 or its end above 2^48, \
 root level above 3, or table number not below n
@@ -18,5 +23,5 @@ root level above 3, or table number not below n
   refused 10: live house rule broken (word #)
   refused 11: list shorter than needed, or page image not 4096 bytes (needed $)
 ";
-    say_row(forms, refusal, values);
+    say_row(out, forms, refusal, values)
 }

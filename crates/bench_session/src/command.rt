@@ -3,6 +3,7 @@ use crate::commands::{LEDGER, MAKE, PUT, WORDS};
 use crate::expected::Answer;
 use crate::state::{Args, Bench, Handle};
 use bench_view::MOST_TABLES;
+use std::io;
 use text_access::face::ACCEPTED;
 use text_words::MOST_VALUES;
 
@@ -13,18 +14,25 @@ pub const TOO_MANY: u64 = 9;
 pub const NO_POOL: u64 = 10;
 
 // The commands that are no calls: words, ledger and put; any other is enter.
-pub fn by_hand(command: u64, count: usize, words: &mut [u64], ledger: &mut [u32], args: Args) {
+pub fn by_hand(
+    out: &impl Print,
+    command: u64,
+    count: usize,
+    words: &mut [u64],
+    ledger: &mut [u32],
+    args: Args,
+) -> io::Result<()> {
     match command {
         WORDS => {
             if count == 0 {
-                bench_view::say_words_not_zero(words);
+                bench_view::say_words_not_zero(out, words)
             } else {
-                bench_view::say_words(words, args.first, args.second, args.third);
+                bench_view::say_words(out, words, args.first, args.second, args.third)
             }
         }
-        LEDGER => bench_view::say_ledger(ledger),
-        PUT => bench_view::put(words, args.first, args.second, args.third),
-        _ => bench_view::enter(ledger, args.first, args.second),
+        LEDGER => bench_view::say_ledger(out, ledger),
+        PUT => bench_view::put(out, words, args.first, args.second, args.third),
+        _ => bench_view::enter(out, ledger, args.first, args.second),
     }
 }
 

@@ -19,7 +19,7 @@ const AFTER_VERDICT: usize = 1;
 const AFTER_REFUSAL: usize = 2;
 
 // What a call answered: ACCEPTED or its refusal, NO_CALL before the first call; and its values.
-#[derive(Drop)]
+#[derive(Clone, Copy)]
 pub struct Answer {
     pub refusal: u64,
     pub first: u64,

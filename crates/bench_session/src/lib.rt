@@ -1,6 +1,8 @@
 // What the bench keeps from line to line, what it says beside the calls, and what a script expects of an answer.
 // Leans on text_script for a line, on text_forms, bench_report and bench_view for the words.
 // No function needs anything of its caller.
+#![tactic(auto)]
+
 mod command;
 pub mod commands;
 mod compare;

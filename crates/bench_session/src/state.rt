@@ -3,7 +3,7 @@ use crate::expected::{Answer, NO_CALL};
 use std::num::wrapping_add_u64;
 
 // The handle of a pool.
-#[derive(Drop)]
+#[derive(Clone, Copy)]
 pub struct Handle {
     pub base: u64,
     pub level: u64,
@@ -11,7 +11,7 @@ pub struct Handle {
 }
 
 // The values of a command, by their place.
-#[derive(Drop)]
+#[derive(Clone, Copy)]
 pub struct Args {
     pub first: u64,
     pub second: u64,

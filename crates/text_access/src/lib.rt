@@ -1,5 +1,7 @@
 // A byte, a word or a number at any place: past the end a 0 is read, and nothing is written; `face` has what both programs know
 // of the library. No function needs anything of its caller.
+#![tactic(auto)]
+
 pub mod face;
 
 // The byte of a text at a place, 0 past its end.

@@ -1,7 +1,10 @@
 // Texts that are written to standard output: as they stand, or forms, lines with marks in the place of values. A mark is replaced
 // by the next value: # in hexadecimal, $ in decimal, % in hexadecimal of twelve digits. No text has these three bytes otherwise.
-// Leans on text_words for the lines of a text, on text_access for a byte, on io. No function needs anything of its caller.
-use libc::STDOUT_FILENO;
+// Leans on text_words for the lines of a text, on text_access for a byte, on std's Print. No function needs anything of its caller,
+// and each fails only where a write fails.
+#![tactic(auto)]
+
+use std::io;
 use text_access::face::ANSWER_VALUES;
 use text_words::Word;
 
@@ -17,77 +20,100 @@ pub const NO_PADDING: usize = 1;
 // The width of an address: twelve digits are its 48 bits.
 const ADDRESS_WIDTH: usize = 12;
 
+// The most digits that a number is given: sixteen are its 64 bits.
+const MOST_DIGITS: usize = 16;
+
 // A text as it stands.
-pub fn say(text: &[u8]) {
-    io::write_all(STDOUT_FILENO, text);
+pub fn say(out: &impl Print, text: &[u8]) -> io::Result<()> {
+    out.write_all(text)
 }
 
 // A part of a text; nothing if the text has no such part.
-pub fn say_part(text: &[u8], part: Word) {
+pub fn say_part(out: &impl Print, text: &[u8], part: Word) -> io::Result<()> {
     let start = part.start;
     let end = part.end;
     if end < start {
-        return;
+        return Ok(());
     }
     if text.len() < end {
-        return;
+        return Ok(());
     }
-    io::write_all(STDOUT_FILENO, &text[start..end]);
+    say(out, &text[start..end])
 }
 
 // A line of a text, counted from 0.
-pub fn say_line(text: &[u8], number: u64) {
-    say_part(text, text_words::line_of(text, number));
+pub fn say_line(out: &impl Print, text: &[u8], number: u64) -> io::Result<()> {
+    say_part(out, text, text_words::line_of(text, number))
+}
+
+// A number in hexadecimal, of at least so many digits, without the 0x.
+pub fn say_digits(out: &impl Print, value: u64, width: usize) -> io::Result<()> {
+    let width = width.min(MOST_DIGITS);
+    print!(out; "{value:0width$x}")
 }
 
 // A number in hexadecimal, of at least so many digits.
-pub fn say_hex(value: u64, width: usize) {
-    io::write_all(STDOUT_FILENO, b"0x");
-    io::print_hex(STDOUT_FILENO, value, width);
+pub fn say_hex(out: &impl Print, value: u64, width: usize) -> io::Result<()> {
+    say(out, b"0x")?;
+    say_digits(out, value, width)
 }
 
 // A value, as its mark says.
-fn say_value(mark: u8, value: u64) {
+fn say_value(out: &impl Print, mark: u8, value: u64) -> io::Result<()> {
     match mark {
-        b'$' => {
-            io::print_decimal(STDOUT_FILENO, value);
-        }
-        b'#' => say_hex(value, NO_PADDING),
-        _ => say_hex(value, ADDRESS_WIDTH),
+        b'$' => print!(out; "{value}"),
+        b'#' => say_hex(out, value, NO_PADDING),
+        _ => say_hex(out, value, ADDRESS_WIDTH),
     }
 }
 
 // A byte of a form, or for a mark the next value. Which value is next after it.
-fn say_byte(byte: u8, values: &[u64; FORM_VALUES], next: usize) -> usize {
+fn say_byte(
+    out: &impl Print,
+    byte: u8,
+    values: &[u64; FORM_VALUES],
+    next: usize,
+) -> io::Result<usize> {
     match byte {
         b'#' | b'$' | b'%' => {
             if FORM_VALUES <= next {
-                return next;
+                return Ok(next);
             }
-            say_value(byte, values[next]);
-            next + 1
+            say_value(out, byte, values[next])?;
+            Ok(next + 1)
         }
         _ => {
-            say(&[byte]);
-            next
+            say(out, &[byte])?;
+            Ok(next)
         }
     }
 }
 
 // A form, by its line among others; the line that is written does not end with it.
-pub fn say_form(forms: &[u8], number: u64, values: &[u64; FORM_VALUES]) {
+pub fn say_form(
+    out: &impl Print,
+    forms: &[u8],
+    number: u64,
+    values: &[u64; FORM_VALUES],
+) -> io::Result<()> {
     let line = text_words::line_of(forms, number);
     let end = line.end;
     let mut place = line.start;
     let mut next = 0;
     while place < end {
-        next = say_byte(text_access::byte_at(forms, place), values, next);
+        next = say_byte(out, text_access::byte_at(forms, place), values, next)?;
         place += 1;
     }
+    Ok(())
 }
 
 // A form, by its line among others, as a line of its own.
-pub fn say_row(forms: &[u8], number: u64, values: &[u64; FORM_VALUES]) {
-    say_form(forms, number, values);
-    say(b"\n");
+pub fn say_row(
+    out: &impl Print,
+    forms: &[u8],
+    number: u64,
+    values: &[u64; FORM_VALUES],
+) -> io::Result<()> {
+    say_form(out, forms, number, values)?;
+    say(out, b"\n")
 }

@@ -1,5 +1,6 @@
-// Reading a line from standard input, a byte at a time, so that a typed line is answered at once.
-use libc::STDIN_FILENO;
+// Reading a line, a byte at a time, so that a typed line is answered at once.
+use std::io;
+use std::io::Read;
 
 // The bytes of a line that are kept.
 pub const LINE_BYTES: usize = 256;
@@ -18,21 +19,21 @@ pub enum Line {
 }
 
 // The next line, without its end; a carriage return is passed over.
-pub fn read_line(text: &mut [u8; LINE_BYTES]) -> Line {
+pub fn read_line(input: &mut impl Read, text: &mut [u8; LINE_BYTES]) -> io::Result<Line> {
     let mut one = [0u8; 1];
     let mut length = 0;
     let mut passed = 0;
     while passed < LONGEST {
         passed += 1;
-        if libc::read(STDIN_FILENO, &mut one) <= 0 {
+        if input.read(&mut one)? == 0 {
             if length == 0 {
-                return Line::End;
+                return Ok(Line::End);
             }
-            return Line::Length(length);
+            return Ok(Line::Length(length));
         }
         let byte = one[0];
         if byte == b'\n' {
-            return Line::Length(length);
+            return Ok(Line::Length(length));
         }
         if byte == b'\r' {
             continue;
@@ -40,5 +41,5 @@ pub fn read_line(text: &mut [u8; LINE_BYTES]) -> Line {
         text_access::put_byte(text, length, byte);
         length += 1;
     }
-    Line::Length(length)
+    Ok(Line::Length(length))
 }

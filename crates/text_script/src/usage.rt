@@ -5,7 +5,7 @@ use text_words::{MOST_VALUES, NOWHERE, Word, count_words, line_of, next_word, pl
 
 // What a line asks, where `why` is UNDERSTOOD: a command by its line in the table, with so many values. Otherwise why it asks
 // nothing, and the word.
-#[derive(Drop)]
+#[derive(Clone, Copy)]
 pub struct Ask {
     pub why: u64,
     pub word: Word,

@@ -5,7 +5,7 @@ use text_words::{MOST_VALUES, NOWHERE, Number, Word, next_word, number_of, place
 const GROUP: u64 = 3;
 
 // How many values the words after a command stand for, where `why` is UNDERSTOOD; otherwise why a word is no value, and that word.
-#[derive(Drop)]
+#[derive(Clone, Copy)]
 pub struct Values {
     pub why: u64,
     pub word: Word,

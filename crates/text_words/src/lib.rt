@@ -1,11 +1,13 @@
 // The words and the lines of a text, and the number that a word says: decimal, or hexadecimal after 0x; underscores part digits.
 // Leans on text_access for a byte. No function needs anything of its caller, and each ends on any bytes.
+#![tactic(auto)]
+
 pub mod why;
 
 use text_access::byte_at;
 
 // A word: the bytes from start up to end.
-#[derive(Drop)]
+#[derive(Clone, Copy)]
 pub struct Word {
     pub start: usize,
     pub end: usize,
@@ -143,7 +145,7 @@ pub fn count_words(text: &[u8], part: Word, mark: u8) -> usize {
 }
 
 // What a word stands for, where `why` is UNDERSTOOD; otherwise why it is no value.
-#[derive(Drop)]
+#[derive(Clone, Copy)]
 pub struct Number {
     pub why: u64,
     pub value: u64,

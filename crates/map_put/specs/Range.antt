@@ -1,5 +1,5 @@
 -- The loop over a table's chunks: one step after the other, and what each step needs. Leans on `Put`.
-use Rattle.std.specs.Prelude.{◌≡◌, refl, cond, ◌⊎◌, ℕ, suc, ◌+◌, ◌-◌, ◌≤◌, ◌<◌, ltb}
+use Rattle.std.specs.Prelude.{◌≡◌, refl, cond, ℕ, suc, ◌+◌, ◌-◌, ◌≤◌, ◌<◌, ltb}
 use Rattle.std.proofs.Common.{sym, ◌∙◌, ⊎_elim, arith, lt-ltb}
 use Rattle.std.proofs.Math.Path.{ap}
 use Rattle.laws.specs.Test.{le_or}

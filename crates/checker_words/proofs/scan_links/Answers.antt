@@ -1,0 +1,61 @@
+-- `scan_links`: each way through the code by its law.
+use Rattle.checker_words.proofs.scan_links.Goals.{After-loop-i, then-word-eq3, else-word-eq3}
+use mathlib.Core.Path.{◌≡◌, sym, ap, ◌∙◌}
+use Prim.Native.Nat.{ℕ, ◌+◌}
+use native.Mathlib.Omega.{arith}
+use lib.ListN.{get_or}
+use lib.Seq.{take_all}
+use lib.Bits.{bit_and, bit_or}
+use borrow.Author.Tests.{eq-eqb, ne_eqb}
+use Rattle.entry.specs.Word.{only}
+use Rattle.checker_words.specs.declared.Run.TheVariants.{Passed}
+use Rattle.checker_words.specs.Words.{links_run, leaves, links as linksIn}
+use Rattle.checker_words.specs.Mask.{leaves_none, links_none, leaves_table, leaves_leaf, links-table, links_leaf}
+use Rattle.checker_words.proofs.scan_links.Goals as goal
+
+-- after the loop the union and the count are the run's
+all : (c : After-loop-i) → c.loop-i.any ≡ leaves c.args.run.now
+all c = c.loop-i.invariant.2 ∙ ap leaves (take_all c.loop-i.i c.args.run.now (omega arith))
+
+count : (c : After-loop-i) → c.loop-i.links ≡ linksIn c.args.run.now
+count c = c.loop-i.invariant.3 ∙ ap linksIn (take_all c.loop-i.i c.args.run.now (omega arith))
+
+pub loop-i-init : goal.loop-i-init
+loop-i-init c = (omega arith, omega arith, sym (leaves_none c.args.run.now), sym (links_none c.args.run.now))
+
+pub loop-i-preserved : goal.loop-i-preserved
+loop-i-preserved c =
+    let l = c.args.run.now in
+    let i = c.loop-i.i in
+    let w = get_or l i 0 in
+    elim c.if-word-eq3.branch [
+      | then-word-eq3 b ↦ (
+        omega arith,
+        omega arith,
+        b.any-is ∙ c.loop-i.invariant.2 ∙ sym (leaves_table l i (omega arith) b.if-word-eq3.true),
+        b.links-is ∙ ap (λ (x : ℕ). x + 1) c.loop-i.invariant.3 ∙ sym (links-table l i (omega arith) b.if-word-eq3.true),
+      )
+      | else-word-eq3 b ↦ (
+        omega arith,
+        omega arith,
+        b.any-is ∙ ap (λ (x : ℕ). bit_or x w) c.loop-i.invariant.2 ∙ sym (leaves_leaf l i (omega arith) b.if-word-eq3.false),
+        b.links-is ∙ c.loop-i.invariant.3 ∙ sym (links_leaf l i (omega arith) b.if-word-eq3.false),
+      )
+    ]
+
+pub returns-then-any-allowed : goal.returns-then-any-allowed
+unfolding links_run only
+returns-then-any-allowed c =
+    let a = c.args in
+    let end = (goal.at.returns-then-any-allowed c).After-loop-i in
+    rw (eq-eqb (bit_and (leaves a.run.now) a.allowed) (leaves a.run.now)
+    (sym (ap (λ (x : ℕ). bit_and x a.allowed) (all end)) ∙ c.if-any-allowed.true ∙ all end))
+    (ap Passed (count end))
+
+pub returns-else-any-allowed : goal.returns-else-any-allowed
+unfolding links_run only
+returns-else-any-allowed c =
+    let a = c.args in
+    let end = (goal.at.returns-else-any-allowed c).After-loop-i in
+    rw (ne_eqb (bit_and (leaves a.run.now) a.allowed) (leaves a.run.now)
+    (λ e. c.if-any-allowed.false (ap (λ (x : ℕ). bit_and x a.allowed) (all end) ∙ e ∙ sym (all end))))

@@ -1,2 +1,2 @@
--- `Tags`: what stands where a match on `Rule` or `Sub` takes the other arms.
+-- `Tags`: what stands where a match on `Rule` takes the other arms.
 pub mod Tags

@@ -1,5 +1,5 @@
 -- The house rule for live edits of a valid entry (document 01, "Putting down a map", Modify).
-use Rattle.std.specs.Prelude.{◌≡◌, refl, Bool, ℕ, ◌-◌}
+use Rattle.std.specs.Prelude.{◌≡◌, refl, Bool, ℕ}
 use Rattle.std.specs.Int.Bits.{bit_xor}
 use Rattle.entry.specs.Word.{only}
 use Rattle.pool.specs.declared.Handle.{Handle}

@@ -11,6 +11,7 @@ use modify::Modified;
 use pool::{Counted, Outcome, Refusal};
 
 // One value.
+#[tactic(auto, unfolding(crate::specs::Answer::over_front))]
 fn answer_one_value(number: u64, first: u64, answer: &mut [u64; 4]) -> u64
     ensures { slip result answer.new ≡ slip number (over_front (first ∷ []) answer.old) }
 {
@@ -19,6 +20,7 @@ fn answer_one_value(number: u64, first: u64, answer: &mut [u64; 4]) -> u64
 }
 
 // Two values.
+#[tactic(auto, using(crate::specs::Answer::over_two))]
 fn answer_two_values(number: u64, first: u64, second: u64, answer: &mut [u64; 4]) -> u64
     ensures { slip result answer.new ≡ slip number (over_front (first ∷ second ∷ []) answer.old) }
 {
@@ -28,6 +30,7 @@ fn answer_two_values(number: u64, first: u64, second: u64, answer: &mut [u64; 4]
 }
 
 // Four values, of a call that is accepted.
+#[tactic(auto, using(crate::specs::Answer::over_four), unfolding(crate::specs::Answer::accepted))]
 fn answer_four_values(
     first: u64,
     second: u64,
@@ -45,6 +48,7 @@ fn answer_four_values(
 }
 
 // A refusal: its number, and what it carries.
+#[tactic(auto, unfolding(crate::specs::Answer::told_refusal, crate::specs::Answer::over_front))]
 pub fn answer_refusal(refusal: Refusal, answer: &mut [u64; 4]) -> u64
     ensures { slip result answer.new ≡ told_refusal refusal answer.old }
 {
@@ -69,6 +73,7 @@ pub fn answer_refusal(refusal: Refusal, answer: &mut [u64; 4]) -> u64
 }
 
 // A call that has nothing more to say than that it was done.
+#[tactic(auto, unfolding(crate::specs::Answer::told, crate::specs::Answer::accepted, crate::specs::Answer::over_front))]
 pub fn answer_outcome(outcome: Outcome, answer: &mut [u64; 4]) -> u64
     ensures { slip result answer.new ≡ told outcome answer.old }
 {
@@ -79,6 +84,7 @@ pub fn answer_outcome(outcome: Outcome, answer: &mut [u64; 4]) -> u64
 }
 
 // A call that counts the tables in use.
+#[tactic(auto, unfolding(crate::specs::Answer::told_counted, crate::specs::Answer::accepted))]
 pub fn answer_counted(counted: Counted, answer: &mut [u64; 4]) -> u64
     ensures { slip result answer.new ≡ told_counted counted answer.old }
 {
@@ -89,6 +95,7 @@ pub fn answer_counted(counted: Counted, answer: &mut [u64; 4]) -> u64
 }
 
 // Look up: kind (0 hole, 1 block, 2 page), level, flags, frame (0 for a hole).
+#[tactic(auto, unfolding(crate::specs::Answer::told_looked, crate::specs::Answer::accepted, crate::specs::Answer::told_refusal))]
 pub fn answer_looked(looked: Looked, answer: &mut [u64; 4]) -> u64
     ensures { slip result answer.new ≡ told_looked looked answer.old }
 {
@@ -113,6 +120,7 @@ pub fn answer_looked(looked: Looked, answer: &mut [u64; 4]) -> u64
 }
 
 // List: the count of lines.
+#[tactic(auto, unfolding(crate::specs::Answer::told_listed, crate::specs::Answer::accepted))]
 pub fn answer_listed(listed: Listed, answer: &mut [u64; 4]) -> u64
     ensures { slip result answer.new ≡ told_listed listed answer.old }
 {
@@ -123,6 +131,7 @@ pub fn answer_listed(listed: Listed, answer: &mut [u64; 4]) -> u64
 }
 
 // Modify: the tables in use and, live, the count of numbers.
+#[tactic(auto, unfolding(crate::specs::Answer::told_modified, crate::specs::Answer::accepted))]
 pub fn answer_modified(modified: Modified, answer: &mut [u64; 4]) -> u64
     ensures { slip result answer.new ≡ told_modified modified answer.old }
 {

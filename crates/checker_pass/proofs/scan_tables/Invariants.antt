@@ -1,0 +1,25 @@
+use mathlib.Core.Path.{◌≡◌}
+use Prim.Native.Nat.{◌+◌, ◌*◌, ◌-◌, ◌≤◌}
+use lib.Dec.{T}
+use lib.ListN.{length}
+use Rattle.laws.specs.Sum.{sum}
+use Rattle.laws.specs.Test.{all_below}
+use Rattle.pool.specs.State.{st}
+use Rattle.checker_pass.specs.Pass.{run_passes, run_links, table_passes, table_links}
+use Rattle.checker_pass.proofs.scan_tables.Given as goal
+
+abbrev pub invariant-loop-r : goal.invariant-loop-r
+invariant-loop-r l =
+    (l.r ≤ 4) × T (all_below l.r (run_passes l.handle (st l.words l.ledger) l.k))
+    × (l.links ≡ sum l.k (table_links (st l.words l.ledger)) + sum l.r (run_links (st l.words l.ledger) l.k)) × (l.links ≤ 512 * l.k + 128 * l.r)
+
+abbrev pub decreases-loop-r : goal.decreases-loop-r
+decreases-loop-r l = 4 - l.r
+
+abbrev pub invariant-tables : goal.invariant-tables
+invariant-tables l =
+    (l.k ≤ length l.ledger) × T (all_below l.k (table_passes l.handle (st l.words l.ledger)))
+    × (l.links ≡ sum l.k (table_links (st l.words l.ledger))) × (l.links ≤ 512 * l.k)
+
+abbrev pub decreases-tables : goal.decreases-tables
+decreases-tables l = length l.ledger - l.k

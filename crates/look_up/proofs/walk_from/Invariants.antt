@@ -1,0 +1,14 @@
+use mathlib.Core.Path.{◌≡◌}
+use Prim.Native.Nat.{◌-◌, ◌≤◌, ◌<◌}
+use Rattle.arm.specs.Arm.{reach_from, says, walk}
+use Rattle.arm.specs.Walk.{slots_of}
+use Rattle.look_up.proofs.walk_from.Given as goal
+
+abbrev pub invariant-loop-j : goal.invariant-loop-j
+invariant-loop-j l =
+    (l.level ≤ 3) × (l.k < l.tables) × (l.slots ≡ slots_of l.va.0)
+    × (says l.va.0 (reach_from l.handle.base.0 l.tables l.words l.va.0 (3 - l.level) l.k)
+    ≡ walk l.handle.base.0 l.tables l.words l.va.0 l.handle.level)
+
+abbrev pub decreases-loop-j : goal.decreases-loop-j
+decreases-loop-j l = 4 - l.level

@@ -1,2 +1,0 @@
--- `Tags`: what stands where a match on `Rule` takes the other arms.
-pub mod Tags

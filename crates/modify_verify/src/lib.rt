@@ -9,6 +9,7 @@ use modify_survey::Survey;
 use pool::{Handle, Outcome, Refusal};
 
 // Whether these bits may be set: all from the flags, bit 0 not among them, none that is cleared too.
+#[tactic(auto, unfolding(crate::specs::Verify::settable))]
 fn are_settable(flags: u64, set: u64, clear: u64) -> bool
     ensures { result ≡ settable flags set clear }
 {

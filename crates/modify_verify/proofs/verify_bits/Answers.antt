@@ -39,7 +39,8 @@ returns-then-not-are_from c =
     let outside : only (flag_set a.handle) a.clear ≡ false =
     ap (λ (x : ℕ). only x a.clear) (sym c.flag_set-flags.ensures) ∙ sym c.are_from.ensures
     ∙ c.if-not-are_from.true in
-    ap (λ (b : Bool). cond b Accepted (Refused (FlagSet a.clear))) (sym outside) ∙ rest (goal.at.returns-then-not-are_from c).Else-not-are_settable
+    ap (λ (b : Bool). cond b Accepted (Refused (FlagSet a.clear))) (sym outside)
+    ∙ rest (goal.at.returns-then-not-are_from c).Else-not-are_settable
 
 pub returns : goal.returns
 returns c =
@@ -47,4 +48,5 @@ returns c =
     let inside : only (flag_set a.handle) a.clear ≡ true =
     ap (λ (x : ℕ). only x a.clear) (sym c.flag_set-flags.ensures) ∙ sym c.are_from.ensures
     ∙ c.if-not-are_from.false in
-    ap (λ (b : Bool). cond b Accepted (Refused (FlagSet a.clear))) (sym inside) ∙ rest (goal.at.returns c).Else-not-are_settable
+    ap (λ (b : Bool). cond b Accepted (Refused (FlagSet a.clear))) (sym inside)
+    ∙ rest (goal.at.returns c).Else-not-are_settable

@@ -173,7 +173,8 @@ loop-at-preserved-in_default-under t c =
       room = f.room;
       words = omega arith;
       ledger = omega arith;
-      same = onwards t place (chunk_none a.handle a.k a.level c.chunk_of-chunk.result s f.index c.rule_of-rule.ensures c.in-Down.is under none);
+      same = onwards t place
+          (chunk_none a.handle a.k a.level c.chunk_of-chunk.result s f.index c.rule_of-rule.ensures c.in-Down.is under none);
       kept = λ e. ap (λ (x : St). x.ledger) same ∙ c.loop-at.invariant.kept e;
     }
 
@@ -200,7 +201,8 @@ loop-at-preserved t c =
     let s = st c.loop-at.words c.loop-at.ledger in
     let under = c.descend-under.ensures in
     let lower = c.map_range-below in
-    let step = chunk-into a.handle a.k a.level c.chunk_of-chunk.result s f.index c.rule_of-rule.ensures c.in-Down.is under _ c.in-At.is low in
+    let rule = c.rule_of-rule.ensures in
+    let step = chunk-into a.handle a.k a.level c.chunk_of-chunk.result s f.index rule c.in-Down.is under _ c.in-At.is low in
     let kept = below_kept a.handle a.k a.level c.entry_index-i.result s under low in
     record {
       low = f.under;

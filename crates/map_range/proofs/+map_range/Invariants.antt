@@ -19,7 +19,8 @@ invariant-loop-at l = record {
   room : l.frame + (l.map.region.end.0 - l.at) ≤ 2 ^ 48;
   words : length l.words ≡ length l.initial.words;
   ledger : length l.ledger ≡ length l.initial.ledger;
-  same : each_map_chunk l.level (map_step l.handle l.k l.level) (chunk_map l.map (region l.at l.map.region.end.0) l.frame) (st l.words l.ledger)
+  same : each_map_chunk l.level (map_step l.handle l.k l.level) (chunk_map l.map (region l.at l.map.region.end.0) l.frame)
+      (st l.words l.ledger)
       ≡ each_map_chunk l.level (map_step l.handle l.k l.level) l.map (st l.initial.words l.initial.ledger);
   kept : l.changed ≡ false → l.ledger ≡ l.initial.ledger;
 }

@@ -27,7 +27,8 @@ last_fits level w low plain =
     let room = size_room level (address_of w) (address_below w) in
     let part = size_step level low in
     let most = leaf_most (level + 1) top (flags_of w) in
-    let fits = steps_fit top (flags_of w) (size_at (level + 1)) (down_paged level (address_of w)) (omega arith) (size_low (level + 1)) plain in
+    let paged = down_paged level (address_of w) in
+    let fits = steps_fit top (flags_of w) (size_at (level + 1)) paged (omega arith) (size_low (level + 1)) plain in
     omega arith
 
 -- the old word's address, cleared below the entry's size by masks
@@ -44,7 +45,8 @@ plain c = flags_plain _ (c.type_inv.words (512 * c.args.k + c.args.i)).fits (ome
 first : (c : After-leaf_word-first) → let w = get_or c.args.words.now (512 * c.args.k + c.args.i) 0 in
     c.leaf_word-first.result ≡ leaf_word (c.args.level + 1) (down (address_of w) (size_at c.args.level)) (flags_of w)
 first c =
-    c.leaf_word-first.ensures ∙ ap₂ (leaf_word (c.args.level + 1)) (cleared c.args.level _ c.granularity_at_level.ensures) c.flags-flags.ensures
+    c.leaf_word-first.ensures
+    ∙ ap₂ (leaf_word (c.args.level + 1)) (cleared c.args.level _ c.granularity_at_level.ensures) c.flags-flags.ensures
 
 pub returns-then-word-ne1 : goal.returns-then-word-ne1
 returns-then-word-ne1 c =
@@ -70,9 +72,10 @@ leaf_word-first-requires c =
 pub take_table-requires-2 : goal.take_table-requires-2
 take_table-requires-2 c =
     let p = c.requires in
-    let level = c.args.level in
-    let last = ap₂ (λ (x s : ℕ). x + 511 * s) (first (goal.at.take_table-requires-2 c).After-leaf_word-first) c.granularity_at_level-step.ensures in
-    let fits = subst⁻¹ (λ (n : ℕ). n < 2 ^ 64) last (last_fits level _ p.1 (plain (goal.at.take_table-requires-2 c).After-granularity_at_level)) in
+    let at = goal.at.take_table-requires-2 c in
+    let last = ap₂ (λ (x s : ℕ). x + 511 * s) (first at.After-leaf_word-first) c.granularity_at_level-step.ensures in
+    let most = last_fits c.args.level _ p.1 (plain at.After-granularity_at_level) in
+    let fits = subst⁻¹ (λ (n : ℕ). n < 2 ^ 64) last most in
     (p.0, omega arith, p.2, p.3, fits)
 
 pub returns : goal.returns

@@ -10,7 +10,8 @@ use Rattle.map_count.proofs.+count_new.Given as goal
 abbrev pub invariant-loop-at : goal.invariant-loop-at
 invariant-loop-at l =
     (l.at ≤ l.map.region.end.0) × (l.at % 4096 ≡ 0) × (l.frame % 4096 ≡ 0) × (l.frame + (l.map.region.end.0 - l.at) ≤ 2 ^ 48)
-    × (l.count + sum_chunks l.level (count_at l.handle (st l.words l.ledger) l.k l.level) (chunk_map l.map (region l.at l.map.region.end.0) l.frame)
+    × (l.count
+    + sum_chunks l.level (count_at l.handle (st l.words l.ledger) l.k l.level) (chunk_map l.map (region l.at l.map.region.end.0) l.frame)
     ≡ sum_chunks l.level (count_at l.handle (st l.words l.ledger) l.k l.level) l.map)
 
 abbrev pub decreases-loop-at : goal.decreases-loop-at

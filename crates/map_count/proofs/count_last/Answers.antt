@@ -120,7 +120,8 @@ pub rule_of-rule-requires : goal.rule_of-rule-requires
 rule_of-rule-requires c = let f = facts (goal.at.rule_of-rule-requires c).After-chunk_of-chunk in (f.fit, f.some)
 
 pub loop-at-smaller-in_default-rule : goal.loop-at-smaller-in_default-rule
-loop-at-smaller-in_default-rule c = let f = facts (goal.at.loop-at-smaller-in_default-rule c).After-chunk_of-chunk in omega (arith, f.above, f.under)
+loop-at-smaller-in_default-rule c =
+    let f = facts (goal.at.loop-at-smaller-in_default-rule c).After-chunk_of-chunk in omega (arith, f.above, f.under)
 
 pub loop-at-preserved-in_default-rule : goal.loop-at-preserved-in_default-rule
 loop-at-preserved-in_default-rule c =

@@ -102,6 +102,7 @@ returns t c =
     let stop = c.chunk_end-stop.ensures in
     let down = leaf_down a.level a.map a.word c.rule_of-rule.ensures c.in-Down.is (omega arith) in
     ap₂ (λ (x y : ℕ). 1 + x + y)
-    (c.count_leaf.ensures ∙ ap₂ (closed_leaf (3 - (a.level + 1))) (c.chunk_of-first.ensures ∙ ap (first_of a.map) stop) c.part_of-part.ensures)
+    (c.count_leaf.ensures
+    ∙ ap₂ (closed_leaf (3 - (a.level + 1))) (c.chunk_of-first.ensures ∙ ap (first_of a.map) stop) c.part_of-part.ensures)
     (c.count_rest.ensures ∙ ap (rests (3 - (a.level + 1))) (c.chunk_of-rest.ensures ∙ ap (rest_of a.map) stop))
     ∙ down

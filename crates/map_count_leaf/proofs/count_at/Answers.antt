@@ -26,8 +26,8 @@ overflow_sub-last c = omega (arith, c.granularity_at_level-last.ensures, size_po
 pub returns-then-map-last-ne0 : goal.returns-then-map-last-ne0
 returns-then-map-last-ne0 c =
     let a = c.args in
-    c.entries_met-then-map-last-ne0.ensures
-    ∙ rest_off a.level a.map (λ e. c.if-map-last-ne0.true (aligned (goal.at.returns-then-map-last-ne0 c).After-granularity_at_level-last a.map.frame.0 ∙ e))
+    let p = (goal.at.returns-then-map-last-ne0 c).After-granularity_at_level-last in
+    c.entries_met-then-map-last-ne0.ensures ∙ rest_off a.level a.map (λ e. c.if-map-last-ne0.true (aligned p a.map.frame.0 ∙ e))
 
 pub returns-then-end-start : goal.returns-then-end-start
 returns-then-end-start c =

@@ -23,7 +23,10 @@ offset c x =
 -- the chunk begins with an entry of the next level
 starts : (c : After-granularity_at_level-last)
     → c.args.map.region.start.0 % size_at (c.args.level + 1) ≡ 0
-starts c = sym (first c.before.before.before c.args.map.region.start.0) ∙ c.if-map-granularity_at_level-ne0.false
+starts c =
+    let a = c.args in
+    sym (ap (λ (g : ℕ). bit_and a.map.region.start.0 (g - 1)) c.granularity_at_level.ensures ∙ size-mod (a.level + 1) a.map.region.start.0)
+    ∙ c.if-map-granularity_at_level-ne0.false
 
 pub overflow_sub-granularity_at_level : goal.overflow_sub-granularity_at_level
 overflow_sub-granularity_at_level c = omega (arith, c.granularity_at_level.ensures, size_pos (c.args.level + 1))
@@ -31,7 +34,8 @@ overflow_sub-granularity_at_level c = omega (arith, c.granularity_at_level.ensur
 pub returns-then-map-granularity_at_level-ne0 : goal.returns-then-map-granularity_at_level-ne0
 returns-then-map-granularity_at_level-ne0 c =
     let a = c.args in
-    test_start a.level a.map a.word (λ e. c.if-map-granularity_at_level-ne0.true (first (goal.at.returns-then-map-granularity_at_level-ne0 c).After-granularity_at_level a.map.region.start.0 ∙ e))
+    let p = (goal.at.returns-then-map-granularity_at_level-ne0 c).After-granularity_at_level in
+    test_start a.level a.map a.word (λ e. c.if-map-granularity_at_level-ne0.true (first p a.map.region.start.0 ∙ e))
 
 pub overflow_sub-last : goal.overflow_sub-last
 overflow_sub-last c = omega (arith, c.granularity_at_level-last.ensures, size_pos c.args.level)
@@ -52,10 +56,12 @@ returns-then-word-eq0 c =
 pub returns-then-word-eq3 : goal.returns-then-word-eq3
 returns-then-word-eq3 c =
     let a = c.args in
-    test_table a.level a.map a.word (starts (goal.at.returns-then-word-eq3 c).After-granularity_at_level-last) c.if-word-eq0.false c.if-word-eq3.true
+    test_table a.level a.map a.word (starts (goal.at.returns-then-word-eq3 c).After-granularity_at_level-last)
+    c.if-word-eq0.false c.if-word-eq3.true
 
 pub returns : goal.returns
 returns c =
     let a = c.args in
-    ap (λ (x : ℕ). eqb x 0) (offset (goal.at.returns c).After-granularity_at_level-last _ ∙ ap (λ (x : ℕ). x % size_at a.level) (mask_address a.word))
+    let p = (goal.at.returns c).After-granularity_at_level-last in
+    ap (λ (x : ℕ). eqb x 0) (offset p _ ∙ ap (λ (x : ℕ). x % size_at a.level) (mask_address a.word))
     ∙ test_block a.level a.map a.word (starts (goal.at.returns c).After-granularity_at_level-last) c.if-word-eq0.false c.if-word-eq3.false

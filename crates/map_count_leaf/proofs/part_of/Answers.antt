@@ -41,16 +41,24 @@ pub overflow_sub-address : goal.overflow_sub-address
 overflow_sub-address c = omega (arith, c.granularity_at_level.ensures, size_pos c.args.level)
 
 pub overflow_mul-result : goal.overflow_mul-result
-overflow_mul-result c = omega (arith, step (goal.at.overflow_mul-result c).After-granularity_at_level-2, (room (goal.at.overflow_mul-result c).After-granularity_at_level-2).step)
+overflow_mul-result c =
+    let p = (goal.at.overflow_mul-result c).After-granularity_at_level-2 in omega (arith, step p, (room p).step)
 
 pub overflow_add-result : goal.overflow_add-result
-overflow_add-result c = omega (arith, step (goal.at.overflow_add-result c).After-granularity_at_level-2, cleared (goal.at.overflow_add-result c).After-granularity_at_level, (room (goal.at.overflow_add-result c).After-granularity_at_level-2).place)
+overflow_add-result c =
+    let p = (goal.at.overflow_add-result c).After-granularity_at_level-2 in
+    let q = cleared (goal.at.overflow_add-result c).After-granularity_at_level in
+    omega (arith, step p, q, (room p).place)
 
 pub overflow_add-result-2 : goal.overflow_add-result-2
-overflow_add-result-2 c = omega (arith, step (goal.at.overflow_add-result-2 c).After-granularity_at_level-2, cleared (goal.at.overflow_add-result-2 c).After-granularity_at_level, c.flags-flags.ensures, (room (goal.at.overflow_add-result-2 c).After-granularity_at_level-2).word)
+overflow_add-result-2 c =
+    let p = (goal.at.overflow_add-result-2 c).After-granularity_at_level-2 in
+    let q = cleared (goal.at.overflow_add-result-2 c).After-granularity_at_level in
+    omega (arith, step p, q, c.flags-flags.ensures, (room p).word)
 
 pub returns : goal.returns
 returns c =
     let a = c.args in
     let e = child_block a.level a.word a.va (omega arith) c.if-word-ne1.false in
-    omega (arith, step (goal.at.returns c).After-granularity_at_level-2, cleared (goal.at.returns c).After-granularity_at_level, c.flags-flags.ensures)
+    let q = cleared (goal.at.returns c).After-granularity_at_level in
+    omega (arith, step (goal.at.returns c).After-granularity_at_level-2, q, c.flags-flags.ensures)

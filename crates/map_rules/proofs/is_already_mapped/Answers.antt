@@ -42,9 +42,8 @@ returns-then-map-offset c =
 
 pub returns : goal.returns
 returns c =
-    let second = c.before.before.before.before.before in
-    let a = second.args in
+    let a = c.args in
     let e = offset (goal.at.returns c).After-granularity_at_level in
-    let flags = sym second.flags.ensures ∙ second.if-flags-map.false in
+    let flags = sym c.flags.ensures ∙ c.if-flags-map.false in
     ap₂ (λ (x y : ℕ). eqb (a.map.frame.0 - x) y) e (mask_address a.word)
-    ∙ same_place a.level a.map a.word second.if-word-eq3.false flags (omega arith)
+    ∙ same_place a.level a.map a.word c.if-word-eq3.false flags (omega arith)

@@ -22,7 +22,9 @@ overflow_sub-granularity_at_level c = omega (arith, c.granularity_at_level.ensur
 
 pub returns-then-map-granularity_at_level-ne0 : goal.returns-then-map-granularity_at_level-ne0
 unfolding blockable
-returns-then-map-granularity_at_level-ne0 c = rw (ne_eqb _ 0 (λ e. c.if-map-granularity_at_level-ne0.true (aligned (goal.at.returns-then-map-granularity_at_level-ne0 c).After-granularity_at_level ∙ e)))
+returns-then-map-granularity_at_level-ne0 c =
+    let p = (goal.at.returns-then-map-granularity_at_level-ne0 c).After-granularity_at_level in
+    rw (ne_eqb _ 0 (λ e. c.if-map-granularity_at_level-ne0.true (aligned p ∙ e)))
 
 pub returns-then-not-map : goal.returns-then-not-map
 unfolding blockable

@@ -43,16 +43,18 @@ returns-then-not-is_block c =
 
 pub returns-then-map-ne1 : goal.returns-then-map-ne1
 returns-then-map-ne1 c =
-    let third = c.before.before.before in
-    let a = third.args in
-    rule-drop a.level a.map a.word (omega arith) (not-mapped (goal.at.returns-then-map-ne1 c).Else-is_already_mapped) (block (goal.at.returns-then-map-ne1 c).Else-not-is_block)
+    let other = not-mapped (goal.at.returns-then-map-ne1 c).Else-is_already_mapped in
+    let all = block (goal.at.returns-then-map-ne1 c).Else-not-is_block in
+    let a = c.args in
+    rule-drop a.level a.map a.word (omega arith) other all
     c.if-word-eq3.true c.if-map-ne1.true
 
 pub returns-then-word-eq3 : goal.returns-then-word-eq3
 returns-then-word-eq3 c =
-    let third = c.before.before.before in
-    let a = third.args in
-    rule-into a.level a.map a.word (omega arith) (not-mapped (goal.at.returns-then-word-eq3 c).Else-is_already_mapped) (block (goal.at.returns-then-word-eq3 c).Else-not-is_block)
+    let other = not-mapped (goal.at.returns-then-word-eq3 c).Else-is_already_mapped in
+    let all = block (goal.at.returns-then-word-eq3 c).Else-not-is_block in
+    let a = c.args in
+    rule-into a.level a.map a.word (omega arith) other all
     c.if-word-eq3.true c.if-map-ne1.false
 
 pub leaf_word-requires-then-is_blockable : goal.leaf_word-requires-then-is_blockable
@@ -60,15 +62,17 @@ leaf_word-requires-then-is_blockable c = leaf_needs (goal.at.leaf_word-requires-
 
 pub returns-then-is_blockable : goal.returns-then-is_blockable
 returns-then-is_blockable c =
-    let third = c.before.before.before.before in
-    let a = third.args in
+    let other = not-mapped (goal.at.returns-then-is_blockable c).Else-is_already_mapped in
+    let all = block (goal.at.returns-then-is_blockable c).Else-not-is_block in
+    let a = c.args in
     ap Write c.leaf_word-then-is_blockable.ensures
-    ∙ rule_block a.level a.map a.word (omega arith) (not-mapped (goal.at.returns-then-is_blockable c).Else-is_already_mapped) (block (goal.at.returns-then-is_blockable c).Else-not-is_block)
+    ∙ rule_block a.level a.map a.word (omega arith) other all
     c.if-word-eq3.false (sym c.is_blockable.ensures ∙ c.if-is_blockable.true)
 
 pub returns : goal.returns
 returns c =
-    let third = c.before.before.before in
-    let a = third.args in
-    rule-split a.level a.map a.word (omega arith) (not-mapped (goal.at.returns c).Else-is_already_mapped) (block (goal.at.returns c).Else-not-is_block)
+    let other = not-mapped (goal.at.returns c).Else-is_already_mapped in
+    let all = block (goal.at.returns c).Else-not-is_block in
+    let a = c.args in
+    rule-split a.level a.map a.word (omega arith) other all
     c.if-word-eq3.false (sym c.is_blockable.ensures ∙ c.if-is_blockable.false)

@@ -22,7 +22,8 @@ use Rattle.theory_sound.specs.Decide.{decide_sound}
 use Rattle.arm.specs.Arm.{at, away, says, reach}
 use Rattle.look_up.specs.Call.{answer, spanned, look_up_call}
 use Rattle.list_lines.specs.Lines.{Line, lines_of}
-use Rattle.list_lines.specs.Cover.{Covers, covers-map, Meets, list_covers, nth_line, inside, ascending, holds, InLine, covered}
+use Rattle.list_lines.specs.Cover.{Covers, covers-map, Meets, nth_line, inside, ascending, holds, InLine, covered}
+use Rattle.list_lines.proofs.Cover.{list_covers}
 use Rattle.list.specs.Call.{verify_ends, listing, put, list_lines, list_sound, list_call, ends_verified}
 use Rattle.list.specs.declared.Listed.{Listed}
 use Rattle.list.specs.declared.Listed.TheVariants.{Lines, Refused as refused}

@@ -12,11 +12,14 @@ use Rattle.pool.specs.declared.Handle.{Handle}
 use Rattle.pool_table.specs.Table.{clear}
 use Rattle.theory_forest.specs.Tree.{Tree}
 use Rattle.theory_forest.specs.Sound.{Codec, Refers, Sound}
-use Rattle.theory_forest.specs.Under.{refers_over}
+use Rattle.theory_forest.proofs.Under.{refers_over}
 use Rattle.theory_forest.specs.Frame.{slot_tree}
-use Rattle.theory_forest.specs.Place.{below_self, over_refers}
-use Rattle.theory_forest.specs.Move.{Runs, work_skip, runs_zero, runs_suc, runs_work}
-use Rattle.theory_forest.specs.Compact.{squash, compact_tree, compact_leaf, compact_keep, compact_drop}
+use Rattle.theory_forest.specs.Place.{below_self}
+use Rattle.theory_forest.proofs.Place.{over_refers}
+use Rattle.theory_forest.specs.Move.{Runs}
+use Rattle.theory_forest.proofs.Move.{work_skip, runs_zero, runs_suc, runs_work}
+use Rattle.theory_forest.specs.Compact.{squash, compact_tree}
+use Rattle.theory_forest.proofs.Compact.{compact_leaf, compact_keep, compact_drop}
 use Rattle.theory_sound.specs.Codec.{Placed, codec_of, view, tree_from}
 use Rattle.theory_sound.specs.Clauses.{InUse, SoundPool}
 use Rattle.theory_sound.specs.Generic.{pool_sound}

@@ -8,9 +8,11 @@ use Rattle.pool.specs.State.{St, number_at}
 use Rattle.pool.specs.declared.Handle.{Handle}
 use Rattle.theory_forest.specs.Tree.{tree_at_node}
 use Rattle.theory_forest.specs.Sound.{State, Codec, Refers, Sound}
-use Rattle.theory_forest.specs.Under.{Under, LevelsLeft, under-zero, under_via, refers_level}
-use Rattle.theory_forest.specs.Hang.{root_not_hung}
-use Rattle.theory_forest.specs.Frame.{tree_of, slot_refers}
+use Rattle.theory_forest.specs.Under.{Under, LevelsLeft, under-zero}
+use Rattle.theory_forest.proofs.Under.{under_via, refers_level}
+use Rattle.theory_forest.proofs.Hang.{root_not_hung}
+use Rattle.theory_forest.specs.Frame.{tree_of}
+use Rattle.theory_forest.proofs.Frame.{slot_refers}
 use Rattle.theory_forest.specs.Compact.{empty_words, empty_tree, empty_tree_lem}
 use Rattle.theory_tree.specs.Compact.{Tight}
 use Rattle.theory_sound.specs.Codec.{Placed, codec_of, slot_word, view, root_tree}

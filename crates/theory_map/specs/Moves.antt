@@ -11,9 +11,10 @@ use Rattle.pool_table.specs.Table.{take_at, free_tree}
 use Rattle.map_rules.specs.Rules.{fill_of}
 use Rattle.theory_forest.specs.Tree.{Tree, leaf, node, tree_at_node}
 use Rattle.theory_forest.specs.Sound.{TableWord, IsTable, Refers}
-use Rattle.theory_forest.specs.Split.{Splits, SplitFits, new_tree}
-use Rattle.theory_forest.specs.Place.{over_trans}
-use Rattle.theory_forest.specs.Move.{move_skip, move_down, move_split, split_at}
+use Rattle.theory_forest.specs.Split.{Splits, SplitFits}
+use Rattle.theory_forest.proofs.Split.{new_tree}
+use Rattle.theory_forest.proofs.Place.{over_trans}
+use Rattle.theory_forest.proofs.Move.{move_skip, move_down, move_split, split_at}
 use Rattle.theory_sound.specs.Clauses.{level_at}
 use Rattle.theory_sound.specs.Codec.{Placed, shaped_placed, codec_of, child_of, slot_word, view, number_pos, tree_from, root_tree}
 use Rattle.theory_sound.specs.Generic.{pool_sound}

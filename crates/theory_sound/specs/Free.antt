@@ -9,10 +9,12 @@ use Rattle.pool_table.specs.Table.{free_tree}
 use Rattle.pool.specs.declared.Handle.{Handle}
 use Rattle.theory_forest.specs.Tree.{leaf}
 use Rattle.theory_forest.specs.Sound.{Refers}
-use Rattle.theory_forest.specs.Under.{Under, NotUnder, under-or, refers_level, refers_over}
+use Rattle.theory_forest.specs.Under.{Under, NotUnder, under-or}
+use Rattle.theory_forest.proofs.Under.{refers_level, refers_over}
 use Rattle.theory_forest.specs.Free.{Frees}
-use Rattle.theory_forest.specs.Nodes.{nodes, lies, lies_yes, lies_no, under-nodes}
-use Rattle.theory_forest.specs.Move.{move_free}
+use Rattle.theory_forest.specs.Nodes.{nodes, lies, lies_yes, lies_no}
+use Rattle.theory_forest.proofs.Nodes.{under-nodes}
+use Rattle.theory_forest.proofs.Move.{move_free}
 use Rattle.theory_sound.specs.Alloc.{used-sum}
 use Rattle.theory_sound.specs.Codec.{shaped_placed, codec_of, view, tree_from}
 use Rattle.theory_sound.specs.Clauses.{InUse, level_at, SoundPool}

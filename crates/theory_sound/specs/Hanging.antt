@@ -12,10 +12,13 @@ use Rattle.pool.specs.Number.{root_number, used}
 use Rattle.pool.specs.Refuse.{Shaped}
 use Rattle.pool.specs.declared.Handle.{Handle}
 use Rattle.theory_forest.specs.Sound.{TableWord, parent, slot_in, Refers, Hangs}
-use Rattle.theory_forest.specs.Under.{Under, hangs_refers, refers_table}
-use Rattle.theory_forest.specs.Hang.{here as at_last, down as by, Points, Reaches, grounded, reached, path, once, root_free}
-use Rattle.theory_forest.specs.Hang.{one-path as one_way}
-use Rattle.theory_forest.specs.Nodes.{nodes, in_use as countInUse, used-nodes}
+use Rattle.theory_forest.specs.Under.{Under}
+use Rattle.theory_forest.proofs.Under.{hangs_refers, refers_table}
+use Rattle.theory_forest.specs.Hang.{here as at_last, down as by, Points, Reaches, path}
+use Rattle.theory_forest.proofs.Hang.{grounded, reached, once, root_free}
+use Rattle.theory_forest.proofs.Hang.{one-path as one_way}
+use Rattle.theory_forest.specs.Nodes.{nodes, in_use as countInUse}
+use Rattle.theory_forest.proofs.Nodes.{used-nodes}
 use Rattle.theory_sound.specs.Alloc.{used-sum}
 use Rattle.theory_sound.specs.Codec.{Placed, shaped_placed, child_of, child_link, codec_of, view, word_in, table_in, root_tree}
 use Rattle.theory_sound.specs.Clauses.{InUse, level_at, SoundPool}

@@ -8,7 +8,7 @@ use Rattle.pool.specs.State.{St, tables, word_at, used_in}
 use Rattle.pool.specs.declared.Handle.{Handle}
 use Rattle.theory_forest.specs.Tree.{Tree, leaf, node, entry, tree_at_node}
 use Rattle.theory_forest.specs.Sound.{TableWord, Refers}
-use Rattle.theory_forest.specs.Frame.{slot_refers}
+use Rattle.theory_forest.proofs.Frame.{slot_refers}
 use Rattle.theory_forest.specs.Keep.{slot_leaf}
 use Rattle.theory_sound.specs.Codec.{Placed, codec_of, child_of, slot_word, view, word_in}
 use Rattle.theory_sound.specs.Clauses.{level_at}

@@ -9,9 +9,10 @@ use Rattle.pool.specs.Sound.{flag_set}
 use Rattle.pool.specs.declared.Handle.{Handle}
 use Rattle.theory_forest.specs.Tree.{Tree}
 use Rattle.theory_forest.specs.Sound.{TableWord, IsTable, Refers, Sound}
-use Rattle.theory_forest.specs.Under.{refers_level}
+use Rattle.theory_forest.proofs.Under.{refers_level}
 use Rattle.theory_forest.specs.Keep.{Fits}
-use Rattle.theory_forest.specs.Place.{slot_self, below_self}
+use Rattle.theory_forest.specs.Place.{below_self}
+use Rattle.theory_forest.proofs.Place.{slot_self}
 use Rattle.theory_forest.specs.Nodes.{nodes}
 use Rattle.theory_forest.specs.Move.{Move, TableMove}
 use Rattle.theory_sound.specs.Codec.{Placed, shaped_placed, codec_of, view, word_in, zero_leaf_lem, root_tree}

@@ -8,10 +8,11 @@ use Rattle.pool_table.specs.Table.{clear}
 use Rattle.pool.specs.declared.Handle.{Handle}
 use Rattle.theory_forest.specs.Tree.{leaf}
 use Rattle.theory_forest.specs.Sound.{TableWord, Refers}
-use Rattle.theory_forest.specs.Under.{refers_level}
+use Rattle.theory_forest.proofs.Under.{refers_level}
 use Rattle.theory_forest.specs.Store.{Stored}
-use Rattle.theory_forest.specs.Free.{Clears, free_empty_frees}
-use Rattle.theory_forest.specs.Move.{move_store, move_free}
+use Rattle.theory_forest.specs.Free.{Clears}
+use Rattle.theory_forest.proofs.Free.{free_empty_frees}
+use Rattle.theory_forest.proofs.Move.{move_store, move_free}
 use Rattle.theory_sound.specs.Codec.{Placed, codec_of, slot_word, view, word_in, word_out}
 use Rattle.theory_sound.specs.Clauses.{InUse, level_at, SoundPool}
 use Rattle.theory_sound.specs.Generic.{pool_sound}

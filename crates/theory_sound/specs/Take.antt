@@ -12,8 +12,9 @@ use Rattle.pool.specs.declared.Handle.{Handle}
 use Rattle.pool.specs.declared.Found.TheVariants.{At}
 use Rattle.theory_forest.specs.Tree.{leaf, node}
 use Rattle.theory_forest.specs.Sound.{TableWord}
-use Rattle.theory_forest.specs.Split.{Splits, SplitFits, new_tree}
-use Rattle.theory_forest.specs.Move.{work_skip, split_at, move_split}
+use Rattle.theory_forest.specs.Split.{Splits, SplitFits}
+use Rattle.theory_forest.proofs.Split.{new_tree}
+use Rattle.theory_forest.proofs.Move.{work_skip, split_at, move_split}
 use Rattle.theory_sound.specs.Alloc.{free-take}
 use Rattle.theory_sound.specs.Codec.{Placed, over_names, number_pos, codec_of, view}
 use Rattle.theory_sound.specs.Clauses.{InUse, level_at, SoundPool}

@@ -9,7 +9,7 @@ use Rattle.entry.specs.Sub.{Found, sub_found}
 use Rattle.pool.specs.State.{St, tables, word_at}
 use Rattle.pool.specs.Refuse.{Shaped}
 use Rattle.pool.specs.declared.Handle.{Handle}
-use Rattle.theory_forest.specs.Under.{refers_child, refers_level}
+use Rattle.theory_forest.proofs.Under.{refers_child, refers_level}
 use Rattle.theory_forest.specs.Walk.{walk_tree}
 use Rattle.theory_sound.specs.Clauses.{InUse, level_at, SoundPool}
 use Rattle.theory_sound.specs.Codec.{shaped_placed, child_of, slot_word, word_in, root_tree}

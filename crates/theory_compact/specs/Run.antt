@@ -22,11 +22,13 @@ use Rattle.theory_forest.specs.Compact.{squash, compact_tree}
 use Rattle.theory_forest.proofs.Compact.{compact_leaf, compact_keep, compact_drop}
 use Rattle.theory_sound.specs.Codec.{Placed, codec_of, view, tree_from}
 use Rattle.theory_sound.specs.Clauses.{InUse, SoundPool}
-use Rattle.theory_sound.specs.Generic.{pool_sound}
+use Rattle.theory_sound.proofs.Generic.{pool_sound}
 use Rattle.theory_sound.specs.Lists.{TableInside, SameSize, size_refl, size_trans, store_size, clear-size}
-use Rattle.theory_sound.specs.Step.{not_table, used_inside, Ready, refers_ready, Step, Worked, pool_again, ready_again}
-use Rattle.theory_sound.specs.Slot.{HoldsLeaf, SlotHolds, holds_table, holds_leaf, holds}
-use Rattle.theory_sound.specs.Store.{cleared}
+use Rattle.theory_sound.specs.Step.{not_table, Ready, Step, Worked}
+use Rattle.theory_sound.proofs.Step.{used_inside, refers_ready, pool_again, ready_again}
+use Rattle.theory_sound.specs.Slot.{HoldsLeaf, SlotHolds, holds_table, holds_leaf}
+use Rattle.theory_sound.proofs.Slot.{holds}
+use Rattle.theory_sound.proofs.Store.{cleared}
 use Rattle.compact_spec.specs.Compact.{all_zero, table_words, release_empty, compact_entry, compact_table, release_kept, release_freed}
 use Rattle.compact_spec.specs.Compact.{entry-table, entry_leaf}
 use Rattle.theory_compact.specs.Empty.{empty_is}

@@ -17,10 +17,12 @@ use Rattle.theory_forest.specs.Compact.{empty_words, empty_tree, empty_tree_lem}
 use Rattle.theory_tree.specs.Compact.{Tight}
 use Rattle.theory_sound.specs.Codec.{Placed, codec_of, slot_word, view, root_tree}
 use Rattle.theory_sound.specs.Clauses.{InUse, SoundPool}
-use Rattle.theory_sound.specs.Generic.{pool_sound}
-use Rattle.theory_sound.specs.Hanging.{root_left, root_under}
-use Rattle.theory_sound.specs.Step.{used_inside, Ready, refers_ready}
-use Rattle.theory_sound.specs.Slot.{SlotHolds, holds_table, holds_leaf, holds}
+use Rattle.theory_sound.proofs.Generic.{pool_sound}
+use Rattle.theory_sound.proofs.Hanging.{root_left, root_under}
+use Rattle.theory_sound.specs.Step.{Ready}
+use Rattle.theory_sound.proofs.Step.{used_inside, refers_ready}
+use Rattle.theory_sound.specs.Slot.{SlotHolds, holds_table, holds_leaf}
+use Rattle.theory_sound.proofs.Slot.{holds}
 use Rattle.compact_spec.specs.Compact.{all_zero, table_words, release_empty, compact_entry, compact_table, release_kept}
 use Rattle.compact_spec.specs.Compact.{entry-table, entry_leaf}
 use Rattle.theory_compact.specs.Empty.{empty_is}

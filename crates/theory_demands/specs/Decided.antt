@@ -18,7 +18,7 @@ use Rattle.pool.specs.declared.Refusal.{Refusal}
 use Rattle.pool.specs.declared.Refusal.TheVariants.{RegionBackwards, AddressRange, Frame}
 use Rattle.pool.specs.declared.Outcome.TheVariants.{Accepted, Refused}
 use Rattle.theory_sound.specs.Clauses.{SoundPool}
-use Rattle.theory_sound.specs.Decide.{sound_exactly}
+use Rattle.theory_sound.proofs.Decide.{sound_exactly}
 use Rattle.region_verify.specs.Verify.{end_fits, in_range, verify, refused_never, lower_start, lower_end, lower_in, upper_start, upper_in}
 use Rattle.region_verify.specs.Verify.{verify_backwards, verify_forwards}
 use Rattle.look_up.specs.Call.{spanned}

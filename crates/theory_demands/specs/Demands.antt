@@ -11,7 +11,8 @@ use Rattle.pool.specs.declared.Refusal.{Refusal}
 use Rattle.pool.specs.declared.Outcome.TheVariants as outcome
 use Rattle.pool.specs.declared.Counted.TheVariants as counted
 use Rattle.theory_sound.specs.Clauses.{InUse}
-use Rattle.theory_sound.specs.Hanging.{Follows, OneSlot, Leads, reach, one-path, refer_once, root_unreferred, free_unreferred}
+use Rattle.theory_sound.specs.Hanging.{Follows, OneSlot, Leads}
+use Rattle.theory_sound.proofs.Hanging.{reach, one-path, refer_once, root_unreferred, free_unreferred}
 use Rattle.checker.specs.Call.{check_call}
 use Rattle.compact_spec.specs.Call.{compact_call}
 use Rattle.look_up.specs.Call.{look_up_call}

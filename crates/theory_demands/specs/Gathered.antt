@@ -9,7 +9,7 @@ use Rattle.pool.specs.declared.Handle.{Handle}
 use Rattle.pool.specs.declared.Outcome.{Outcome}
 use Rattle.pool.specs.declared.Counted.TheVariants.{Tables}
 use Rattle.theory_sound.specs.Clauses.{InUse, SoundPool}
-use Rattle.theory_sound.specs.Made.{made_sound}
+use Rattle.theory_sound.proofs.Made.{made_sound}
 use Rattle.look_up.specs.Call.{answer, spanned, look_up_call, look_walks}
 use Rattle.theory_walk.specs.AsBefore.{walk_of, mapped, hole, shown}
 use Rattle.compact_spec.specs.Call.{compacted, compact_call}

@@ -17,8 +17,8 @@ use Rattle.map_count_spec.specs.Needed.{needed}
 use Rattle.map_verify.specs.Verify.{asked_map}
 use Rattle.theory_sound.specs.Clauses.{SoundPool}
 use Rattle.theory_sound.specs.Codec.{shaped_placed, root_tree}
-use Rattle.theory_sound.specs.Hanging.{used_tree}
-use Rattle.theory_sound.specs.Step.{leaves-used}
+use Rattle.theory_sound.proofs.Hanging.{used_tree}
+use Rattle.theory_sound.proofs.Step.{leaves-used}
 use Rattle.theory_walk.specs.AsBefore.{walk_of, mapped, hole, shown}
 use Rattle.theory_tree.specs.Shown.{FineTable}
 use Rattle.theory_tree.specs.Order.{Reorders, Each, Pairs, each_reorders, pairs_reorders, made_all}

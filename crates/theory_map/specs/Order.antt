@@ -14,7 +14,7 @@ use Rattle.theory_forest.specs.Tree.{Tree}
 use Rattle.theory_forest.specs.Nodes.{nodes}
 use Rattle.theory_forest.specs.Walk.{walk_tree}
 use Rattle.theory_sound.specs.Codec.{shaped_placed, root_tree}
-use Rattle.theory_sound.specs.Hanging.{used_tree}
+use Rattle.theory_sound.proofs.Hanging.{used_tree}
 use Rattle.arm.specs.Arm.{says}
 use Rattle.theory_walk.specs.AsBefore.{walk_of, shown}
 use Rattle.theory_walk.specs.Any.{slots_taken, reached_at}

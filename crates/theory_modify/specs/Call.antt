@@ -27,8 +27,9 @@ use Rattle.modify.specs.Call.{call_misshaped, call-refused, call-asked}
 use Rattle.modify.specs.Call.{nothing}
 use Rattle.theory_forest.specs.Tree.{Tree}
 use Rattle.theory_sound.specs.Codec.{shaped_placed, root_tree}
-use Rattle.theory_sound.specs.Decide.{sound_decide}
-use Rattle.theory_sound.specs.Step.{Ready, root_ready, Leaves, root_leaves}
+use Rattle.theory_sound.proofs.Decide.{sound_decide}
+use Rattle.theory_sound.specs.Step.{Ready, Leaves}
+use Rattle.theory_sound.proofs.Step.{root_ready, root_leaves}
 use Rattle.theory_sound.specs.Slot.{slot_shows}
 use Rattle.theory_tree.specs.Modify.{GivenModify, modify_tree, modify_made}
 use Rattle.theory_tree.specs.Walk.{seen}

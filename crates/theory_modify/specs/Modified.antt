@@ -18,8 +18,8 @@ use Rattle.modify.specs.Call.{Modifying, modifying}
 use Rattle.theory_forest.specs.Tree.{Tree}
 use Rattle.theory_sound.specs.Clauses.{SoundPool}
 use Rattle.theory_sound.specs.Codec.{shaped_placed, root_tree}
-use Rattle.theory_sound.specs.Hanging.{used_tree}
-use Rattle.theory_sound.specs.Step.{leaves-used}
+use Rattle.theory_sound.proofs.Hanging.{used_tree}
+use Rattle.theory_sound.proofs.Step.{leaves-used}
 use Rattle.theory_tree.specs.Walk.{Seen, mapped as seenMapped, hole as seenHole, seen}
 use Rattle.theory_tree.specs.Shown.{FineTable}
 use Rattle.theory_tree.specs.Demands.{modified as tree-modified, holes_stay, modify_others, modify_tables}

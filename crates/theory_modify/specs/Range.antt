@@ -22,7 +22,8 @@ use Rattle.modify_range.specs.Range.{Work, work, own, own_work, modify_range, do
 use Rattle.modify_range.specs.Range.{step-own, step-into}
 use Rattle.theory_forest.specs.Tree.{Tree, node, tree_at_node}
 use Rattle.theory_sound.specs.Codec.{Placed, child_of, slot_word, tree_from}
-use Rattle.theory_sound.specs.Step.{Ready, worked_ready}
+use Rattle.theory_sound.specs.Step.{Ready}
+use Rattle.theory_sound.proofs.Step.{worked_ready}
 use Rattle.theory_sound.specs.Slot.{slot_shows}
 use Rattle.theory_tree.specs.Chunks.{sweep, chunked_table}
 use Rattle.theory_tree.specs.Needed.{tallied, needed, needed_table}

@@ -18,7 +18,7 @@ use Rattle.pool.specs.declared.Refusal.{Refusal}
 use Rattle.pool.specs.declared.Outcome.{Outcome}
 use Rattle.pool.specs.declared.Outcome.TheVariants.{Accepted, Refused}
 use Rattle.region_verify.specs.Verify.{verify, RegionInSpan, verified_forwards, verified_span}
-use Rattle.theory_sound.specs.Decide.{decide_sound}
+use Rattle.theory_sound.proofs.Decide.{decide_sound}
 use Rattle.arm.specs.Arm.{at, away, says, reach}
 use Rattle.look_up.specs.Call.{answer, spanned, look_up_call}
 use Rattle.list_lines.specs.Lines.{Line, lines_of}

@@ -13,7 +13,8 @@ use Rattle.theory_forest.proofs.Under.{refers_child, refers_level}
 use Rattle.theory_forest.specs.Walk.{walk_tree}
 use Rattle.theory_sound.specs.Clauses.{InUse, level_at, SoundPool}
 use Rattle.theory_sound.specs.Codec.{shaped_placed, child_of, slot_word, word_in, root_tree}
-use Rattle.theory_sound.specs.Hanging.{root_used, root_left, Leads, table-leads, leads_refers}
+use Rattle.theory_sound.specs.Hanging.{Leads}
+use Rattle.theory_sound.proofs.Hanging.{root_used, root_left, table-leads, leads_refers}
 use Rattle.arm.specs.Arm.{index, table_address, away, says, reach, walk}
 use Rattle.arm.specs.Walk.{slot_below, table_address_lem}
 use Rattle.theory_walk.specs.Any.{slots_taken, reached_at, has_table, table_of, word, reach_reading}

@@ -23,8 +23,8 @@ use Rattle.theory_sound.proofs.Decide.{sound_decide}
 use Rattle.theory_sound.specs.Step.{Ready, Leaves}
 use Rattle.theory_sound.proofs.Step.{root_ready, root_leaves}
 use Rattle.theory_tree.specs.Rules.{Given}
-use Rattle.theory_tree.specs.Document.{document_is}
-use Rattle.theory_tree.specs.Needed.{document_needs}
+use Rattle.theory_tree.proofs.Document.{document_is}
+use Rattle.theory_tree.proofs.Needed.{document_needs}
 use Rattle.theory_tree.specs.Root.{map_tree, map_made}
 use Rattle.theory_map.specs.Terms.{MapArguments, map_answer, Maps, map_asked, MapPassed, depth_of, root_in, map_pages_of, tree_after_map}
 use Rattle.theory_map.specs.Terms.{made_by}

@@ -22,7 +22,7 @@ use Rattle.theory_sound.proofs.Step.{leaves-used}
 use Rattle.theory_walk.specs.AsBefore.{walk_of, mapped, hole, shown}
 use Rattle.theory_tree.specs.Shown.{FineTable}
 use Rattle.theory_tree.specs.Order.{Reorders, Each, Pairs, each_reorders, pairs_reorders, made_all}
-use Rattle.theory_tree.specs.Demands.{region-mapped, region_holes, others_as_before, tables_after, valid_map_frees_none}
+use Rattle.theory_tree.proofs.Demands.{region-mapped, region_holes, others_as_before, tables_after, valid_map_frees_none}
 use Rattle.theory_map.specs.Terms.{MapArguments, map_answer, Maps, map_asked, Asks, ShapedSound, MapPassed, InMapRegion, frame_for}
 use Rattle.theory_map.specs.Terms.{Valid, RegionsApart, InTurn, next, InSpan, depth_of, root_in, map_pages_of}
 use Rattle.theory_map.specs.Terms.{made_by, freed_by}

@@ -23,9 +23,10 @@ use Rattle.theory_tree.specs.Walk.{seen}
 use Rattle.theory_tree.specs.Shown.{FineTable}
 use Rattle.theory_tree.specs.Rules.{Given}
 use Rattle.theory_tree.specs.Commute.{Apart as ApartPages}
-use Rattle.theory_tree.specs.Order.{RoomFor, run, made_all, run_reorders, room_reorders, ValidMap, Each, Pairwise, Pairs, Reorders}
+use Rattle.theory_tree.specs.Order.{RoomFor, run, made_all, ValidMap, Each, Pairwise, Pairs, Reorders}
+use Rattle.theory_tree.proofs.Order.{run_reorders, room_reorders}
 use Rattle.theory_tree.specs.Order.{each_reorders}
-use Rattle.theory_tree.specs.Demands.{any_order_seen, enough_room}
+use Rattle.theory_tree.proofs.Demands.{any_order_seen, enough_room}
 use Rattle.theory_map.specs.Terms.{MapArguments, Maps, Asks, ShapedSound, MapPassed, Valid, RegionsApart, InTurn, none, next, InSpan}
 use Rattle.theory_map.specs.Terms.{depth_of, root_in, map_pages_of}
 use Rattle.theory_map.specs.Leaf.{root_fine}

@@ -33,7 +33,7 @@ use Rattle.theory_sound.proofs.Step.{root_ready, root_leaves}
 use Rattle.theory_sound.specs.Slot.{slot_shows}
 use Rattle.theory_tree.specs.Modify.{GivenModify, modify_tree, modify_made}
 use Rattle.theory_tree.specs.Walk.{seen}
-use Rattle.theory_tree.specs.DocumentModify.{document_modifies, document_modify_needs}
+use Rattle.theory_tree.proofs.DocumentModify.{document_modifies, document_modify_needs}
 use Rattle.theory_map.specs.Terms.{depth_of, root_in}
 use Rattle.theory_map.specs.Leaf.{slot_fine}
 use Rattle.theory_map.specs.Moves.{root_node}

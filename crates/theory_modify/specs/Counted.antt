@@ -35,9 +35,10 @@ use Rattle.theory_sound.specs.Step.{Ready}
 use Rattle.theory_sound.specs.Slot.{slot_shows}
 use Rattle.theory_tree.specs.Page.{child}
 use Rattle.theory_tree.specs.Word.{fill_word}
-use Rattle.theory_tree.specs.Visit.{fill_tree, opens_leaf, opens_node}
+use Rattle.theory_tree.specs.Visit.{fill_tree}
+use Rattle.theory_tree.proofs.Visit.{opens_leaf, opens_node}
 use Rattle.theory_tree.specs.Fine.{Fine}
-use Rattle.theory_tree.specs.Split.{fill_address}
+use Rattle.theory_tree.proofs.Split.{fill_address}
 use Rattle.theory_tree.specs.Needed.{slot_tree}
 use Rattle.theory_map.specs.Stand.{Piece}
 use Rattle.theory_map.specs.Pieces.{Area, slot_at, Pieces, pieces}

@@ -24,10 +24,14 @@ use Rattle.theory_tree.specs.Page.{pages_in, span-zero, child, slot_of_page, slo
 use Rattle.theory_tree.specs.Word.{frame_in}
 use Rattle.theory_tree.specs.Edit.{edited_frame, edited-bit, edited_plain}
 use Rattle.theory_tree.specs.Fine.{Fine}
-use Rattle.theory_tree.specs.Walk.{Seen, mapped, hole, seen_in, seen, seen_leaf, seen_node, seen_fine, fill_seen}
-use Rattle.theory_tree.specs.Shown.{FineTree, fine_fill_slots}
-use Rattle.theory_tree.specs.Visit.{opened, obey, opens_leaf, opens_node}
-use Rattle.theory_tree.specs.Slots.{fill_slot, fill_node, fill_slot_lem}
+use Rattle.theory_tree.specs.Walk.{Seen, mapped, hole, seen_in, seen, seen_leaf, seen_node, seen_fine}
+use Rattle.theory_tree.proofs.Walk.{fill_seen}
+use Rattle.theory_tree.specs.Shown.{FineTree}
+use Rattle.theory_tree.proofs.Shown.{fine_fill_slots}
+use Rattle.theory_tree.specs.Visit.{opened, obey}
+use Rattle.theory_tree.proofs.Visit.{opens_leaf, opens_node}
+use Rattle.theory_tree.specs.Slots.{fill_slot}
+use Rattle.theory_tree.proofs.Slots.{fill_node, fill_slot_lem}
 use Rattle.theory_tree.specs.Chunks.{at_slot, sweep, chunked, chunked_table, index_slot}
 use Rattle.theory_tree.specs.Needed.{slot_tree}
 use Rattle.theory_tree.specs.Modify.{edit_rule}

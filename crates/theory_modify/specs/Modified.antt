@@ -22,7 +22,7 @@ use Rattle.theory_sound.proofs.Hanging.{used_tree}
 use Rattle.theory_sound.proofs.Step.{leaves-used}
 use Rattle.theory_tree.specs.Walk.{Seen, mapped as seenMapped, hole as seenHole, seen}
 use Rattle.theory_tree.specs.Shown.{FineTable}
-use Rattle.theory_tree.specs.Demands.{modified as tree-modified, holes_stay, modify_others, modify_tables}
+use Rattle.theory_tree.proofs.Demands.{modified as tree-modified, holes_stay, modify_others, modify_tables}
 use Rattle.arm.specs.Arm.{at as ends_at}
 use Rattle.theory_walk.specs.AsBefore.{walk_of, Shown, mapped, hole, shown}
 use Rattle.theory_map.specs.Terms.{InSpan, depth_of, root_in}

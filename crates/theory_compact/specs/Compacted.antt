@@ -25,7 +25,7 @@ use Rattle.arm.specs.Arm.{bits, flags_in, says}
 use Rattle.arm.specs.Walk.{slot_below}
 use Rattle.theory_walk.specs.AsBefore.{walk_of, hole, shown}
 use Rattle.theory_walk.specs.Any.{slots_taken, reached_at}
-use Rattle.theory_walk.specs.Walked.{walk_of_tree}
+use Rattle.theory_walk.proofs.Walked.{walk_of_tree}
 use Rattle.compact_spec.specs.Call.{compacted, compact_call, call-compacted}
 use Rattle.theory_compact.specs.Empty.{not_all_zero}
 use Rattle.theory_compact.specs.Run.{table_worked}

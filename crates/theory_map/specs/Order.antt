@@ -18,7 +18,7 @@ use Rattle.theory_sound.proofs.Hanging.{used_tree}
 use Rattle.arm.specs.Arm.{says}
 use Rattle.theory_walk.specs.AsBefore.{walk_of, shown}
 use Rattle.theory_walk.specs.Any.{slots_taken, reached_at}
-use Rattle.theory_walk.specs.Walked.{walk_of_tree}
+use Rattle.theory_walk.proofs.Walked.{walk_of_tree}
 use Rattle.theory_tree.specs.Walk.{seen}
 use Rattle.theory_tree.specs.Shown.{FineTable}
 use Rattle.theory_tree.specs.Rules.{Given}

@@ -23,7 +23,7 @@ use Rattle.theory_sound.specs.Clauses.{SoundPool}
 use Rattle.theory_sound.specs.Codec.{shaped_placed, root_tree}
 use Rattle.arm.specs.Arm.{at}
 use Rattle.theory_walk.specs.Any.{slots_taken, reached_at}
-use Rattle.theory_walk.specs.Walked.{reach_tree}
+use Rattle.theory_walk.proofs.Walked.{reach_tree}
 use Rattle.theory_tree.specs.Page.{pages_in, span-size, first, slot_of_page, slot_lt, in_rest, entry_start}
 use Rattle.theory_map.specs.Terms.{depth_of, root_in}
 use Rattle.theory_map.specs.Leaf.{root_fine}

@@ -17,7 +17,8 @@ use Rattle.theory_sound.specs.Hanging.{Leads}
 use Rattle.theory_sound.proofs.Hanging.{root_used, root_left, table-leads, leads_refers}
 use Rattle.arm.specs.Arm.{index, table_address, away, says, reach, walk}
 use Rattle.arm.specs.Walk.{slot_below, table_address_lem}
-use Rattle.theory_walk.specs.Any.{slots_taken, reached_at, has_table, table_of, word, reach_reading}
+use Rattle.theory_walk.specs.Any.{slots_taken, reached_at, has_table, table_of}
+use Rattle.theory_walk.proofs.Any.{word, reach_reading}
 
 -- where the code finds a table, there the Arm walk goes on
 found_in : (base n : ℕ) {level x w c : ℕ} → x ≡ w → Found base n level w c → (has_table base n x ≡ true) × (table_of base x ≡ c)

@@ -23,7 +23,8 @@ use Rattle.list.specs.declared.Listed.TheVariants as listed
 use Rattle.map_spec.specs.Call.{map_call}
 use Rattle.theory_map.specs.Terms.{MapArguments, Maps, Valid, InMapRegion, frame_for, RegionsApart, InTurn, none, next, InSpan}
 use Rattle.theory_map.specs.Call.{call-leaves}
-use Rattle.theory_map.specs.Mapped.{map_keeps_sound, map_region_walks, map_elsewhere_as_before}
+use Rattle.theory_map.specs.Mapped.{map_keeps_sound}
+use Rattle.theory_map.proofs.Mapped.{map_region_walks, map_elsewhere_as_before}
 use Rattle.modify.specs.declared.Modified.TheVariants as modified
 use Rattle.modify.specs.Call.{Modifying, modify_call}
 use Rattle.theory_demands.specs.Slip.{MakeSlip, CheckSlip, LookUpSlip, ImageSlip, ListSlip, MapSlip, ModifySlip}

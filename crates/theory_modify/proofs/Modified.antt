@@ -33,14 +33,17 @@ use Rattle.theory_modify.specs.Terms.{ModifyArguments, modify_answer, Modifies, 
 use Rattle.theory_modify.specs.Terms.{flags_after, modify_pages_of, made_by_modify, numbers_of}
 use Rattle.theory_modify.specs.Numbers.{occurs, first_page}
 use Rattle.theory_modify.specs.Listed.{changes}
-use Rattle.theory_modify.specs.Call.{work_after, region_paged, given, splits-made, numbers-made, numbers-one, numbers_tell, call_full}
-use Rattle.theory_modify.specs.Call.{call_broken}
-use Rattle.theory_modify.specs.Call.{call_short, call-accepted, full_back}
-use Rattle.theory_modify.specs.Call.{broken_back, short_back, call_passed, Clear, call-clear, call-leaves}
-use Rattle.theory_modify.specs.Call.{call-answer, call_off, call_on}
+use Rattle.theory_modify.specs.Call.{work_after}
+use Rattle.theory_modify.proofs.Call.{region_paged, given, splits-made, numbers-made, numbers-one, numbers_tell, call_full}
+use Rattle.theory_modify.proofs.Call.{call_broken}
+use Rattle.theory_modify.proofs.Call.{call_short, call-accepted, full_back}
+use Rattle.theory_modify.specs.Call.{Clear}
+use Rattle.theory_modify.proofs.Call.{broken_back, short_back, call_passed, call-clear, call-leaves}
+use Rattle.theory_modify.proofs.Call.{call-answer, call_off, call_on}
 use Rattle.theory_modify.specs.House.{reach_of, ValidEntry, Covered, LowestBreach, Keeps, ModifyFits}
-use Rattle.theory_modify.specs.Lowest.{survey_lowest, survey_keeps, live_safe}
-use Rattle.theory_modify.specs.Change.{bit, house_bit, house_rule_bits}
+use Rattle.theory_modify.proofs.Lowest.{survey_lowest, survey_keeps, live_safe}
+use Rattle.theory_modify.specs.Change.{bit, house_bit}
+use Rattle.theory_modify.proofs.Change.{house_rule_bits}
 
 -- ---- what a walk shows, read back
 

@@ -33,7 +33,7 @@ use Rattle.theory_modify.specs.Terms.{tree_after_modify}
 use Rattle.theory_modify.specs.House.{reach_of, ValidEntry, Covered, Breaks, LowestBreach, Keeps}
 use Rattle.theory_modify.specs.Word.{valid-edited}
 use Rattle.theory_modify.specs.Asked.{asked_forwards}
-use Rattle.theory_modify.specs.Call.{area, region_paged, ready, call_passed, call-clear, call-leaves}
+use Rattle.theory_modify.proofs.Call.{area, region_paged, ready, call_passed, call-clear, call-leaves}
 use Rattle.theory_modify.specs.Found.{WithinPages, new_word, Broken, First, Finds, new_is, BreaksIn, survey_finds}
 use Rattle.theory_modify.specs.Stays.{modify_stays}
 

@@ -14,7 +14,8 @@ use Rattle.map_rules.specs.declared.Rule.{Rule}
 use Rattle.map_rules.specs.declared.Rule.TheVariants.{Write, Keep, Drop, Down}
 use Rattle.map_rules.specs.Rules.{rule_of}
 use Rattle.map_count_spec.specs.Needed.{if_down, need_below, need_chunk, need_table, sum_chunks}
-use Rattle.map_count_spec.specs.Closed.{start_of, end_of, closed_leaf, closed, closed_most}
+use Rattle.map_count_spec.specs.Closed.{start_of, end_of, closed_leaf, closed}
+use Rattle.map_count_spec.proofs.Closed.{closed_most}
 use Rattle.map_count_spec.specs.Ends.{leaf_open, Other, is_down, leaf_none, leaf_low}
 
 -- ---- count_over

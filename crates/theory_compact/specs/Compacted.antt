@@ -17,14 +17,15 @@ use Rattle.theory_forest.specs.CompactWalk.{compact_walk}
 use Rattle.theory_tree.specs.Compact.{Tight, emptied, compact_count, compact_tight}
 use Rattle.theory_sound.specs.Codec.{shaped_placed, root_tree}
 use Rattle.theory_sound.specs.Clauses.{InUse, SoundPool}
-use Rattle.theory_sound.specs.Decide.{sound_decide}
-use Rattle.theory_sound.specs.Hanging.{used_tree}
-use Rattle.theory_sound.specs.Step.{used_inside, root_ready, Leaves, root_leaves, leaves-used}
+use Rattle.theory_sound.proofs.Decide.{sound_decide}
+use Rattle.theory_sound.proofs.Hanging.{used_tree}
+use Rattle.theory_sound.specs.Step.{Leaves}
+use Rattle.theory_sound.proofs.Step.{used_inside, root_ready, root_leaves, leaves-used}
 use Rattle.arm.specs.Arm.{bits, flags_in, says}
 use Rattle.arm.specs.Walk.{slot_below}
 use Rattle.theory_walk.specs.AsBefore.{walk_of, hole, shown}
 use Rattle.theory_walk.specs.Any.{slots_taken, reached_at}
-use Rattle.theory_walk.specs.Walked.{walk_of_tree}
+use Rattle.theory_walk.proofs.Walked.{walk_of_tree}
 use Rattle.compact_spec.specs.Call.{compacted, compact_call, call-compacted}
 use Rattle.theory_compact.specs.Empty.{not_all_zero}
 use Rattle.theory_compact.specs.Run.{table_worked}

@@ -12,18 +12,23 @@ use Rattle.pool.specs.declared.Handle.{Handle}
 use Rattle.pool_table.specs.Table.{clear}
 use Rattle.theory_forest.specs.Tree.{Tree}
 use Rattle.theory_forest.specs.Sound.{Codec, Refers, Sound}
-use Rattle.theory_forest.specs.Under.{refers_over}
+use Rattle.theory_forest.proofs.Under.{refers_over}
 use Rattle.theory_forest.specs.Frame.{slot_tree}
-use Rattle.theory_forest.specs.Place.{below_self, over_refers}
-use Rattle.theory_forest.specs.Move.{Runs, work_skip, runs_zero, runs_suc, runs_work}
-use Rattle.theory_forest.specs.Compact.{squash, compact_tree, compact_leaf, compact_keep, compact_drop}
+use Rattle.theory_forest.specs.Place.{below_self}
+use Rattle.theory_forest.proofs.Place.{over_refers}
+use Rattle.theory_forest.specs.Move.{Runs}
+use Rattle.theory_forest.proofs.Move.{work_skip, runs_zero, runs_suc, runs_work}
+use Rattle.theory_forest.specs.Compact.{squash, compact_tree}
+use Rattle.theory_forest.proofs.Compact.{compact_leaf, compact_keep, compact_drop}
 use Rattle.theory_sound.specs.Codec.{Placed, codec_of, view, tree_from}
 use Rattle.theory_sound.specs.Clauses.{InUse, SoundPool}
-use Rattle.theory_sound.specs.Generic.{pool_sound}
+use Rattle.theory_sound.proofs.Generic.{pool_sound}
 use Rattle.theory_sound.specs.Lists.{TableInside, SameSize, size_refl, size_trans, store_size, clear-size}
-use Rattle.theory_sound.specs.Step.{not_table, used_inside, Ready, refers_ready, Step, Worked, pool_again, ready_again}
-use Rattle.theory_sound.specs.Slot.{HoldsLeaf, SlotHolds, holds_table, holds_leaf, holds}
-use Rattle.theory_sound.specs.Store.{cleared}
+use Rattle.theory_sound.specs.Step.{not_table, Ready, Step, Worked}
+use Rattle.theory_sound.proofs.Step.{used_inside, refers_ready, pool_again, ready_again}
+use Rattle.theory_sound.specs.Slot.{HoldsLeaf, SlotHolds, holds_table, holds_leaf}
+use Rattle.theory_sound.proofs.Slot.{holds}
+use Rattle.theory_sound.proofs.Store.{cleared}
 use Rattle.compact_spec.specs.Compact.{all_zero, table_words, release_empty, compact_entry, compact_table, release_kept, release_freed}
 use Rattle.compact_spec.specs.Compact.{entry-table, entry_leaf}
 use Rattle.theory_compact.specs.Empty.{empty_is}

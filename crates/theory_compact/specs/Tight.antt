@@ -8,17 +8,21 @@ use Rattle.pool.specs.State.{St, number_at}
 use Rattle.pool.specs.declared.Handle.{Handle}
 use Rattle.theory_forest.specs.Tree.{tree_at_node}
 use Rattle.theory_forest.specs.Sound.{State, Codec, Refers, Sound}
-use Rattle.theory_forest.specs.Under.{Under, LevelsLeft, under-zero, under_via, refers_level}
-use Rattle.theory_forest.specs.Hang.{root_not_hung}
-use Rattle.theory_forest.specs.Frame.{tree_of, slot_refers}
+use Rattle.theory_forest.specs.Under.{Under, LevelsLeft, under-zero}
+use Rattle.theory_forest.proofs.Under.{under_via, refers_level}
+use Rattle.theory_forest.proofs.Hang.{root_not_hung}
+use Rattle.theory_forest.specs.Frame.{tree_of}
+use Rattle.theory_forest.proofs.Frame.{slot_refers}
 use Rattle.theory_forest.specs.Compact.{empty_words, empty_tree, empty_tree_lem}
 use Rattle.theory_tree.specs.Compact.{Tight}
 use Rattle.theory_sound.specs.Codec.{Placed, codec_of, slot_word, view, root_tree}
 use Rattle.theory_sound.specs.Clauses.{InUse, SoundPool}
-use Rattle.theory_sound.specs.Generic.{pool_sound}
-use Rattle.theory_sound.specs.Hanging.{root_left, root_under}
-use Rattle.theory_sound.specs.Step.{used_inside, Ready, refers_ready}
-use Rattle.theory_sound.specs.Slot.{SlotHolds, holds_table, holds_leaf, holds}
+use Rattle.theory_sound.proofs.Generic.{pool_sound}
+use Rattle.theory_sound.proofs.Hanging.{root_left, root_under}
+use Rattle.theory_sound.specs.Step.{Ready}
+use Rattle.theory_sound.proofs.Step.{used_inside, refers_ready}
+use Rattle.theory_sound.specs.Slot.{SlotHolds, holds_table, holds_leaf}
+use Rattle.theory_sound.proofs.Slot.{holds}
 use Rattle.compact_spec.specs.Compact.{all_zero, table_words, release_empty, compact_entry, compact_table, release_kept}
 use Rattle.compact_spec.specs.Compact.{entry-table, entry_leaf}
 use Rattle.theory_compact.specs.Empty.{empty_is}

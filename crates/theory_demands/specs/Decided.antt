@@ -15,15 +15,14 @@ use Rattle.pool.specs.declared.Handle.{Handle}
 use Rattle.pool.specs.declared.VaRange.{VaRange}
 use Rattle.pool.specs.declared.VaRange.TheVariants.{Lower, Upper}
 use Rattle.pool.specs.declared.Refusal.{Refusal}
-use Rattle.pool.specs.declared.Refusal.TheVariants.{RegionBackwards, AddressRange, Frame}
+use Rattle.pool.specs.declared.Refusal.TheVariants.{RegionBackwards, AddressRange}
 use Rattle.pool.specs.declared.Outcome.TheVariants.{Accepted, Refused}
 use Rattle.theory_sound.specs.Clauses.{SoundPool}
-use Rattle.theory_sound.specs.Decide.{sound_exactly}
+use Rattle.theory_sound.proofs.Decide.{sound_exactly}
 use Rattle.region_verify.specs.Verify.{end_fits, in_range, verify, refused_never, lower_start, lower_end, lower_in, upper_start, upper_in}
 use Rattle.region_verify.specs.Verify.{verify_backwards, verify_forwards}
 use Rattle.look_up.specs.Call.{spanned}
-use Rattle.map_verify.specs.Verify.{frame_asked, frame_part, frame_past, frame_fits}
-use Rattle.theory_demands.specs.Slip.{Misshaped, BadEnd, OutsideSet, Backwards, BeyondRange, BeyondSpan, BadFrame}
+use Rattle.theory_demands.specs.Slip.{Misshaped, BadEnd, OutsideSet, Backwards, BeyondRange, BeyondSpan}
 
 -- 1
 pub misshaped : (h : Handle) (s : St) → shaped h s ≡ false → Misshaped h s
@@ -137,17 +136,3 @@ span-told Upper level va = ⊎_elim
     (λ l. inr (le-leb (2 ^ 64 - span level) va l, λ m. omega arith))
     (λ l. inl (lt-leb (2 ^ 64 - span level) va l, l))
     (le_or (2 ^ 64 - span level) va)
-
--- 7
-pub frame_told : (frame : ℕ) (r : MemoryRegion) → let length = r.end.0 - r.start.0 in
-    ((frame_asked frame length ≡ Refused (Frame (record { 0 = frame }))) × BadFrame frame r)
-    ⊎ ((frame_asked frame length ≡ Accepted) × (¬ (BadFrame frame r)))
-frame_told frame r =
-    let length = r.end.0 - r.start.0 in
-    ⊎_elim
-    (λ e. ⊎_elim
-    (λ l. inr (sym (frame_fits frame length e l), λ x. ⊎_elim (λ n. n e) (λ m. omega arith) x))
-    (λ l. inl (sym (frame_past frame length e l), inr l))
-    (le_or (frame + length) (2 ^ 48)))
-    (λ n. inl (sym (frame_part frame length n), inl n))
-    (eq_or (frame % 4096) 0)

@@ -1,7 +1,7 @@
 -- THE DEMANDS, each sentence a theorem about the definitions that the public contracts cite. Demand 1's tables are in `Slip`; demands 2 and
 -- 3 are said in the words of theory_map's `Terms` and proved in theory_map's `Mapped`: what stands here beside them is what follows.
-use Rattle.std.specs.Prelude.{◌≡◌, Bool, List, [], ◌∷◌, ◌≢◌, ◌↔◌, ℕ, ◌<◌}
-use Rattle.std.proofs.Common.{ap, ◌∙◌, inl, inr, ⊎_elim}
+use Rattle.std.specs.Prelude.{◌≡◌, List, [], ◌∷◌, ◌≢◌, ◌↔◌, ℕ, ◌<◌}
+use Rattle.std.proofs.Common.{◌∙◌}
 use Rattle.pool.specs.State.{St, tables, word_at, number_at}
 use Rattle.pool.specs.Refuse.{number}
 use Rattle.make.specs.Call.{make_call}
@@ -11,7 +11,8 @@ use Rattle.pool.specs.declared.Refusal.{Refusal}
 use Rattle.pool.specs.declared.Outcome.TheVariants as outcome
 use Rattle.pool.specs.declared.Counted.TheVariants as counted
 use Rattle.theory_sound.specs.Clauses.{InUse}
-use Rattle.theory_sound.specs.Hanging.{Follows, OneSlot, Leads, reach, one-path, refer_once, root_unreferred, free_unreferred}
+use Rattle.theory_sound.specs.Hanging.{Follows, OneSlot, Leads}
+use Rattle.theory_sound.proofs.Hanging.{reach, one-path, refer_once, root_unreferred, free_unreferred}
 use Rattle.checker.specs.Call.{check_call}
 use Rattle.compact_spec.specs.Call.{compact_call}
 use Rattle.look_up.specs.Call.{look_up_call}
@@ -19,16 +20,13 @@ use Rattle.look_up.specs.declared.Looked.TheVariants as looked
 use Rattle.theory_walk.specs.AsBefore.{walk_of, mapped, shown}
 use Rattle.list.specs.Call.{list_call}
 use Rattle.list.specs.declared.Listed.TheVariants as listed
-use Rattle.map_spec.specs.Call.{map_call}
 use Rattle.theory_map.specs.Terms.{MapArguments, Maps, Valid, InMapRegion, frame_for, RegionsApart, InTurn, none, next, InSpan}
 use Rattle.theory_map.specs.Call.{call-leaves}
-use Rattle.theory_map.specs.Mapped.{map_keeps_sound, map_region_walks, map_elsewhere_as_before}
-use Rattle.modify.specs.declared.Modified.TheVariants as modified
-use Rattle.modify.specs.Call.{Modifying, modify_call}
-use Rattle.theory_demands.specs.Slip.{MakeSlip, CheckSlip, LookUpSlip, ImageSlip, ListSlip, MapSlip, ModifySlip}
-use Rattle.theory_demands.specs.Told.{LowestGiven, Told, exactly}
-use Rattle.theory_demands.specs.Refused.{make_told, check_told, compact_told, look_up_told, image_told, list_told, map-told}
-use Rattle.theory_demands.specs.Modify.{modify_told}
+use Rattle.theory_map.specs.Mapped.{map_keeps_sound}
+use Rattle.theory_map.proofs.Mapped.{map_region_walks, map_elsewhere_as_before}
+use Rattle.theory_demands.specs.Slip.{MakeSlip, CheckSlip, LookUpSlip, ImageSlip, ListSlip}
+use Rattle.theory_demands.specs.Told.{LowestGiven, exactly}
+use Rattle.theory_demands.specs.Refused.{make_told, check_told, compact_told, look_up_told, image_told, list_told}
 
 -- ---- DEMAND 1: "it refuses by number, in a fixed order": refused n exactly when n is the lowest number on the call's slip
 
@@ -63,22 +61,6 @@ pub list_refused_exactly : (h : Handle) (s : St) (start end : ℕ) (list : List 
     → ((r : Refusal) × ((list_call h s start end list).answer ≡ listed.Refused r) × (number r ≡ n))
     ↔ ((r : Refusal) × LowestGiven (ListSlip h s start end list) r × (number r ≡ n))
 list_refused_exactly h s start end list n = exactly (list_told h s start end list) (λ r q e. cc e) n
-
-pub map_refused_exactly : (h : Handle) (s : St) (start end frame flags constraints n : ℕ)
-    → ((r : Refusal) × ((map_call h start end frame flags constraints s).answer ≡ counted.Refused r) × (number r ≡ n))
-    ↔ ((r : Refusal) × LowestGiven (MapSlip h s start end frame flags constraints) r × (number r ≡ n))
-map_refused_exactly h s start end frame flags constraints n = exactly (map-told h s start end frame flags constraints) (λ r q e. cc e) n
-
-module _ (h : Handle) (s : St) (start end set clear : ℕ) (live : Bool) (list : List ℕ) where
-  pub modify_refused_exactly : (n : ℕ)
-      → ((r : Refusal) × ((modify_call h start end set clear live s list).answer ≡ modified.Refused r) × (number r ≡ n))
-      ↔ ((r : Refusal) × LowestGiven (ModifySlip h s start end set clear live list) r × (number r ≡ n))
-  modify_refused_exactly n = exactly answered (λ r q e. cc e) n
-    where
-      answered : Told (ModifySlip h s start end set clear live list) modified.Refused (modify_call h start end set clear live s list).answer
-      answered =
-          ⊎_elim (λ t. inl (t.0, ap (λ (x : Modifying). x.answer) t.1, t.2)) (λ t. inr t)
-          (modify_told h s start end set clear live list)
 
 -- ---- DEMAND 2, after an accepted map: "each table in use hangs from the root exactly once"
 

@@ -6,7 +6,8 @@ use Rattle.address.specs.Address.{align_up}
 use Rattle.region.specs.Region.{rounded}
 use Rattle.pool.specs.State.{St}
 use Rattle.theory_map.specs.Terms.{MapArguments, Maps, RegionsApart, InTurn, none, next}
-use Rattle.theory_map.specs.Mapped.{EitherOrder, maps_commute}
+use Rattle.theory_map.specs.Mapped.{EitherOrder}
+use Rattle.theory_map.proofs.Mapped.{maps_commute}
 use Rattle.theory_modify.specs.Terms.{Modifies, modify_accepted}
 use Rattle.theory_case_rows.specs.Bench.{handle, fresh_row, word, pool_a, pool_aA, RowHolds, A, AA, quick}
 use Rattle.theory_case_rows.specs.Edited.{Sets, case_I}

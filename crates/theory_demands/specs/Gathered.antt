@@ -9,7 +9,7 @@ use Rattle.pool.specs.declared.Handle.{Handle}
 use Rattle.pool.specs.declared.Outcome.{Outcome}
 use Rattle.pool.specs.declared.Counted.TheVariants.{Tables}
 use Rattle.theory_sound.specs.Clauses.{InUse, SoundPool}
-use Rattle.theory_sound.specs.Made.{made_sound}
+use Rattle.theory_sound.proofs.Made.{made_sound}
 use Rattle.look_up.specs.Call.{answer, spanned, look_up_call, look_walks}
 use Rattle.theory_walk.specs.AsBefore.{walk_of, mapped, hole, shown}
 use Rattle.compact_spec.specs.Call.{compacted, compact_call}
@@ -18,9 +18,9 @@ use Rattle.theory_compact.specs.Compacted.{compact_again_answers}
 use Rattle.theory_compact.specs.Compacted.{compact_never_more_tables}
 use Rattle.theory_map.specs.Terms.{ShapedSound, InSpan}
 use Rattle.theory_modify.specs.Terms.{ModifyArguments, Modifies, InModifyRegion, flags_after, made_by_modify, numbers_of}
-use Rattle.theory_modify.specs.Modified.{modify_keeps_sound, modify_valid_pages, modify_cleared_pages, modify_holes_stay}
-use Rattle.theory_modify.specs.Modified.{modify_elsewhere_as_before, modify_tables_in_use}
-use Rattle.theory_modify.specs.Modified.{modify_list_untouched, modify_list_exactly}
+use Rattle.theory_modify.proofs.Modified.{modify_keeps_sound, modify_valid_pages, modify_cleared_pages, modify_holes_stay}
+use Rattle.theory_modify.proofs.Modified.{modify_elsewhere_as_before, modify_tables_in_use}
+use Rattle.theory_modify.proofs.Modified.{modify_list_untouched, modify_list_exactly}
 use Rattle.theory_demands.specs.Decided.{well_shaped}
 
 -- ---- make: "zeroes all words and the ledger, then enters the root"; the pool is sound

@@ -4,7 +4,6 @@ pub mod Told
 pub mod Decided
 pub mod Refused
 pub mod Unchanged
-pub mod Modify
 pub mod Demands
 pub mod ShutOut
 pub mod Gathered

@@ -1,10 +1,9 @@
 -- What the steps share: a word that may stand as a leaf, and what of a table must stay so that it still hangs.
 use Rattle.std.specs.Prelude.{◌≡◌, ◌⊎◌, ◌≢◌, ℕ, zero, suc, ◌+◌}
-use Rattle.std.proofs.Common.{ap, ◌∙◌, subst₂, inl, inr, arith}
+use Rattle.std.proofs.Common.{ap, ◌∙◌, inl, inr, arith}
 use Rattle.laws.specs.Test.{eq_or}
 use Rattle.theory_forest.specs.Tree.{leaf, entry, entry_low, entry_leaf}
-use Rattle.theory_forest.specs.Sound.{State, Codec, Used, TableWord, level_in, parent, slot_in, IsTable, Hangs, Refers}
-use Rattle.theory_forest.specs.Under.{hangs_refers, refers_table}
+use Rattle.theory_forest.specs.Sound.{State, Codec, TableWord}
 use Rattle.theory_forest.specs.Frame.{slot_tree}
 
 -- slot j of table k is slot i of table p
@@ -36,28 +35,3 @@ module _ (C : Codec) where
       go : (depth : ℕ) → l + depth ≡ 3 → entry C.child depth s.word v ≡ leaf v
       go zero low = entry_low C.child s.word v
       go (suc depth) low = entry_leaf C.child (suc depth) s.word v (λ both. plain (omega arith, both))
-
-module _ {C : Codec} {s : State} where
-  -- no table hangs in a slot that holds no table word
-  pub hangs_elsewhere : {k p i : ℕ} → ¬ (IsTable C s p i) → Used s k → Hangs C s k → ¬ (SameSlot (parent C s k) (slot_in C s k) p i)
-  hangs_elsewhere old used h e = old (subst₂ (IsTable C s) e.0 e.1 (refers_table (hangs_refers used h)))
-
-  -- a table still hangs if its number, the number of the table over it and the word in its slot stay
-  pub hangs_keep : (s' : State) {k : ℕ} → s'.ledger k ≡ s.ledger k → s'.ledger (parent C s k) ≡ s.ledger (parent C s k)
-      → s'.word (parent C s k) (slot_in C s k) ≡ s.word (parent C s k) (slot_in C s k) → Hangs C s k → Hangs C s' k
-  hangs_keep s' own over word h = record {
-    well = rw (own, over, parent) h.well;
-    used = rw (own, over, parent) h.used;
-    below = rw (own, over, level_in, parent) h.below;
-    refers = rw (own, word, parent, slot_in) h.refers;
-  }
-
-  pub refers_keep : (s' : State) {k i c : ℕ} → s'.ledger c ≡ s.ledger c → s'.ledger k ≡ s.ledger k → s'.word k i ≡ s.word k i
-      → Refers C s k i c → Refers C s' k i c
-  refers_keep s' own over word r = record {
-    says = word ∙ r.says;
-    used = rw own r.used;
-    from = rw (own, parent) r.from;
-    at = rw (own, slot_in) r.at;
-    hung = hangs_keep s' own (rw r.from over) (rw (r.from, r.at) word) r.hung;
-  }

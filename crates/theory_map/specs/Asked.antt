@@ -26,7 +26,7 @@ use Rattle.map_rules.specs.declared.Map.{Map}
 use Rattle.map_rules.specs.Fit.{Fit}
 use Rattle.map_verify.specs.Verify.{asked_map, frame_asked, verify_map, passes, only_plain, asked_fit, up_pages}
 use Rattle.theory_sound.specs.Clauses.{SoundPool}
-use Rattle.theory_sound.specs.Decide.{decide_sound}
+use Rattle.theory_sound.proofs.Decide.{decide_sound}
 use Rattle.theory_tree.specs.Page.{pages_in, span-size, span_suc, first, in_from}
 use Rattle.theory_tree.specs.Root.{upper_root, upper-span}
 use Rattle.theory_tree.specs.Chunks.{Inside}

@@ -19,11 +19,12 @@ use Rattle.map_put.specs.Put.{map_range}
 use Rattle.map_spec.specs.Call.{refused, map_sound, sound_not, sound_full, sound_mapped, put_down_lem, call_misshaped, call-refused, call-asked}
 use Rattle.theory_forest.specs.Tree.{Tree}
 use Rattle.theory_sound.specs.Codec.{shaped_placed, root_tree}
-use Rattle.theory_sound.specs.Decide.{sound_decide}
-use Rattle.theory_sound.specs.Step.{Ready, root_ready, Leaves, root_leaves}
+use Rattle.theory_sound.proofs.Decide.{sound_decide}
+use Rattle.theory_sound.specs.Step.{Ready, Leaves}
+use Rattle.theory_sound.proofs.Step.{root_ready, root_leaves}
 use Rattle.theory_tree.specs.Rules.{Given}
-use Rattle.theory_tree.specs.Document.{document_is}
-use Rattle.theory_tree.specs.Needed.{document_needs}
+use Rattle.theory_tree.proofs.Document.{document_is}
+use Rattle.theory_tree.proofs.Needed.{document_needs}
 use Rattle.theory_tree.specs.Root.{map_tree, map_made}
 use Rattle.theory_map.specs.Terms.{MapArguments, map_answer, Maps, map_asked, MapPassed, depth_of, root_in, map_pages_of, tree_after_map}
 use Rattle.theory_map.specs.Terms.{made_by}

@@ -24,7 +24,8 @@ use Rattle.theory_forest.specs.Sound.{Refers}
 use Rattle.theory_sound.specs.Clauses.{level_at}
 use Rattle.theory_sound.specs.Codec.{Placed, codec_of, view, tree_from}
 use Rattle.theory_sound.specs.Step.{Ready}
-use Rattle.theory_sound.specs.Slot.{slot_shows, HoldsLeaf, page_holds, SlotHolds, holds_table, holds_leaf, holds}
+use Rattle.theory_sound.specs.Slot.{slot_shows, HoldsLeaf, SlotHolds, holds_table, holds_leaf}
+use Rattle.theory_sound.proofs.Slot.{page_holds, holds}
 use Rattle.theory_tree.specs.Visit.{down as goDown, opened, splits, fill_tree}
 use Rattle.theory_tree.specs.Shown.{FineTree}
 use Rattle.theory_map.specs.Leaf.{slot_fine, holds_fine}

@@ -13,8 +13,10 @@ use Rattle.theory_forest.specs.Tree.{Tree, leaf, node, tree_at_node}
 use Rattle.theory_sound.specs.Alloc.{free_found}
 use Rattle.theory_sound.specs.Codec.{Placed, child_of, slot_word, tree_from}
 use Rattle.theory_sound.specs.Take.{take_is, take-free}
-use Rattle.theory_sound.specs.Step.{Ready, refers_ready}
-use Rattle.theory_sound.specs.Slot.{slot_shows, SlotHolds, holds_table, holds_leaf, holds}
+use Rattle.theory_sound.specs.Step.{Ready}
+use Rattle.theory_sound.proofs.Step.{refers_ready}
+use Rattle.theory_sound.specs.Slot.{slot_shows, SlotHolds, holds_table, holds_leaf}
+use Rattle.theory_sound.proofs.Slot.{holds}
 use Rattle.theory_tree.specs.Visit.{opened, splits, fill_tree}
 use Rattle.theory_map.specs.Moves.{StepWithin, WorkedWithin, entered, after, taken_ready, taken_shows, split}
 

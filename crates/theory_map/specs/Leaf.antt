@@ -13,8 +13,8 @@ use Rattle.theory_forest.specs.Tree.{tree_at_node}
 use Rattle.theory_forest.specs.Sound.{TableWord}
 use Rattle.theory_sound.specs.Clauses.{InUse, level_at, LeafWord, SoundPool}
 use Rattle.theory_sound.specs.Codec.{Placed, codec_of, child_of, slot_word, tree_from, root_tree}
-use Rattle.theory_sound.specs.Generic.{leaf_says, pool_sound}
-use Rattle.theory_sound.specs.Hanging.{root_used, root_left}
+use Rattle.theory_sound.proofs.Generic.{leaf_says, pool_sound}
+use Rattle.theory_sound.proofs.Hanging.{root_used, root_left}
 use Rattle.theory_sound.specs.Step.{Stands, Ready}
 use Rattle.theory_sound.specs.Slot.{slot_shows, HoldsLeaf}
 use Rattle.theory_tree.specs.Page.{pages_in, entry_rest}

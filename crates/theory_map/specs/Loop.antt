@@ -16,13 +16,14 @@ use Rattle.pool.specs.declared.Handle.{Handle}
 use Rattle.map_rules.specs.declared.Map.{Map}
 use Rattle.map_rules.specs.Rules.{chunk_map}
 use Rattle.theory_forest.specs.Tree.{Tree, node_ext, tree_at_node}
-use Rattle.theory_forest.specs.Frame.{change_slot}
-use Rattle.theory_forest.specs.Place.{at_over, over_trans}
-use Rattle.theory_forest.specs.Move.{work_skip}
+use Rattle.theory_forest.proofs.Frame.{change_slot}
+use Rattle.theory_forest.proofs.Place.{at_over, over_trans}
+use Rattle.theory_forest.proofs.Move.{work_skip}
 use Rattle.theory_sound.specs.Codec.{Placed, child_of, slot_word, view, tree_from}
-use Rattle.theory_sound.specs.Generic.{pool_sound}
+use Rattle.theory_sound.proofs.Generic.{pool_sound}
 use Rattle.theory_sound.specs.Lists.{size_refl, size_trans}
-use Rattle.theory_sound.specs.Step.{Ready, step_ready}
+use Rattle.theory_sound.specs.Step.{Ready}
+use Rattle.theory_sound.proofs.Step.{step_ready}
 use Rattle.theory_sound.specs.Slot.{slot_shows}
 use Rattle.theory_tree.specs.Page.{child}
 use Rattle.theory_tree.specs.Chunks.{at_slot, sweep, index_slot}

@@ -11,18 +11,21 @@ use Rattle.pool_table.specs.Table.{take_at, free_tree}
 use Rattle.map_rules.specs.Rules.{fill_of}
 use Rattle.theory_forest.specs.Tree.{Tree, leaf, node, tree_at_node}
 use Rattle.theory_forest.specs.Sound.{TableWord, IsTable, Refers}
-use Rattle.theory_forest.specs.Split.{Splits, SplitFits, new_tree}
-use Rattle.theory_forest.specs.Place.{over_trans}
-use Rattle.theory_forest.specs.Move.{move_skip, move_down, move_split, split_at}
+use Rattle.theory_forest.specs.Split.{Splits, SplitFits}
+use Rattle.theory_forest.proofs.Split.{new_tree}
+use Rattle.theory_forest.proofs.Place.{over_trans}
+use Rattle.theory_forest.proofs.Move.{move_skip, move_down, move_split, split_at}
 use Rattle.theory_sound.specs.Clauses.{level_at}
 use Rattle.theory_sound.specs.Codec.{Placed, shaped_placed, codec_of, child_of, slot_word, view, number_pos, tree_from, root_tree}
-use Rattle.theory_sound.specs.Generic.{pool_sound}
+use Rattle.theory_sound.proofs.Generic.{pool_sound}
 use Rattle.theory_sound.specs.Lists.{SameSize, size_refl, size_trans}
-use Rattle.theory_sound.specs.Step.{Stands, not_table, Ready, Step, Worked, pool_again, shaped_again}
+use Rattle.theory_sound.specs.Step.{Stands, not_table, Ready, Step, Worked}
+use Rattle.theory_sound.proofs.Step.{pool_again, shaped_again}
 use Rattle.theory_sound.specs.Slot.{slot_shows}
-use Rattle.theory_sound.specs.Store.{store_step}
-use Rattle.theory_sound.specs.Take.{take-free, take-splits, take_fit, take-size}
-use Rattle.theory_sound.specs.Free.{free_step, free-free}
+use Rattle.theory_sound.proofs.Store.{store_step}
+use Rattle.theory_sound.specs.Take.{take-free}
+use Rattle.theory_sound.proofs.Take.{take-splits, take_fit, take-size}
+use Rattle.theory_sound.proofs.Free.{free_step, free-free}
 use Rattle.theory_tree.specs.Fine.{Fine}
 use Rattle.theory_tree.specs.Visit.{fill_tree}
 use Rattle.theory_map.specs.Leaf.{leaf_fine, leaf_from}

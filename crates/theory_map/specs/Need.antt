@@ -21,12 +21,15 @@ use Rattle.map_count_spec.specs.Needed.{slot_below}
 use Rattle.theory_forest.specs.Tree.{Tree, leaf, node, tree_at_node}
 use Rattle.theory_forest.specs.Sound.{Refers}
 use Rattle.theory_sound.specs.Codec.{Placed, codec_of, child_of, slot_word, view, tree_from}
-use Rattle.theory_sound.specs.Step.{Ready, refers_ready}
-use Rattle.theory_sound.specs.Slot.{slot_shows, HoldsLeaf, SlotHolds, holds_table, holds_leaf, holds}
+use Rattle.theory_sound.specs.Step.{Ready}
+use Rattle.theory_sound.proofs.Step.{refers_ready}
+use Rattle.theory_sound.specs.Slot.{slot_shows, HoldsLeaf, SlotHolds, holds_table, holds_leaf}
+use Rattle.theory_sound.proofs.Slot.{holds}
 use Rattle.theory_tree.specs.Word.{fill_word}
-use Rattle.theory_tree.specs.Fine.{Fine, fine_fill}
+use Rattle.theory_tree.specs.Fine.{Fine}
+use Rattle.theory_tree.proofs.Fine.{fine_fill}
 use Rattle.theory_tree.specs.Visit.{keep, write, counted, fill_tree}
-use Rattle.theory_tree.specs.Slots.{fill_node, fill_slot_lem}
+use Rattle.theory_tree.proofs.Slots.{fill_node, fill_slot_lem}
 use Rattle.theory_tree.specs.Needed as trees
 use Rattle.theory_tree.specs.Document.{document_rule}
 use Rattle.theory_map.specs.Leaf.{holds_fine}

@@ -1,23 +1,19 @@
 -- Addresses of the call's region and of the root's span, in pages of the root's tree.
-use Rattle.std.specs.Prelude.{◌≡◌, true, ℕ, suc, ◌+◌, ◌*◌, ◌-◌, ◌/◌, ◌^◌, ◌≤◌, ◌<◌}
+use Rattle.std.specs.Prelude.{◌≡◌, true, ℕ, suc, ◌-◌, ◌/◌, ◌^◌, ◌≤◌, ◌<◌}
 use Rattle.std.proofs.Common.{ap, ◌∙◌, leb-true, ltb-true}
 use native.Mathlib.Omega.{arith}
-use Rattle.laws.specs.Size.{span, down}
-use Rattle.region.specs.Region.{rounded}
+use Rattle.laws.specs.Size.{span}
 use Rattle.region.specs.Chunks.{Holds}
 use Rattle.region.specs.declared.MemoryRegion.{MemoryRegion}
-use Rattle.pool.specs.State.{St}
 use Rattle.pool.specs.declared.Handle.{Handle}
 use Rattle.pool.specs.declared.VaRange.{VaRange}
 use Rattle.pool.specs.declared.VaRange.TheVariants.{Lower, Upper}
-use Rattle.map_verify.specs.Verify.{asked_map}
 use Rattle.look_up.specs.Call.{spanned}
 use Rattle.theory_tree.specs.Page.{pages_in, first, In, in_of}
 use Rattle.theory_tree.specs.Chunks.{Inside}
 use Rattle.theory_tree.specs.Root.{lower-span, upper-span}
 use Rattle.theory_tree.specs.Demands.{OfRegion}
-use Rattle.theory_map.specs.Terms.{MapArguments, MapPassed, InMapRegion, frame_for, InSpan, depth_of, root_of, root_in, map_pages_of}
-use Rattle.theory_map.specs.Call.{area}
+use Rattle.theory_map.specs.Terms.{InSpan, depth_of, root_of, root_in}
 
 -- ---- the pages of a region
 
@@ -36,22 +32,6 @@ paged h r I = record {
   spans = λ va at. in_of (suc (depth_of h)) (root_in h) (va / 4096) (omega (arith, I.low, at.from, I.start_page))
       (omega (arith, I.high, at.below, I.end_page));
 }
-
--- ---- the call's region
-
-module _ {h : Handle} {c : MapArguments} {s : St} (passed : MapPassed h c s) where
-  pub region_paged : Paged h (InMapRegion c) (map_pages_of c).from (map_pages_of c).upto
-  unfolding asked_map
-  region_paged = paged h (rounded c.start c.end) (area passed).inside
-
-  pub frame_is : (va : ℕ) → InMapRegion c va → ((map_pages_of c).frame + (va / 4096 - (map_pages_of c).from)) * 4096 ≡ frame_for c va
-  unfolding asked_map down
-  frame_is va at =
-      let I = (area passed).inside in
-      let a = I.start_page in
-      let b = I.frame_page in
-      let f = at.from in
-      omega arith
 
 -- ---- the root's span
 

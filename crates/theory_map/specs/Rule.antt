@@ -15,9 +15,10 @@ use Rattle.map_rules.specs.Laws.{fill_leaf}
 use Rattle.theory_forest.specs.Tree.{Tree, leaf, node, node_ext}
 use Rattle.theory_tree.specs.Word.{fill_word}
 use Rattle.theory_tree.specs.Visit.{Rule as Says, keep, write, down as goDown, fill_tree}
-use Rattle.theory_tree.specs.Slots.{fill_slot, fill_node, fill_slot_lem, fill_past}
+use Rattle.theory_tree.specs.Slots.{fill_slot}
+use Rattle.theory_tree.proofs.Slots.{fill_node, fill_slot_lem, fill_past}
 use Rattle.theory_tree.specs.Document.{already, document_rule}
-use Rattle.theory_tree.specs.Split.{fill_address}
+use Rattle.theory_tree.proofs.Split.{fill_address}
 
 -- rule 2's test by either name
 already_is : (level : ℕ) (m : Map) (w : ℕ) → w % 4 ≢ 3 → rule2 level m w ≡ already level m.region m.frame.0 m.flags w

@@ -17,7 +17,7 @@ use Rattle.arm.specs.Arm.{frame_of, flags_in, at, says}
 use Rattle.arm.specs.Walk.{index_is, flags_is, frame_is, says_hole, says_block, says_page}
 use Rattle.theory_walk.specs.AsBefore.{walk_of, Shown, mapped, hole, shown}
 use Rattle.theory_walk.specs.Any.{slots_taken, reached_at}
-use Rattle.theory_walk.specs.Walked.{walk_of_tree}
+use Rattle.theory_walk.proofs.Walked.{walk_of_tree}
 use Rattle.theory_tree.specs.Page.{pages_in, entry-number, entry_rest, slot_of_page, slot_lt}
 use Rattle.theory_tree.specs.Word.{frame_in, address_frame}
 use Rattle.theory_tree.specs.Fine.{Fine}

@@ -17,13 +17,15 @@ use Rattle.theory_forest.specs.Tree.{Tree, leaf, node}
 use Rattle.theory_sound.specs.Step.{Stands}
 use Rattle.theory_tree.specs.Page.{pages_in, first}
 use Rattle.theory_tree.specs.Word.{fill_word, plain_flags_lem, flags_shown, leaf_hole, leaf_plain}
-use Rattle.theory_tree.specs.Fine.{Fine, fill_flags, fill_is, fill_below, fine_fill}
+use Rattle.theory_tree.specs.Fine.{Fine}
+use Rattle.theory_tree.proofs.Fine.{fill_flags, fill_is, fill_below, fine_fill}
 use Rattle.theory_tree.specs.Visit.{keep, write, down as goDown}
 use Rattle.theory_tree.specs.Shown.{FineTree, Good}
 use Rattle.theory_tree.specs.Rules.{Given}
-use Rattle.theory_tree.specs.After.{map_shows}
+use Rattle.theory_tree.proofs.After.{map_shows}
 use Rattle.theory_tree.specs.Chunks.{in_pages, Inside}
-use Rattle.theory_tree.specs.Document.{already, word_frames, document_rule, document_says}
+use Rattle.theory_tree.specs.Document.{already, word_frames, document_rule}
+use Rattle.theory_tree.proofs.Document.{document_says}
 use Rattle.theory_map.specs.Leaf.{fine_stands}
 use Rattle.theory_map.specs.Rule.{says_of}
 

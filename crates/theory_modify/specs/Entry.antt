@@ -18,8 +18,10 @@ use Rattle.modify_survey.specs.Survey.{survey_entry, survey_sub, survey_chunk}
 use Rattle.modify_range.specs.Range.{own, own-table, own_leaf}
 use Rattle.theory_forest.specs.Tree.{Tree, leaf, node, tree_at_node}
 use Rattle.theory_sound.specs.Codec.{Placed, child_of, slot_word, tree_from}
-use Rattle.theory_sound.specs.Step.{Ready, refers_ready}
-use Rattle.theory_sound.specs.Slot.{slot_shows, HoldsLeaf, SlotHolds, holds_table, holds_leaf, page_holds, holds}
+use Rattle.theory_sound.specs.Step.{Ready}
+use Rattle.theory_sound.proofs.Step.{refers_ready}
+use Rattle.theory_sound.specs.Slot.{slot_shows, HoldsLeaf, SlotHolds, holds_table, holds_leaf}
+use Rattle.theory_sound.proofs.Slot.{page_holds, holds}
 use Rattle.theory_tree.specs.Fine.{Fine}
 use Rattle.theory_map.specs.Leaf.{holds_fine}
 use Rattle.theory_modify.specs.Word.{table_stays, hole_stays, valid-edited}

@@ -13,7 +13,8 @@ use Rattle.region.specs.declared.MemoryRegion.{MemoryRegion}
 use Rattle.map_rules.specs.declared.Map.{Map}
 use Rattle.theory_forest.specs.Tree.{Tree, leaf, node}
 use Rattle.theory_tree.specs.Visit.{opened}
-use Rattle.theory_tree.specs.Slots.{fill_slot, fill_node}
+use Rattle.theory_tree.specs.Slots.{fill_slot}
+use Rattle.theory_tree.proofs.Slots.{fill_node}
 use Rattle.theory_tree.specs.Chunks.{at_slot, sweep, chunked_table, index_slot}
 use Rattle.theory_tree.specs.Needed.{slot_tree}
 use Rattle.theory_tree.specs.DocumentModify.{document_modify}

@@ -22,7 +22,4 @@ pub mod Call
 -- the house rule
 pub mod Found
 pub mod Stays
-pub mod Lowest
 pub mod Change
--- what follows
-pub mod Modified

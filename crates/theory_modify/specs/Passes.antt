@@ -14,7 +14,8 @@ use Rattle.region.specs.declared.MemoryRegion.{MemoryRegion}
 use Rattle.map_rules.specs.declared.Map.{Map}
 use Rattle.theory_forest.specs.Tree.{Tree, leaf, node, node_ext}
 use Rattle.theory_tree.specs.Visit.{fill_tree, opened, splits, obey, counted}
-use Rattle.theory_tree.specs.Slots.{fill_slot, fill_node}
+use Rattle.theory_tree.specs.Slots.{fill_slot}
+use Rattle.theory_tree.proofs.Slots.{fill_node}
 use Rattle.theory_tree.specs.Chunks.{at_slot, sweep, chunked, chunked_table, index_slot}
 use Rattle.theory_tree.specs.Needed.{needed, needed_table}
 use Rattle.theory_tree.specs.Modify.{edit_rule}

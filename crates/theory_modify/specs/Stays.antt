@@ -8,7 +8,8 @@ use Rattle.entry.specs.Word.{valid, edited}
 use Rattle.theory_forest.specs.Tree.{Tree, leaf, node, each_slot}
 use Rattle.theory_forest.specs.Walk.{Ends, walk_tree}
 use Rattle.theory_tree.specs.Page.{pages_in, first, child, slot_of_page, slot_lt, In, in_from, in_rest, in_child}
-use Rattle.theory_tree.specs.Visit.{Rule, write, down, visit, visit_table, visit_write, visit-down, opens_node}
+use Rattle.theory_tree.specs.Visit.{Rule, write, down, visit, visit_table}
+use Rattle.theory_tree.proofs.Visit.{visit_write, visit-down, opens_node}
 use Rattle.theory_tree.specs.Shown.{FineTree, FineTable}
 use Rattle.theory_tree.specs.Rules.{Map, meets, whole, yes_meets}
 use Rattle.theory_tree.specs.Modify.{Modify, pages_of, edit_rule, modify_rule, modify_tree}

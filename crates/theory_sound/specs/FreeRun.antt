@@ -10,8 +10,9 @@ use Rattle.pool.specs.Refuse.{Shaped}
 use Rattle.pool_table.specs.Table.{clear, free_slot, free_tree, slot_table, slot_leaf}
 use Rattle.pool.specs.declared.Handle.{Handle}
 use Rattle.theory_forest.specs.Sound.{Codec, Refers, Sound}
-use Rattle.theory_forest.specs.Under.{Under, NotUnder, LevelsLeft, under_self, under-zero, under_via, refers_level, refers_table}
-use Rattle.theory_forest.specs.Under.{refers_child, refers_under, refers_over, refers_one}
+use Rattle.theory_forest.specs.Under.{Under, NotUnder, LevelsLeft, under_self, under-zero}
+use Rattle.theory_forest.proofs.Under.{under_via, refers_level, refers_table}
+use Rattle.theory_forest.proofs.Under.{refers_child, refers_under, refers_over, refers_one}
 use Rattle.theory_sound.specs.Codec.{shaped_placed, codec_of, slot_word, view, word_in}
 use Rattle.theory_sound.specs.Clauses.{InUse, level_at}
 use Rattle.theory_sound.specs.Lists.{TableInside, SameSize, size_refl, size_trans, clear-size, clear-number, clear_number_other}

@@ -4,8 +4,10 @@ use Rattle.std.proofs.Common.{sym, subst, inl, inr, arith}
 use Rattle.laws.specs.Test.{eq_or}
 use Rattle.theory_forest.specs.Tree.{tree_at_node}
 use Rattle.theory_forest.specs.Sound.{State, Codec, Used, level_in, IsTable, Refers, Sound}
-use Rattle.theory_forest.specs.Under.{LevelsLeft, refers_level}
-use Rattle.theory_forest.specs.Frame.{tree_of, slot_tree, slot_refers}
+use Rattle.theory_forest.specs.Under.{LevelsLeft}
+use Rattle.theory_forest.proofs.Under.{refers_level}
+use Rattle.theory_forest.specs.Frame.{tree_of, slot_tree}
+use Rattle.theory_forest.proofs.Frame.{slot_refers}
 use Rattle.theory_forest.specs.Keep.{slot_leaf}
 use Rattle.theory_tree.specs.Fine.{Fine}
 use Rattle.theory_tree.specs.Shown.{FineTree, FineTable, table_fine}

@@ -24,7 +24,6 @@ pub mod Chunks
 pub mod Sweep
 pub mod Document
 pub mod Needed
-pub mod Split
 -- modify and compact
 pub mod Edit
 pub mod Modify

@@ -1,24 +1,21 @@
 -- Modify on trees (document 01, "Putting down a map", Modify): valid blocks and pages of the region get their flags edited, a table's word
 -- never; a partly covered entry is split first, hole or not.
 use Rattle.std.specs.Prelude.{◌≡◌, true, cond}
-use Rattle.std.proofs.Math.Path.{refl, ap}
+use Rattle.std.proofs.Math.Path.{ap}
 use Rattle.std.proofs.Common.{sym, ◌∙◌}
 use Rattle.std.proofs.Math.Bool.{false}
-use Prim.Native.Nat.{ℕ, zero, suc, ◌+◌}
+use Prim.Native.Nat.{ℕ, zero, suc}
 use native.Mathlib.Omega.{arith}
 use Rattle.laws.specs.Test.{by_bool}
 use Rattle.entry.specs.Word.{valid, Plain, edited}
 use Rattle.theory_forest.specs.Tree.{Tree, leaf, node}
-use Rattle.theory_forest.specs.Nodes.{nodes}
 use Rattle.theory_tree.specs.Page.{span-zero, first, In, in_from}
 use Rattle.theory_tree.specs.Fine.{Fine}
 use Rattle.theory_tree.specs.Walk.{Seen, mapped, hole, seen, seen_in, seen_leaf, seen_fine}
-use Rattle.theory_tree.specs.Visit.{Rule, keep, write, down, no_write, visit_table, made_table}
-use Rattle.theory_tree.specs.Count.{table-count, table_frees_none}
-use Rattle.theory_tree.specs.Shown.{FineTree, FineTable, Good, Right, Shows, seen-table}
+use Rattle.theory_tree.specs.Visit.{Rule, keep, write, down, visit_table, made_table}
+use Rattle.theory_tree.specs.Shown.{FineTree, Good, Right, Shows}
 use Rattle.theory_tree.specs.Rules.{Map, meets, whole, page_in}
 use Rattle.theory_tree.specs.After.{covers, yes_covers, off_out, whole_in}
-use Rattle.theory_tree.specs.Local.{Agree, Local, agree_meets, agree_whole}
 use Rattle.theory_tree.specs.Edit.{edited_frame, edited_plain, edited-valid, fine_edited}
 
 -- a call of modify: the pages from `from` up to `upto`, the bits to set and to clear
@@ -55,31 +52,6 @@ module _ (set clear : ℕ) where
 
   unfoldable pub after_modify : Map → ℕ → Seen → Seen
   after_modify m page old = cond (covers m page) (changed old) old
-
-  -- ---- the rule looks at an entry's own part of the region alone
-
-  modify_off : (m : Map) (depth b : ℕ) (t : Tree) → meets depth b m ≡ false → modify_rule m depth b t ≡ keep
-  unfolding modify_rule
-  modify_off m zero b (leaf w) e = rw e
-  modify_off m zero b (node f) e = refl
-  modify_off m (suc depth) b (leaf w) e = rw e
-  modify_off m (suc depth) b (node f) e = rw e
-
-  modify_agree : (m n : Map) (depth b : ℕ) (t : Tree) → Agree depth b m n → modify_rule m depth b t ≡ modify_rule n depth b t
-  unfolding modify_rule
-  modify_agree m n zero b (leaf w) a = rw (agree_meets zero b m n a)
-  modify_agree m n zero b (node f) a = refl
-  modify_agree m n (suc depth) b (leaf w) a = rw (agree_meets (suc depth) b m n a, agree_whole (suc depth) b m n a)
-  modify_agree m n (suc depth) b (node f) a = rw (agree_meets (suc depth) b m n a)
-
-  pub modify_local : Local modify_rule
-  modify_local = record { off = modify_off; agree = modify_agree }
-
-  -- a modify never writes over a table
-  modify_keeps_table : (m : Map) (depth b : ℕ) (f : ℕ → Tree) (x : ℕ) → modify_rule m depth b (node f) ≡ write x → ⊥
-  unfolding modify_rule
-  modify_keeps_table m zero b f x e = no_write false x e
-  modify_keeps_table m (suc depth) b f x e = no_write (meets (suc depth) b m) x e
 
   -- ---- what is written, and what is seen
 
@@ -166,20 +138,3 @@ module _ (depth r : ℕ) where
   -- the tables that it takes
   unfoldable pub modify_made : Modify → Tree → ℕ
   modify_made e t = made_table (modify_rule e.set e.clear (pages_of e)) depth r t
-
-  pub modify_seen : (e : Modify) → GivenModify e → (t : Tree) → FineTable depth t → (page : ℕ) → In (suc depth) r page
-      → seen (suc depth) (modify_tree e t) page ≡ after_modify e.set e.clear (pages_of e) page (seen (suc depth) t page)
-  unfolding modify_tree
-  modify_seen e G t fine page at = seen-table (modify_shows e.set e.clear G.set G.clear (pages_of e)) depth r t page fine at
-
-  -- a modify frees nothing
-  pub modify_count : (e : Modify) (t : Tree) → nodes (modify_tree e t) ≡ nodes t + modify_made e t
-  unfolding modify_tree modify_made
-  modify_count e t =
-      let rule : ℕ → ℕ → Tree → Rule = modify_rule e.set e.clear (pages_of e) in
-      omega (
-        arith,
-        table-count rule depth r t,
-        table_frees_none rule
-            (λ k b f x. modify_keeps_table e.set e.clear (pages_of e) k b f x) depth r t,
-      )

@@ -4,7 +4,6 @@ use Rattle.std.proofs.Common.{lt-ltb, le-ltb, ltb-true}
 use Rattle.laws.specs.Test.{by_bool}
 use Rattle.theory_forest.specs.Tree.{Tree, leaf, node, node_ext, each_slot}
 use Rattle.theory_tree.specs.Word.{fill_word}
-use Rattle.theory_tree.specs.Visit.{fill_tree}
 
 -- the slot i after h is done to each
 unfoldable pub slot_after : (ℕ → Tree → Tree) → (ℕ → Tree) → ℕ → Tree
@@ -47,15 +46,3 @@ each_both h g (node f) = node_ext (λ i. by_bool (ltb i 512) (λ e. rw e) (λ e.
 
 unfoldable pub fill_slot : ℕ → ℕ → ℕ → Tree
 fill_slot depth w i = cond (ltb i 512) (leaf (fill_word depth w i)) (leaf 0)
-
-pub fill_node : (depth w : ℕ) → fill_tree depth w ≡ node (fill_slot depth w)
-unfolding fill_tree fill_slot
-fill_node depth w = refl
-
-pub fill_slot_lem : (depth w i : ℕ) → i < 512 → fill_slot depth w i ≡ leaf (fill_word depth w i)
-unfolding fill_slot
-fill_slot_lem depth w i l = rw (lt-ltb i 512 l)
-
-pub fill_past : (depth w i : ℕ) → 512 ≤ i → fill_slot depth w i ≡ leaf 0
-unfolding fill_slot
-fill_past depth w i l = rw (le-ltb i 512 l)

@@ -1,6 +1,6 @@
 -- A visit of a tree: a rule says for each entry that it meets whether the entry is kept, written, or gone down into, where a split comes
 -- first if there is no table. Map and modify are visits.
-use Rattle.std.specs.Prelude.{◌≡◌, refl, Bool, true, false, cond, ltb}
+use Rattle.std.specs.Prelude.{◌≡◌, Bool, true, false, cond, ltb}
 use Prim.Native.Nat.{ℕ, zero, suc, ◌+◌}
 use Rattle.std.proofs.Common.{arith}
 use Rattle.laws.specs.Sum.{sum}
@@ -30,14 +30,6 @@ fill_tree depth w = node (λ i. cond (ltb i 512) (leaf (fill_word depth w i)) (l
 unfoldable pub opened : ℕ → Tree → Tree
 opened depth (leaf w) = fill_tree depth w
 opened depth (node f) = node f
-
-pub opens_leaf : (depth w : ℕ) → opened depth (leaf w) ≡ fill_tree depth w
-unfolding opened
-opens_leaf depth w = refl
-
-pub opens_node : (depth : ℕ) (f : ℕ → Tree) → opened depth (node f) ≡ node f
-unfolding opened
-opens_node depth f = refl
 
 -- the tables that opening makes
 unfoldable pub splits : Tree → ℕ
@@ -96,20 +88,3 @@ module _ (rule : ℕ → ℕ → Tree → Rule) where
 
   unfoldable pub freed_table : ℕ → ℕ → Tree → ℕ
   freed_table depth q t = total (λ i u. freed depth (child q i) u) t
-
-  -- ---- by the rule's word
-
-  pub visit_keep : (depth q : ℕ) (t : Tree) → rule depth (first depth q) t ≡ keep → visit depth q t ≡ t
-  unfolding visit obey
-  visit_keep zero q t e = rw e
-  visit_keep (suc depth) q t e = rw e
-
-  pub visit_write : (depth q : ℕ) (t : Tree) (x : ℕ) → rule depth (first depth q) t ≡ write x → visit depth q t ≡ leaf x
-  unfolding visit obey
-  visit_write zero q t x e = rw e
-  visit_write (suc depth) q t x e = rw e
-
-  pub visit-down : (depth q : ℕ) (t : Tree) → rule (suc depth) (first (suc depth) q) t ≡ down
-      → visit (suc depth) q t ≡ visit_table depth q (opened depth t)
-  unfolding visit obey visit_table
-  visit-down depth q t e = rw e

@@ -2,17 +2,17 @@
 -- word where it ends read at its level.
 use Rattle.std.specs.Prelude.{◌≡◌, refl, Bool, true, false, cond, ◌⊎◌, ◌≢◌, ℕ, zero, suc, ◌+◌, ◌*◌, ◌-◌, ◌/◌, ◌%◌, ◌^◌, ◌<◌}
 use Rattle.std.proofs.Common.{sym, ap, ◌∙◌, inl, inr, div-add-mod', arith}
-use Rattle.laws.specs.Test.{by_bool, eq_or}
-use Rattle.entry.specs.Word.{kind_of, flags_of, kind_page, kind_block, kind_clear, valid, plain_flags, Plain, flags_valid, valid_of}
+use Rattle.laws.specs.Test.{eq_or}
+use Rattle.entry.specs.Word.{kind_of, kind_page, kind_block, kind_clear, valid, plain_flags, Plain, valid_of}
 use Rattle.entry.specs.Word.{valid_none}
 use Rattle.entry.specs.declared.Kind.{Kind}
 use Rattle.entry.specs.declared.Kind.TheVariants.{Table, Block, Page, Hole}
 use Rattle.theory_forest.specs.Tree.{Tree, leaf, node}
 use Rattle.theory_forest.specs.Walk.{walk_tree}
-use Rattle.theory_tree.specs.Page.{pages_in, slot_of_page, slot_lt, rest_child}
-use Rattle.theory_tree.specs.Word.{frame_in, leaf_word_of, fill_word, flags_shown, plain_flags_lem, leaf_hole, leaf_frame, leaf_plain}
+use Rattle.theory_tree.specs.Page.{pages_in, slot_of_page}
+use Rattle.theory_tree.specs.Word.{frame_in, leaf_word_of, flags_shown, leaf_frame, leaf_plain}
 use Rattle.theory_tree.specs.Word.{leaf_true}
-use Rattle.theory_tree.specs.Fine.{Fine, fine_flags, fine_leaf, fine_low, fill_flags, fill_is, fill_below, fill_aligned}
+use Rattle.theory_tree.specs.Fine.{Fine, fine_flags, fine_leaf}
 
 -- what a page shows, which is what "as before" compares: flags without bit 1 and frame (its address / 4096), or a hole with its flags
 pub data Seen : Type 0 where
@@ -101,23 +101,3 @@ seen_leaf_word depth p f page F below at low v =
 -- flags alone are seen as a hole
 pub seen_flags : (depth f page : ℕ) → Plain f → valid f ≡ false → seen_in depth f page ≡ hole f
 seen_flags depth f page F v = seen_fine depth f page (fine_flags depth f F v) ∙ rw (v, flags_shown f F)
-
--- a split is not seen
-pub fill_seen : (depth w page : ℕ) → Fine (suc depth) w
-    → seen_in depth (fill_word depth w (slot_of_page page depth)) page ≡ seen_in (suc depth) w page
-fill_seen depth w page fine =
-    let i : ℕ = slot_of_page page depth in
-    let F = fill_flags depth w fine in
-    let sum : frame_in w + i * pages_in depth + page % pages_in depth ≡ frame_in w + page % pages_in (suc depth) =
-    omega (arith, rest_child page depth) in
-    let clear = plain_flags_lem w (fine.clear (omega arith)) in
-    ap (λ (x : ℕ). seen_in depth x page) (fill_is depth w fine i)
-    ∙ by_bool (valid w)
-    (λ v. seen_leaf_word depth (frame_in w + i * pages_in depth) (flags_of w) page F (fill_below depth w fine i (slot_lt page depth) v)
-    (fill_aligned depth w fine i) (let l = fine_low depth w fine v in omega arith) (flags_valid w ∙ v)
-    ∙ ap (mapped (flags_of w)) sum
-    ∙ sym (seen_fine (suc depth) w page fine ∙ rw (v, clear)))
-    (λ v. let o = flags_valid w ∙ v in
-    ap (λ (x : ℕ). seen_in depth x page) (leaf_hole (flags_of w) F depth (frame_in w + i * pages_in depth) o)
-    ∙ seen_flags depth (flags_of w) page F o
-    ∙ sym (seen_fine (suc depth) w page fine ∙ rw (v, clear)))

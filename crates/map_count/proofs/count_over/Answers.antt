@@ -3,7 +3,7 @@ use mathlib.Core.Path.{◌∙◌}
 use Prim.Native.Nat.{◌-◌}
 use native.Mathlib.Omega.{arith}
 use Rattle.pool.specs.State.{st}
-use Rattle.map_count_spec.specs.Closed.{closed-met}
+use Rattle.map_count_spec.proofs.Closed.{closed-met}
 use Rattle.map_count.specs.Laws.{over_none, over_some}
 use Rattle.map_count.proofs.count_over.Goals as goal
 

@@ -10,7 +10,7 @@ use Rattle.map_rules.specs.declared.Map.{Map}
 use Rattle.map_count_spec.specs.Needed.{needed}
 use Rattle.map_count_spec.specs.Closed.{closed}
 use Rattle.map_count.specs.Laws.{over_past, over_within}
-use Rattle.map_count_spec.specs.SoundCount.{closed-needed}
+use Rattle.map_count_spec.proofs.SoundCount.{closed-needed}
 use Rattle.map_spec.specs.Call.{sound_not, sound_full, sound_mapped}
 use Rattle.map_room.proofs.map_sound.Goals.{In-At}
 use Rattle.map_room.proofs.map_sound.Goals as goal

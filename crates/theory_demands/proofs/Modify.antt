@@ -33,7 +33,7 @@ use Rattle.modify.specs.Call.{sound_edited, call_misshaped, call-refused}
 use Rattle.modify.specs.Call.{call-asked}
 use Rattle.theory_modify.specs.Terms.{ModifyArguments, ModifyPassed}
 use Rattle.theory_modify.specs.House.{LowestBreach}
-use Rattle.theory_modify.specs.Modified.{house_rule_lowest}
+use Rattle.theory_modify.proofs.Modified.{house_rule_lowest}
 use Rattle.theory_demands.specs.Slip.{BadEnd, HasBit1, OutsideSet, Backwards, BeyondRange, BadBit, BadToSet, BadFlags}
 use Rattle.theory_demands.specs.Slip.{ModifySlip}
 use Rattle.theory_demands.specs.Told.{NoneBelow, LowestGiven, number_range, shape_lowest, none_first, none_next}

@@ -17,7 +17,7 @@ use Rattle.checker_ledger.specs.Hang.{hangs_to, hangs_of}
 use Rattle.pool.specs.declared.Handle.{Handle}
 use Rattle.theory_forest.specs.Sound.{TableWord}
 use Rattle.theory_sound.specs.Clauses.{InUse, level_at, HangsIn, LinksTo, LeafWord, SoundPool}
-use Rattle.theory_sound.specs.Generic.{leaf_says, says_leaf, slot_names, slot_parent, slot_slot, names_slot}
+use Rattle.theory_sound.proofs.Generic.{leaf_says, says_leaf, slot_names, slot_parent, slot_slot, names_slot}
 
 -- ---- the tests, one by one, both ways
 

@@ -18,11 +18,11 @@ use Rattle.modify.specs.Call.{Modifying, modifying}
 use Rattle.theory_forest.specs.Tree.{Tree}
 use Rattle.theory_sound.specs.Clauses.{SoundPool}
 use Rattle.theory_sound.specs.Codec.{shaped_placed, root_tree}
-use Rattle.theory_sound.specs.Hanging.{used_tree}
-use Rattle.theory_sound.specs.Step.{leaves-used}
+use Rattle.theory_sound.proofs.Hanging.{used_tree}
+use Rattle.theory_sound.proofs.Step.{leaves-used}
 use Rattle.theory_tree.specs.Walk.{Seen, mapped as seenMapped, hole as seenHole, seen}
 use Rattle.theory_tree.specs.Shown.{FineTable}
-use Rattle.theory_tree.specs.Demands.{modified as tree-modified, holes_stay, modify_others, modify_tables}
+use Rattle.theory_tree.proofs.Demands.{modified as tree-modified, holes_stay, modify_others, modify_tables}
 use Rattle.arm.specs.Arm.{at as ends_at}
 use Rattle.theory_walk.specs.AsBefore.{walk_of, Shown, mapped, hole, shown}
 use Rattle.theory_map.specs.Terms.{InSpan, depth_of, root_in}
@@ -33,14 +33,17 @@ use Rattle.theory_modify.specs.Terms.{ModifyArguments, modify_answer, Modifies, 
 use Rattle.theory_modify.specs.Terms.{flags_after, modify_pages_of, made_by_modify, numbers_of}
 use Rattle.theory_modify.specs.Numbers.{occurs, first_page}
 use Rattle.theory_modify.specs.Listed.{changes}
-use Rattle.theory_modify.specs.Call.{work_after, region_paged, given, splits-made, numbers-made, numbers-one, numbers_tell, call_full}
-use Rattle.theory_modify.specs.Call.{call_broken}
-use Rattle.theory_modify.specs.Call.{call_short, call-accepted, full_back}
-use Rattle.theory_modify.specs.Call.{broken_back, short_back, call_passed, Clear, call-clear, call-leaves}
-use Rattle.theory_modify.specs.Call.{call-answer, call_off, call_on}
+use Rattle.theory_modify.specs.Call.{work_after}
+use Rattle.theory_modify.proofs.Call.{region_paged, given, splits-made, numbers-made, numbers-one, numbers_tell, call_full}
+use Rattle.theory_modify.proofs.Call.{call_broken}
+use Rattle.theory_modify.proofs.Call.{call_short, call-accepted, full_back}
+use Rattle.theory_modify.specs.Call.{Clear}
+use Rattle.theory_modify.proofs.Call.{broken_back, short_back, call_passed, call-clear, call-leaves}
+use Rattle.theory_modify.proofs.Call.{call-answer, call_off, call_on}
 use Rattle.theory_modify.specs.House.{reach_of, ValidEntry, Covered, LowestBreach, Keeps, ModifyFits}
-use Rattle.theory_modify.specs.Lowest.{survey_lowest, survey_keeps, live_safe}
-use Rattle.theory_modify.specs.Change.{bit, house_bit, house_rule_bits}
+use Rattle.theory_modify.proofs.Lowest.{survey_lowest, survey_keeps, live_safe}
+use Rattle.theory_modify.specs.Change.{bit, house_bit}
+use Rattle.theory_modify.proofs.Change.{house_rule_bits}
 
 -- ---- what a walk shows, read back
 

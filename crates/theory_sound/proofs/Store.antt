@@ -3,21 +3,22 @@ use Rattle.std.specs.Prelude.{◌≡◌, refl, ◌⊎◌, ◌≢◌, ℕ, ◌+�
 use Rattle.std.proofs.Common.{ap, ◌∙◌, inl, inr, arith, length-set}
 use Rattle.laws.specs.Test.{le_or}
 use Rattle.pool.specs.State.{store_at, St, word_at, number_at}
-use Rattle.pool.specs.Number.{used}
 use Rattle.pool_table.specs.Table.{clear}
 use Rattle.pool.specs.declared.Handle.{Handle}
 use Rattle.theory_forest.specs.Tree.{leaf}
 use Rattle.theory_forest.specs.Sound.{TableWord, Refers}
-use Rattle.theory_forest.specs.Under.{refers_level}
+use Rattle.theory_forest.proofs.Under.{refers_level}
 use Rattle.theory_forest.specs.Store.{Stored}
-use Rattle.theory_forest.specs.Free.{Clears, free_empty_frees}
-use Rattle.theory_forest.specs.Move.{move_store, move_free}
+use Rattle.theory_forest.specs.Free.{Clears}
+use Rattle.theory_forest.proofs.Free.{free_empty_frees}
+use Rattle.theory_forest.proofs.Move.{move_store, move_free}
 use Rattle.theory_sound.specs.Codec.{Placed, codec_of, slot_word, view, word_in, word_out}
 use Rattle.theory_sound.specs.Clauses.{InUse, level_at, SoundPool}
-use Rattle.theory_sound.specs.Generic.{pool_sound}
+use Rattle.theory_sound.proofs.Generic.{pool_sound}
 use Rattle.theory_sound.specs.Lists.{TableInside, size_trans, store_size, store_here, store_other, clear-size, clear-number}
 use Rattle.theory_sound.specs.Lists.{clear_number_other, clear-word, clear_word_other}
-use Rattle.theory_sound.specs.Step.{Stands, stands_fits, not_table, used_inside, Step}
+use Rattle.theory_sound.specs.Step.{Stands, not_table, Step}
+use Rattle.theory_sound.proofs.Step.{stands_fits, used_inside}
 
 module _ {h : Handle} (placed : Placed h) {s : St} (P : SoundPool h s) (p i v : ℕ) (in_use : InUse s p) (inside : i < 512) where
   pub stored : Stored (view s) (view (store_at p i v s)) p i v
@@ -70,5 +71,3 @@ module _ {h : Handle} (placed : Placed h) {s : St} (P : SoundPool h s) (p i v : 
         empty : (j : ℕ) → (512 ≤ j) ⊎ (j < 512) → slot_word s e j ≡ 0
         empty j (inl past) = word_out s e j past
         empty j (inr below) = word_in s e j below ∙ zeros j below
-
--- one table less is in use, one more is free

@@ -9,16 +9,19 @@ use Rattle.pool_table.specs.Table.{free_tree}
 use Rattle.pool.specs.declared.Handle.{Handle}
 use Rattle.theory_forest.specs.Tree.{leaf}
 use Rattle.theory_forest.specs.Sound.{Refers}
-use Rattle.theory_forest.specs.Under.{Under, NotUnder, under-or, refers_level, refers_over}
+use Rattle.theory_forest.specs.Under.{Under, NotUnder, under-or}
+use Rattle.theory_forest.proofs.Under.{refers_level, refers_over}
 use Rattle.theory_forest.specs.Free.{Frees}
-use Rattle.theory_forest.specs.Nodes.{nodes, lies, lies_yes, lies_no, under-nodes}
-use Rattle.theory_forest.specs.Move.{move_free}
+use Rattle.theory_forest.specs.Nodes.{nodes, lies, lies_yes, lies_no}
+use Rattle.theory_forest.proofs.Nodes.{under-nodes}
+use Rattle.theory_forest.proofs.Move.{move_free}
 use Rattle.theory_sound.specs.Alloc.{used-sum}
 use Rattle.theory_sound.specs.Codec.{shaped_placed, codec_of, view, tree_from}
 use Rattle.theory_sound.specs.Clauses.{InUse, level_at, SoundPool}
-use Rattle.theory_sound.specs.Generic.{pool_sound}
+use Rattle.theory_sound.proofs.Generic.{pool_sound}
 use Rattle.theory_sound.specs.Lists.{size_trans, store_size, store_here, store_other}
-use Rattle.theory_sound.specs.Step.{Stands, stands_fits, used_inside, Step}
+use Rattle.theory_sound.specs.Step.{Stands, Step}
+use Rattle.theory_sound.proofs.Step.{stands_fits, used_inside}
 use Rattle.theory_sound.specs.FreeRun.{Freed, tree_freed}
 
 module _ {h : Handle} {s : St} (shape : Shaped h s) (P : SoundPool h s) (depth p i v : ℕ) (in_use : InUse s p) (inside : i < 512)

@@ -11,13 +11,18 @@ use Rattle.region.specs.Region.{region}
 use Rattle.theory_forest.specs.Tree.{Tree, leaf, node, node_ext}
 use Rattle.theory_tree.specs.Page.{pages_in, span-size, span_pos, first, child, child_in, child-first, entry_start}
 use Rattle.theory_tree.specs.Word.{frame_in, leaf_word_of, fill_word, page_bit, address_frame, leaf_hole, flags_none}
-use Rattle.theory_tree.specs.Fine.{Fine, fill_flags, fill_is, fill_aligned}
-use Rattle.theory_tree.specs.Visit.{fill_tree, visit, visit_table, visit_keep, visit_write}
-use Rattle.theory_tree.specs.Slots.{slot_after, each_node, slot_after_lem, slot_past, fill_slot, fill_node, fill_slot_lem, fill_past}
-use Rattle.theory_tree.specs.Rules.{Map, meets, frame_at, same, fits, map_rule, yes_meets, yes_whole, same_yes, rule_page, rule-same}
-use Rattle.theory_tree.specs.Rules.{rule_block}
+use Rattle.theory_tree.specs.Fine.{Fine}
+use Rattle.theory_tree.proofs.Fine.{fill_flags, fill_is, fill_aligned}
+use Rattle.theory_tree.specs.Visit.{fill_tree, visit, visit_table}
+use Rattle.theory_tree.proofs.Visit.{visit_keep, visit_write}
+use Rattle.theory_tree.specs.Slots.{slot_after, each_node, slot_after_lem, slot_past, fill_slot}
+use Rattle.theory_tree.proofs.Slots.{fill_node, fill_slot_lem, fill_past}
+use Rattle.theory_tree.specs.Rules.{Map, meets, frame_at, same, fits, map_rule, yes_meets, yes_whole}
+use Rattle.theory_tree.proofs.Rules.{same_yes, rule_page, rule-same}
+use Rattle.theory_tree.proofs.Rules.{rule_block}
 use Rattle.theory_tree.specs.Chunks.{Inside, chunked_table}
-use Rattle.theory_tree.specs.Document.{word_frames, document_rule, document_is}
+use Rattle.theory_tree.specs.Document.{word_frames, document_rule}
+use Rattle.theory_tree.proofs.Document.{document_is}
 use Rattle.theory_tree.specs.Root.{map_tree}
 
 -- the map that the split of the q-th entry runs, in pages

@@ -9,14 +9,16 @@ use Rattle.entry.specs.Sub.{Found, sub_found}
 use Rattle.pool.specs.State.{St, tables, word_at}
 use Rattle.pool.specs.Refuse.{Shaped}
 use Rattle.pool.specs.declared.Handle.{Handle}
-use Rattle.theory_forest.specs.Under.{refers_child, refers_level}
+use Rattle.theory_forest.proofs.Under.{refers_child, refers_level}
 use Rattle.theory_forest.specs.Walk.{walk_tree}
 use Rattle.theory_sound.specs.Clauses.{InUse, level_at, SoundPool}
 use Rattle.theory_sound.specs.Codec.{shaped_placed, child_of, slot_word, word_in, root_tree}
-use Rattle.theory_sound.specs.Hanging.{root_used, root_left, Leads, table-leads, leads_refers}
+use Rattle.theory_sound.specs.Hanging.{Leads}
+use Rattle.theory_sound.proofs.Hanging.{root_used, root_left, table-leads, leads_refers}
 use Rattle.arm.specs.Arm.{index, table_address, away, says, reach, walk}
 use Rattle.arm.specs.Walk.{slot_below, table_address_lem}
-use Rattle.theory_walk.specs.Any.{slots_taken, reached_at, has_table, table_of, word, reach_reading}
+use Rattle.theory_walk.specs.Any.{slots_taken, reached_at, has_table, table_of}
+use Rattle.theory_walk.proofs.Any.{word, reach_reading}
 
 -- where the code finds a table, there the Arm walk goes on
 found_in : (base n : ℕ) {level x w c : ℕ} → x ≡ w → Found base n level w c → (has_table base n x ≡ true) × (table_of base x ≡ c)

@@ -23,7 +23,7 @@ use Rattle.theory_sound.specs.Clauses.{SoundPool}
 use Rattle.theory_sound.specs.Codec.{shaped_placed, root_tree}
 use Rattle.arm.specs.Arm.{at}
 use Rattle.theory_walk.specs.Any.{slots_taken, reached_at}
-use Rattle.theory_walk.specs.Walked.{reach_tree}
+use Rattle.theory_walk.proofs.Walked.{reach_tree}
 use Rattle.theory_tree.specs.Page.{pages_in, span-size, first, slot_of_page, slot_lt, in_rest, entry_start}
 use Rattle.theory_map.specs.Terms.{depth_of, root_in}
 use Rattle.theory_map.specs.Leaf.{root_fine}
@@ -33,7 +33,7 @@ use Rattle.theory_modify.specs.Terms.{tree_after_modify}
 use Rattle.theory_modify.specs.House.{reach_of, ValidEntry, Covered, Breaks, LowestBreach, Keeps}
 use Rattle.theory_modify.specs.Word.{valid-edited}
 use Rattle.theory_modify.specs.Asked.{asked_forwards}
-use Rattle.theory_modify.specs.Call.{area, region_paged, ready, call_passed, call-clear, call-leaves}
+use Rattle.theory_modify.proofs.Call.{area, region_paged, ready, call_passed, call-clear, call-leaves}
 use Rattle.theory_modify.specs.Found.{WithinPages, new_word, Broken, First, Finds, new_is, BreaksIn, survey_finds}
 use Rattle.theory_modify.specs.Stays.{modify_stays}
 

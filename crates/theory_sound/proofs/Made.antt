@@ -13,7 +13,7 @@ use Rattle.make.specs.Call.{fresh}
 use Rattle.pool.specs.declared.Handle.{Handle}
 use Rattle.theory_sound.specs.Codec.{zero_leaf_lem}
 use Rattle.theory_sound.specs.Clauses.{level_at, SoundPool}
-use Rattle.theory_sound.specs.Generic.{leaf_says}
+use Rattle.theory_sound.proofs.Generic.{leaf_says}
 
 zero_at : (n i : ℕ) → ◌≡◌ {A = ℕ} (get_or (replicate n 0) i 0) 0
 zero_at n i = go (le_or n i)

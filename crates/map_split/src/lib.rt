@@ -12,6 +12,7 @@ use entry::Sub;
 use pool::{Found, Handle};
 
 // A new table for an entry that is no table, filled with the old entry.
+#[tactic(auto, using(crate::proofs::Fill::split_hole))]
 pub fn split_entry(
     words: &mut [u64],
     ledger: &mut [u32],

@@ -1,5 +1,5 @@
 -- `put_down`: each way through the code by its law.
-use Rattle.std.proofs.Common.{List, ℕ, sym, ap, ◌∙◌, arith}
+use Rattle.std.proofs.Common.{◌≡◌, false, List, ℕ, sym, ap, ◌∙◌, arith}
 use Rattle.pool.specs.State.{st}
 use Rattle.pool.specs.Number.{used}
 use Rattle.pool.specs.Refuse.{max_tables}
@@ -18,6 +18,7 @@ returns-then-map_range c =
 -- the ledger is as it was, and so is its count
 pub returns : goal.returns
 returns c =
+    let untouched : c.map_range.result ≡ false = cc in
     put_down_lem c.args.handle c.args.map (st c.args.words.now c.args.ledger.now)
     (c.map_range.ensures.0 ∙ c.lowest_table-place.ensures.0)
-    (c.requires.2 ∙ ap (λ (l : List ℕ). used l) (sym (c.map_range.ensures.1 c.if-map_range.false)))
+    (c.requires.2 ∙ ap (λ (l : List ℕ). used l) (sym (c.map_range.ensures.1 untouched)))

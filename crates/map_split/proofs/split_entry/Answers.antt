@@ -4,10 +4,10 @@ use mathlib.Core.Path.{subst⁻¹}
 use Rattle.std.proofs.Common.{bit_and, get_or, arith}
 use Rattle.laws.specs.Size.{size_at, size_pos, size_low, size_step, size_room, size-down, down, down_paged}
 use Rattle.entry.specs.Word.{address_of, flags_of, address_below, mask_address, leaf_word, Plain, flags_plain}
-use Rattle.pool.specs.State.{st, word_at}
+use Rattle.pool.specs.State.{st}
 use Rattle.pool_table.specs.Table.{rising}
 use Rattle.map_rules.specs.Fit.{leaf_most, steps_fit}
-use Rattle.map_rules.specs.Laws.{fill_hole, fill_leaf}
+use Rattle.map_rules.specs.Laws.{fill_leaf}
 use Rattle.map_split.specs.Split.{split_is}
 use Rattle.map_split.proofs.split_entry.Goals.{After-granularity_at_level, After-leaf_word-first}
 use Rattle.map_split.proofs.split_entry.Goals as goal
@@ -48,14 +48,6 @@ first c =
     c.leaf_word-first.ensures
     ∙ ap₂ (leaf_word (c.args.level + 1)) (cleared c.args.level _ c.granularity_at_level.ensures) c.flags-flags.ensures
 
-pub returns-then-word-ne1 : goal.returns-then-word-ne1
-returns-then-word-ne1 c =
-    let a = c.args in
-    let s = st a.words.now a.ledger.now in
-    c.take_table.ensures
-    ∙ split_is a.handle a.k a.level a.i s _
-    (ap (λ (f : ℕ). rising 512 f 0) c.flags-flags.ensures ∙ fill_hole a.level (word_at s a.k a.i) c.if-word-ne1.true)
-
 pub overflow_sub-address : goal.overflow_sub-address
 overflow_sub-address c = omega (arith, c.granularity_at_level.ensures, size_pos c.args.level)
 
@@ -82,6 +74,7 @@ pub returns : goal.returns
 returns c =
     let a = c.args in
     let s = st a.words.now a.ledger.now in
+    let valid : get_or a.words.now (512 * a.k + a.i) 0 % 2 ≡ 1 = omega arith in
     let filled = ap₂ (rising 512) (first (goal.at.returns c).After-leaf_word-first) c.granularity_at_level-step.ensures in
     c.take_table-2.ensures
-    ∙ split_is a.handle a.k a.level a.i s _ (filled ∙ fill_leaf a.level _ c.if-word-ne1.false)
+    ∙ split_is a.handle a.k a.level a.i s _ (filled ∙ fill_leaf a.level _ valid)

@@ -1,5 +1,5 @@
 -- `next_table` gives a table below only where the map does the same there.
-use Rattle.std.proofs.Common.{sym, ◌∙◌, arith}
+use Rattle.std.proofs.Common.{◌≡◌, sym, ◌∙◌, arith}
 use Rattle.entry.specs.Sub.{sub-below}
 use Rattle.address_slot.specs.Slot.{entry_index}
 use Rattle.pool.specs.State.{st}
@@ -23,7 +23,7 @@ returns c =
     let a = c.args in
     let s = st a.words.now a.ledger.now in
     let kind = c.subtable-kind.ensures in
-    let one = sym c.chunk_end-stop.ensures ∙ c.if-stop-end.false in
-    let same = map_below_lem a.handle a.k a.level a.map s c.requires.2 c.if-end-start.false one
+    let whole : c.chunk_end-stop.result ≡ a.map.region.end.0 = omega arith in
+    let same = map_below_lem a.handle a.k a.level a.map s c.requires.2 c.if-end-start.false (sym c.chunk_end-stop.ensures ∙ whole)
     c.entry_index-i.ensures c.rule_of-rule.ensures c.in-Down.is kind _ c.in-Table.is in
     some_leads a.handle a.k a.level a.map s same (sub-below a.handle.base.0 _ a.level _ _ (sym kind ∙ c.in-Table.is))

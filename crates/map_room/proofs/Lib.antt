@@ -1,0 +1,2 @@
+-- `Room`: refusal 9, and what is known past it.
+pub mod Room

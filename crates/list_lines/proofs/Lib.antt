@@ -1,3 +1,3 @@
--- `Chunk`: what both walks of a region know of its chunks, and of an entry that is no table.
+-- What both walks of a region know of its chunks; the theorems about what specs/ defines, in the order of specs/Lib.
 pub mod Chunk
 pub mod Cover

@@ -20,14 +20,18 @@ loop-i-init c = (omega arith, sym (union_none c.args.run.now))
 
 pub loop-i-preserved : goal.loop-i-preserved
 loop-i-preserved c =
-    let at = c.before.before in
-    let l = at.args.run.now in
-    (omega arith, ap (λ (x : ℕ). bit_or x (get_or l at.loop-i.i 0)) at.loop-i.invariant.1 ∙ sym (union_more l at.loop-i.i (omega arith)))
+    let l = c.args.run.now in
+    let i = c.loop-i.i in
+    (omega arith, ap (λ (x : ℕ). bit_or x (get_or l i 0)) c.loop-i.invariant.1 ∙ sym (union_more l i (omega arith)))
 
 pub returns-then-any-eq0 : goal.returns-then-any-eq0
 unfolding free_run
-returns-then-any-eq0 c = rw (eq-eqb (union c.args.run.now) 0 (sym (whole (goal.at.returns-then-any-eq0 c).After-loop-i) ∙ c.if-any-eq0.true))
+returns-then-any-eq0 c =
+    let end = (goal.at.returns-then-any-eq0 c).After-loop-i in
+    rw (eq-eqb (union c.args.run.now) 0 (sym (whole end) ∙ c.if-any-eq0.true))
 
 pub returns-else-any-eq0 : goal.returns-else-any-eq0
 unfolding free_run
-returns-else-any-eq0 c = rw (ne_eqb (union c.args.run.now) 0 (λ e. c.if-any-eq0.false (whole (goal.at.returns-else-any-eq0 c).After-loop-i ∙ e)))
+returns-else-any-eq0 c =
+    let end = (goal.at.returns-else-any-eq0 c).After-loop-i in
+    rw (ne_eqb (union c.args.run.now) 0 (λ e. c.if-any-eq0.false (whole end ∙ e)))

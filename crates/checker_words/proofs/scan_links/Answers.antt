@@ -1,11 +1,11 @@
 -- `scan_links`: each way through the code by its law.
-use Rattle.checker_words.proofs.scan_links.Goals.{After-loop-i, then-word-eq3, else-word-eq3}
+use Rattle.checker_words.proofs.scan_links.Goals.{After-loop-i}
 use mathlib.Core.Path.{◌≡◌, sym, ap, ◌∙◌}
-use Prim.Native.Nat.{ℕ, ◌+◌}
+use Prim.Native.Nat.{ℕ}
 use native.Mathlib.Omega.{arith}
-use lib.ListN.{get_or}
+use Rattle.std.proofs.lemmas.Grind.{common_steps}
 use lib.Seq.{take_all}
-use lib.Bits.{bit_and, bit_or}
+use lib.Bits.{bit_and}
 use borrow.Author.Tests.{eq-eqb, ne_eqb}
 use Rattle.entry.specs.Word.{only}
 use Rattle.checker_words.specs.declared.Run.TheVariants.{Passed}
@@ -25,23 +25,7 @@ loop-i-init c = (omega arith, omega arith, sym (leaves_none c.args.run.now), sym
 
 pub loop-i-preserved : goal.loop-i-preserved
 loop-i-preserved c =
-    let l = c.args.run.now in
-    let i = c.loop-i.i in
-    let w = get_or l i 0 in
-    elim c.if-word-eq3.branch [
-      | then-word-eq3 b ↦ (
-        omega arith,
-        omega arith,
-        b.any-is ∙ c.loop-i.invariant.2 ∙ sym (leaves_table l i (omega arith) b.if-word-eq3.true),
-        b.links-is ∙ ap (λ (x : ℕ). x + 1) c.loop-i.invariant.3 ∙ sym (links-table l i (omega arith) b.if-word-eq3.true),
-      )
-      | else-word-eq3 b ↦ (
-        omega arith,
-        omega arith,
-        b.any-is ∙ ap (λ (x : ℕ). bit_or x w) c.loop-i.invariant.2 ∙ sym (leaves_leaf l i (omega arith) b.if-word-eq3.false),
-        b.links-is ∙ c.loop-i.invariant.3 ∙ sym (links_leaf l i (omega arith) b.if-word-eq3.false),
-      )
-    ]
+    grind (arith, common_steps, leaves_table, leaves_leaf, links-table, links_leaf)
 
 pub returns-then-any-allowed : goal.returns-then-any-allowed
 unfolding links_run only

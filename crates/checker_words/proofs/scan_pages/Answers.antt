@@ -24,40 +24,40 @@ loop-i-init c = (omega arith, sym (union_none c.args.run.now), sym (strays_none 
 
 pub loop-i-preserved : goal.loop-i-preserved
 loop-i-preserved c =
-    let at = c.before.before in
-    let l = at.args.run.now in
-    let i = at.loop-i.i in
+    let l = c.args.run.now in
+    let i = c.loop-i.i in
     let w = get_or l i 0 in (
       omega arith,
-      ap (λ (x : ℕ). bit_or x w) at.loop-i.invariant.1 ∙ sym (union_more l i (omega arith)),
-      ap (λ (x : ℕ). bit_or x (bit_and w (2 ^ 64 - 1 - w / 2))) at.loop-i.invariant.2 ∙ sym (strays-more l i (omega arith)),
+      ap (λ (x : ℕ). bit_or x w) c.loop-i.invariant.1 ∙ sym (union_more l i (omega arith)),
+      ap (λ (x : ℕ). bit_or x (bit_and w (2 ^ 64 - 1 - w / 2))) c.loop-i.invariant.2 ∙ sym (strays-more l i (omega arith)),
     )
 
 pub returns-then-any-allowed : goal.returns-then-any-allowed
 unfolding pages_run only
 returns-then-any-allowed c =
     let a = c.args in
+    let end = (goal.at.returns-then-any-allowed c).After-loop-i in
     rw (ne_eqb (bit_and (union a.run.now) a.allowed) (union a.run.now)
-    (λ e. c.if-any-allowed.true (ap (λ (x : ℕ). bit_and x a.allowed) (all (goal.at.returns-then-any-allowed c).After-loop-i) ∙ e ∙ sym (all (goal.at.returns-then-any-allowed c).After-loop-i))))
+    (λ e. c.if-any-allowed.true (ap (λ (x : ℕ). bit_and x a.allowed) (all end) ∙ e ∙ sym (all end))))
 
 pub returns-then-stray-eq0 : goal.returns-then-stray-eq0
 unfolding pages_run only
 returns-then-stray-eq0 c =
     let a = c.args in
-    let end = c.before.before in
+    let end = (goal.at.returns-then-stray-eq0 c).After-loop-i in
     rw (
       eq-eqb (bit_and (union a.run.now) a.allowed) (union a.run.now)
-          (sym (ap (λ (x : ℕ). bit_and x a.allowed) (all (goal.at.returns-then-stray-eq0 c).After-loop-i)) ∙ c.if-any-allowed.false ∙ all (goal.at.returns-then-stray-eq0 c).After-loop-i),
-      eq-eqb (strays a.run.now % 2) 0 (sym (ap (λ (x : ℕ). x % 2) (odd (goal.at.returns-then-stray-eq0 c).After-loop-i)) ∙ c.if-stray-eq0.true),
+          (sym (ap (λ (x : ℕ). bit_and x a.allowed) (all end)) ∙ c.if-any-allowed.false ∙ all end),
+      eq-eqb (strays a.run.now % 2) 0 (sym (ap (λ (x : ℕ). x % 2) (odd end)) ∙ c.if-stray-eq0.true),
     )
 
 pub returns-else-stray-eq0 : goal.returns-else-stray-eq0
 unfolding pages_run only
 returns-else-stray-eq0 c =
     let a = c.args in
-    let end = c.before.before in
+    let end = (goal.at.returns-else-stray-eq0 c).After-loop-i in
     rw (
       eq-eqb (bit_and (union a.run.now) a.allowed) (union a.run.now)
-          (sym (ap (λ (x : ℕ). bit_and x a.allowed) (all (goal.at.returns-else-stray-eq0 c).After-loop-i)) ∙ c.if-any-allowed.false ∙ all (goal.at.returns-else-stray-eq0 c).After-loop-i),
-      ne_eqb (strays a.run.now % 2) 0 (λ e. c.if-stray-eq0.false (ap (λ (x : ℕ). x % 2) (odd (goal.at.returns-else-stray-eq0 c).After-loop-i) ∙ e)),
+          (sym (ap (λ (x : ℕ). bit_and x a.allowed) (all end)) ∙ c.if-any-allowed.false ∙ all end),
+      ne_eqb (strays a.run.now % 2) 0 (λ e. c.if-stray-eq0.false (ap (λ (x : ℕ). x % 2) (odd end) ∙ e)),
     )

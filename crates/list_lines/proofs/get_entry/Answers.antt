@@ -15,14 +15,19 @@ unfolding entry_index
 slot c = let a = c.args in c.entry_index-slot.ensures ∙ sym (index_is a.level a.va.0)
 
 pub overflow_add-result : goal.overflow_add-result
-overflow_add-result c = let a = c.args in let h = slot_below a.level a.va.0 in omega (arith, slot (goal.at.overflow_add-result c).After-entry_index-slot)
+overflow_add-result c =
+    let h = slot_below c.args.level c.args.va.0 in
+    omega (arith, slot (goal.at.overflow_add-result c).After-entry_index-slot)
 
 pub offset_bounds-words-k : goal.offset_bounds-words-k
-offset_bounds-words-k c = let a = c.args in let h = slot_below a.level a.va.0 in omega (arith, slot (goal.at.offset_bounds-words-k c).After-entry_index-slot)
+offset_bounds-words-k c =
+    let h = slot_below c.args.level c.args.va.0 in
+    omega (arith, slot (goal.at.offset_bounds-words-k c).After-entry_index-slot)
 
 pub bounds-words-k : goal.bounds-words-k
 bounds-words-k c =
-    let a = c.args in let h = slot_below a.level a.va.0 in omega (arith, slot (goal.at.bounds-words-k c).After-entry_index-slot)
+    let h = slot_below c.args.level c.args.va.0 in
+    omega (arith, slot (goal.at.bounds-words-k c).After-entry_index-slot)
 
 pub returns : goal.returns
 unfolding fetch

@@ -48,7 +48,8 @@ returns-in-Outside c =
     let a = c.args in
     let l = c.loop-j in
     let out = sym c.subtable-kind.ensures ∙ c.in-Outside.is in
-    let reached = reach_outside a.handle.base.0 a.tables a.words.now a.va.0 l.k l.level l.invariant.0 (word (goal.at.returns-in-Outside c).At-loop-j) out in
+    let read = word (goal.at.returns-in-Outside c).At-loop-j in
+    let reached = reach_outside a.handle.base.0 a.tables a.words.now a.va.0 l.k l.level l.invariant.0 read out in
     ap answer (sym (ap (says a.va.0) reached) ∙ l.invariant.3)
 
 pub returns-in_default : goal.returns-in_default
@@ -57,7 +58,8 @@ returns-in_default c =
     let l = c.loop-j in
     let sub = c.subtable-kind.ensures in
     let leaf = sym sub ∙ is_leaf _ c.in_default.not-Table c.in_default-kind.not-Outside in
-    let reached = reach_leaf a.handle.base.0 a.tables a.words.now a.va.0 l.k l.level l.invariant.0 (word (goal.at.returns-in_default c).At-loop-j) leaf in
+    let read = word (goal.at.returns-in_default c).At-loop-j in
+    let reached = reach_leaf a.handle.base.0 a.tables a.words.now a.va.0 l.k l.level l.invariant.0 read leaf in
     c.leaf.ensures ∙ ap answer (sym (ap (says a.va.0) reached) ∙ l.invariant.3)
 
 pub overflow_add-level : goal.overflow_add-level
@@ -72,5 +74,6 @@ loop-j-preserved c =
     let l = c.loop-j in
     let table = sym c.subtable-kind.ensures ∙ c.in-Table.is in
     let found = sub_found a.handle.base.0 a.tables l.level _ _ table in
-    let reached = reach-table a.handle.base.0 a.tables a.words.now a.va.0 l.k l.level l.invariant.0 (word (goal.at.loop-j-preserved c).At-loop-j) _ table in
+    let read = word (goal.at.loop-j-preserved c).At-loop-j in
+    let reached = reach-table a.handle.base.0 a.tables a.words.now a.va.0 l.k l.level l.invariant.0 read _ table in
     (omega (arith, found.high), found.below, l.invariant.2, sym (ap (says a.va.0) reached) ∙ l.invariant.3)

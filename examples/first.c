@@ -1,5 +1,5 @@
 /* A first use: a pool of three tables, a map, a look up, and a refusal.
- *   rt staticlib ptb && cc -Iinclude examples/first.c target/staticlib/libptb.a -o target/first && target/first */
+ *   tools/archive.sh && cc -Iinclude examples/first.c target/staticlib/libptb.a -o target/first && target/first */
 #include "ptb.h"
 #include <inttypes.h>
 #include <stdio.h>

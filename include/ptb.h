@@ -1,5 +1,5 @@
 /*
- * ptb: page tables for AArch64 (VMSAv8-64, 4 KiB granule, 48 bits), proved. Link with libptb.a (`rt staticlib ptb`).
+ * ptb: page tables for AArch64 (VMSAv8-64, 4 KiB granule, 48 bits), proved. Link with libptb.a (tools/archive.sh).
  *
  * What is lent to each call
  *   words, words_len     the pool: 512 words for each of its n tables. Table k has the physical address base + 4096 * k;

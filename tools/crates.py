@@ -3,8 +3,9 @@
 
 The table of families gives the floors, the lowest first, and what each family is for. The table under a
 heading `### NAME` gives the crates of that family: crate, what it holds, what to open first, and what it
-leans on (the direct ones only). A crate must name every crate whose types its values reach, so a line of
-crates.txt names all that stands below. Where the tables and the folder crates/ disagree, nothing is written.
+leans on (the direct ones only); a static library has the word staticlib after its name. A crate must name
+every crate whose types its values reach, so a line of crates.txt names all that stands below. Where the
+tables and the folder crates/ disagree, nothing is written.
 """
 import itertools
 import math
@@ -28,7 +29,8 @@ def rows_after(text, header):
 
 class Crate:
     def __init__(self, family, name, first, leans):
-        self.family, self.name, self.first = family, name, first.split(', ')
+        self.family, self.first = family, first.split(', ')
+        self.name, *self.kind = name.split()
         self.leans = [] if leans == '-' else leans.split(', ')
 
 
@@ -43,6 +45,7 @@ class Tables:
                 family = part.split('\n')[0].strip()
                 self.rows += [Crate(family, name, first, leans) for name, _, first, leans in rows_after(part, CRATES)]
         self.family = {crate.name: crate.family for crate in self.rows}
+        self.kind = {crate.name: crate.kind for crate in self.rows}
 
     def faults(self):
         """Where the tables and the folder disagree."""
@@ -94,7 +97,7 @@ class Tables:
             yield f'\n# -- {family}: {self.purpose[family]}'
             for name in self.members(family):
                 below = [lower for lower in self.order if lower in self.below[name]]
-                yield ' '.join([name + ':'] + below)
+                yield ' '.join([f"{' '.join([name, *self.kind[name]])}:", *below])
 
 
 # ---- the drawing: families as boxes on floors

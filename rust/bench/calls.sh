@@ -5,6 +5,6 @@ set -eu
 cd "$(dirname "$0")/../.."
 mkdir -p target/bench
 rust/oracle/build.sh
-rt staticlib ptb > target/bench/staticlib.out || { cat target/bench/staticlib.out; exit 1; }
+tools/archive.sh > target/bench/staticlib.out || { cat target/bench/staticlib.out; exit 1; }
 rustc --edition 2021 -C opt-level=3 -L target/staticlib -l static=ptb -L target/oracle --extern oracle -o target/bench/calls rust/bench/calls.rs
 target/bench/calls

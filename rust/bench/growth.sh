@@ -3,6 +3,6 @@
 set -eu
 cd "$(dirname "$0")/../.."
 mkdir -p target/bench
-rt staticlib ptb > target/bench/staticlib.out || { cat target/bench/staticlib.out; exit 1; }
+tools/archive.sh > target/bench/staticlib.out || { cat target/bench/staticlib.out; exit 1; }
 rustc --edition 2021 -C opt-level=3 -L target/staticlib -l static=ptb -o target/bench/growth rust/bench/growth.rs
 target/bench/growth "${1:-docs/cost.svg}"

@@ -9,7 +9,7 @@ rust/oracle/build.sh
 if [ -n "${ALONE:-}" ]; then
     switches="--cfg alone"
 else
-    rt staticlib ptb > target/diff/staticlib.out || { cat target/diff/staticlib.out; exit 1; }
+    tools/archive.sh > target/diff/staticlib.out || { cat target/diff/staticlib.out; exit 1; }
     switches="-L target/staticlib -l static=ptb"
 fi
 rustc --edition 2021 -C opt-level=3 --check-cfg 'cfg(alone)' $switches -L target/oracle --extern oracle -o target/diff/diff rust/diff/main.rs

@@ -5,7 +5,7 @@ set -eu
 cd "$(dirname "$0")/../.."
 out=target/ptb
 mkdir -p $out
-rt staticlib ptb > $out/staticlib.out || { cat $out/staticlib.out; exit 1; }
+tools/archive.sh > $out/staticlib.out || { cat $out/staticlib.out; exit 1; }
 rustc --edition 2021 --crate-type rlib --crate-name ptb -D warnings -C opt-level=3 -L target/staticlib -l static=ptb --out-dir $out rust/ptb/src/lib.rs
 rustc --edition 2021 --test -D warnings -L $out --extern ptb=$out/libptb.rlib -o $out/tests rust/ptb/tests.rs
 $out/tests --quiet

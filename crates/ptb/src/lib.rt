@@ -1,4 +1,4 @@
-// The face for other languages: each call by its C name, with numbers alone (include/ptb.h says what each is).
+// The face for other languages: each call by its C name, with numbers alone (include/ptb.h says what each is; ptb_c exports them).
 #![tactic(auto)]
 
 ghost use Rattle.std.specs.Prelude.{◌≡◌};
@@ -12,8 +12,7 @@ use address::{PhysicalAddress, VirtualAddress};
 use map::Constraints;
 
 // Zeroes all words and the ledger, then enters the root as table 0.
-#[unsafe(no_mangle)]
-pub extern "C" fn ptb_make(
+pub fn ptb_make(
     words: &mut [u64],
     ledger: &mut [u32],
     base: u64,
@@ -30,8 +29,7 @@ pub extern "C" fn ptb_make(
 }
 
 // Whether the pool is sound.
-#[unsafe(no_mangle)]
-pub extern "C" fn ptb_check(
+pub fn ptb_check(
     words: &[u64],
     ledger: &[u32],
     base: u64,
@@ -48,8 +46,7 @@ pub extern "C" fn ptb_check(
 }
 
 // What the walk of an address answers.
-#[unsafe(no_mangle)]
-pub extern "C" fn ptb_look_up(
+pub fn ptb_look_up(
     words: &[u64],
     ledger: &[u32],
     base: u64,
@@ -67,8 +64,7 @@ pub extern "C" fn ptb_look_up(
 }
 
 // Lists the entries that a region meets, four numbers a line.
-#[unsafe(no_mangle)]
-pub extern "C" fn ptb_list(
+pub fn ptb_list(
     words: &[u64],
     ledger: &[u32],
     base: u64,
@@ -95,8 +91,7 @@ pub extern "C" fn ptb_list(
 }
 
 // Puts a map down: each page of the region to its frame, ascending, with these flags.
-#[unsafe(no_mangle)]
-pub extern "C" fn ptb_map(
+pub fn ptb_map(
     words: &mut [u64],
     ledger: &mut [u32],
     base: u64,
@@ -128,8 +123,7 @@ pub extern "C" fn ptb_map(
 }
 
 // Sets and clears bits in the valid blocks and pages of the region; live, lists the page number of each whose word changed.
-#[unsafe(no_mangle)]
-pub extern "C" fn ptb_modify(
+pub fn ptb_modify(
     words: &mut [u64],
     ledger: &mut [u32],
     base: u64,
@@ -163,8 +157,7 @@ pub extern "C" fn ptb_modify(
 }
 
 // Frees each table but the root that is all zero, from the leaves up.
-#[unsafe(no_mangle)]
-pub extern "C" fn ptb_compact(
+pub fn ptb_compact(
     words: &mut [u64],
     ledger: &mut [u32],
     base: u64,
@@ -181,8 +174,7 @@ pub extern "C" fn ptb_compact(
 }
 
 // Writes one table's 512 words into 4096 bytes.
-#[unsafe(no_mangle)]
-pub extern "C" fn ptb_image(
+pub fn ptb_image(
     words: &[u64],
     ledger: &[u32],
     base: u64,

@@ -3,7 +3,6 @@ use Rattle.checker_words.proofs.scan_links.Goals.{After-loop-i}
 use mathlib.Core.Path.{◌≡◌, sym, ap, ◌∙◌}
 use Prim.Native.Nat.{ℕ}
 use native.Mathlib.Omega.{arith}
-use Rattle.std.proofs.lemmas.Grind.{common_steps}
 use lib.Seq.{take_all}
 use lib.Bits.{bit_and}
 use borrow.Author.Tests.{eq-eqb, ne_eqb}
@@ -24,8 +23,7 @@ pub loop-i-init : goal.loop-i-init
 loop-i-init c = (omega arith, omega arith, sym (leaves_none c.args.run.now), sym (links_none c.args.run.now))
 
 pub loop-i-preserved : goal.loop-i-preserved
-loop-i-preserved c =
-    grind (arith, common_steps, leaves_table, leaves_leaf, links-table, links_leaf)
+loop-i-preserved c = grind (arith, leaves_table, leaves_leaf, links-table, links_leaf)
 
 pub returns-then-any-allowed : goal.returns-then-any-allowed
 unfolding links_run only

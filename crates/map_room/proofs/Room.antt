@@ -14,7 +14,7 @@ use Rattle.map_rules.specs.declared.Map.{Map}
 use Rattle.map_count_spec.specs.Needed.{needed}
 use Rattle.map_count_spec.specs.Closed.{closed}
 use Rattle.map_count.specs.Laws.{over, over_past}
-use Rattle.map_count_spec.specs.SoundCount.{closed-needed}
+use Rattle.map_count_spec.proofs.SoundCount.{closed-needed}
 use Rattle.map_spec.specs.Call.{map_sound, sound_full}
 
 -- refusal 9's count, as it is computed, is document 01's in a sound pool

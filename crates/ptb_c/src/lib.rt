@@ -95,7 +95,19 @@ pub extern "C" fn ptb_map(
         ≡ ptb_map base level range start end frame flags constraints
         (st words.old ledger.old) answer.old }
 {
-    ptb::ptb_map(words, ledger, base, level, range, start, end, frame, flags, constraints, answer)
+    ptb::ptb_map(
+        words,
+        ledger,
+        base,
+        level,
+        range,
+        start,
+        end,
+        frame,
+        flags,
+        constraints,
+        answer,
+    )
 }
 
 // Sets and clears bits in the valid blocks and pages of the region; live, lists the page number of each whose word changed.
@@ -118,7 +130,9 @@ pub extern "C" fn ptb_modify(
         ≡ ptb_modify base level range start end set clear live
         (st words.old ledger.old) list.old answer.old }
 {
-    ptb::ptb_modify(words, ledger, base, level, range, start, end, set, clear, live, list, answer)
+    ptb::ptb_modify(
+        words, ledger, base, level, range, start, end, set, clear, live, list, answer,
+    )
 }
 
 // Frees each table but the root that is all zero, from the leaves up.

@@ -9,7 +9,7 @@ use Rattle.region.specs.declared.ChunkedIterator.{ChunkedIterator}
 use Rattle.region.specs.declared.NextChunk.{NextChunk}
 use Rattle.region.specs.declared.NextChunk.TheVariants.{Chunk, Done}
 use Rattle.address_slot.specs.Slot.{entry_last, chunk_end}
-use Rattle.region.specs.Region.{from_to, next_chunk, next_done, next_cut}
+use Rattle.region.specs.Region.{region_of, next_chunk, next_done, next_cut}
 
 -- the entries of this level that the region meets
 unfoldable pub met : ℕ → ℕ → ℕ → ℕ
@@ -19,7 +19,7 @@ met level s e = cond (ltb s e) ((e - 1) / size_at level - s / size_at level + 1)
 unfoldable pub chunks_in : ℕ → ℕ → ℕ → ℕ → List MemoryRegion
 chunks_in zero level s e = []
 chunks_in (suc n) level s e =
-    let more = from_to s (chunk_end level s e) ∷ chunks_in n level (chunk_end level s e) e in
+    let more = region_of s (chunk_end level s e) ∷ chunks_in n level (chunk_end level s e) e in
     cond (ltb s e) more []
 
 -- the chunks, one for each entry met
@@ -87,7 +87,7 @@ unfolding chunks_in
 in_none zero level s e h = refl
 in_none (suc n) level s e h = rw (le-ltb s e h)
 
-in_step : (n level s e : ℕ) → s < e → chunks_in (suc n) level s e ≡ from_to s (chunk_end level s e) ∷ chunks_in n level (chunk_end level s e) e
+in_step : (n level s e : ℕ) → s < e → chunks_in (suc n) level s e ≡ region_of s (chunk_end level s e) ∷ chunks_in n level (chunk_end level s e) e
 unfolding chunks_in
 in_step n level s e h = rw (lt-ltb s e h)
 
@@ -95,7 +95,7 @@ pub chunks_none : (level s e : ℕ) → e ≤ s → chunks level s e ≡ []
 unfolding chunks
 chunks_none level s e h = in_none (met level s e) level s e h
 
-pub chunks-step : (level s e : ℕ) → s < e → chunks level s e ≡ from_to s (chunk_end level s e) ∷ chunks level (chunk_end level s e) e
+pub chunks-step : (level s e : ℕ) → s < e → chunks level s e ≡ region_of s (chunk_end level s e) ∷ chunks level (chunk_end level s e) e
 unfolding chunks
 chunks-step level s e h =
     ap (λ (n : ℕ). chunks_in n level s e) (met-step level s e h) ∙ in_step (met level (chunk_end level s e) e) level s e h
@@ -124,7 +124,7 @@ next_gives c = go (le_or c.range.end.0 c.range.start.0)
 pub data Tiles (level e : ℕ) : ℕ → List MemoryRegion → Type 0 where
   none : {s : ℕ} → e ≤ s → Tiles level e s []
   more : {s m : ℕ} {l : List MemoryRegion} → s < m → m ≤ e → m ≤ entry_last level s + 1 → Tiles level e m l
-      → Tiles level e s (from_to s m ∷ l)
+      → Tiles level e s (region_of s m ∷ l)
 
 tile : (n level s e : ℕ) → met level s e ≡ n → Tiles level e s (chunks level s e)
 tile zero level s e q = go (le_or e s)
@@ -154,7 +154,7 @@ pub record Holds (r : MemoryRegion) (a : ℕ) : Type 0 where
   pub below : a < r.end.0
 
 abbrev pub nth : List MemoryRegion → ℕ → MemoryRegion
-nth l i = get_or l i (from_to 0 0)
+nth l i = get_or l i (region_of 0 0)
 
 -- each chunk is not empty and lies in one entry
 pub record OneEntry (level : ℕ) (r : MemoryRegion) : Type 0 where
@@ -184,15 +184,15 @@ pub covered : {level e s : ℕ} {l : List MemoryRegion} → Tiles level e s l �
 covered (none h) a p q = absurd (omega arith)
 covered (more {s = s} {m = m} {l = l} b c d t) a p q = go (le_or m a) (λ h. covered t a h q)
   where
-    first : a < m → (j : ℕ) → j < length (from_to s m ∷ l) → Holds (nth (from_to s m ∷ l) j) a → j ≡ 0
+    first : a < m → (j : ℕ) → j < length (region_of s m ∷ l) → Holds (nth (region_of s m ∷ l) j) a → j ≡ 0
     first h zero k r = refl
     first h (suc j) k r = absurd (let z = inside_region t j a (omega arith) r in omega (arith, z.0))
 
-    later : m ≤ a → (o : InOne l a) → (j : ℕ) → j < length (from_to s m ∷ l) → Holds (nth (from_to s m ∷ l) j) a → j ≡ suc o.place
+    later : m ≤ a → (o : InOne l a) → (j : ℕ) → j < length (region_of s m ∷ l) → Holds (nth (region_of s m ∷ l) j) a → j ≡ suc o.place
     later h o zero k r = absurd (omega (arith, r.below))
     later h o (suc j) k r = ap suc (o.only j (omega arith) r)
 
-    go : (m ≤ a) ⊎ (a < m) → (m ≤ a → InOne l a) → InOne (from_to s m ∷ l) a
+    go : (m ≤ a) ⊎ (a < m) → (m ≤ a → InOne l a) → InOne (region_of s m ∷ l) a
     go (inl h) ih = let o = ih h in record { place = suc o.place; known = omega (arith, o.known); holds = o.holds; only = later h o }
     go (inr h) ih = record { place = 0; known = omega arith; holds = record { from = p; below = h }; only = first h }
 

@@ -3,7 +3,7 @@
 use Rattle.std.specs.Prelude.{◌≡◌, List, [], ◌∷◌, ℕ, ◌+◌, ◌*◌, ◌-◌, ◌≤◌, ◌<◌}
 use Rattle.std.proofs.Common.{sym, ap, ◌∙◌, add-mul, arith}
 use Rattle.address_slot.specs.Slot.{chunk_end}
-use Rattle.region.specs.Region.{from_to}
+use Rattle.region.specs.Region.{region_of}
 use Rattle.region.specs.Chunks.{chunks, chunks-step, chunks_none, Tiles, none, more, chunks_tile}
 use Rattle.region.specs.declared.MemoryRegion.{MemoryRegion}
 
@@ -17,13 +17,13 @@ unfoldable pub each_chunk {ℓ} : {S : Type ℓ} → ℕ → (MemoryRegion → S
 each_chunk level f r s = each_of f (chunks level r.start.0 r.end.0) s
 
 module _ {ℓ} {S : Type ℓ} (level : ℕ) (f : MemoryRegion → S → S) (at end : ℕ) (s : S) where
-  pub each_done : end ≤ at → each_chunk level f (from_to at end) s ≡ s
+  pub each_done : end ≤ at → each_chunk level f (region_of at end) s ≡ s
   unfolding each_chunk each_of
   each_done h = rw (chunks_none level at end h)
 
   pub each_step : at < end
-      → each_chunk level f (from_to at end) s
-      ≡ each_chunk level f (from_to (chunk_end level at end) end) (f (from_to at (chunk_end level at end)) s)
+      → each_chunk level f (region_of at end) s
+      ≡ each_chunk level f (region_of (chunk_end level at end) end) (f (region_of at (chunk_end level at end)) s)
   unfolding each_chunk each_of
   each_step h = rw (chunks-step level at end h)
 
@@ -34,8 +34,8 @@ of_most {ℓ} : {S : Type ℓ} (m : S → ℕ) (k : ℕ) (f : MemoryRegion → S
 unfolding each_of
 of_most m k f h (none l) s = omega arith
 of_most m k f h {e = e} (more {s = a} {m = b} p q r t) s =
-    let here = h (from_to a b) s p in
-    let later = of_most m k f h t (f (from_to a b) s) in
+    let here = h (region_of a b) s p in
+    let later = of_most m k f h t (f (region_of a b) s) in
     let whole : b - a + (e - b) ≡ e - a = omega arith in
     let both : (e - a) * k ≡ (b - a) * k + (e - b) * k = ap (λ (x : ℕ). x * k) (sym whole) ∙ add-mul (b - a) (e - b) k in
     omega arith

@@ -14,12 +14,12 @@ abbrev pub region : ℕ → ℕ → MemoryRegion
 region s e = record { start = record { 0 = s }; end = record { 0 = e } }
 
 -- the same, for what this crate says of regions: it rests on no `region`, so that a wrong `region` is refused by itself
-abbrev pub from_to : ℕ → ℕ → MemoryRegion
-from_to s e = record { start = record { 0 = s }; end = record { 0 = e } }
+abbrev pub region_of : ℕ → ℕ → MemoryRegion
+region_of s e = record { start = record { 0 = s }; end = record { 0 = e } }
 
 -- document 01, "Putting down a map": start is rounded down and end up to 4096
 unfoldable pub rounded : ℕ → ℕ → MemoryRegion
-rounded start end = from_to (down start 4096) (align_up end 4096)
+rounded start end = region_of (down start 4096) (align_up end 4096)
 
 -- the chunk is the whole entry
 unfoldable pub whole : ℕ → MemoryRegion → Bool
@@ -27,7 +27,7 @@ whole level r = eqb (r.start.0 % size_at level) 0 && eqb (r.end.0 % size_at leve
 
 -- the chunk from s to m, and what remains up to e
 abbrev pub cut_at : ℕ → ℕ → ℕ → ℕ → NextChunk
-cut_at level s m e = Chunk (from_to s m) (record { range = from_to m e; level = level })
+cut_at level s m e = Chunk (region_of s m) (record { range = region_of m e; level = level })
 
 -- the next chunk of what remains
 unfoldable pub next_chunk : ChunkedIterator → NextChunk

@@ -1,5 +1,5 @@
 -- The house rule for live edits (document 01, "Putting down a map", Modify, and refusal 10), by the Arm walk of the words: where a call
--- breaks it, and the lowest such address; and what refusals 9 to 11 leave. Definitions alone; `Change.house-rule-bits` says bit by bit what
+-- breaks it, and the lowest such address; and what refusals 9 to 11 leave. Definitions alone; `Change.house_rule_bits` says bit by bit what
 -- `may_change` allows.
 use Rattle.std.specs.Prelude.{◌≡◌, true, false, List, ◌⊎◌, ℕ, ◌+◌, ◌%◌, ◌≤◌, ◌<◌, length}
 use Rattle.laws.specs.Size.{size_at, down}

@@ -1,19 +1,11 @@
--- What both walks of a region know of its chunks, and of an entry that is no table.
+-- What both walks of a region know of its chunks.
 use mathlib.Core.List.{List}
-use mathlib.Core.Logic.{◌⊎◌, inl, inr}
-use mathlib.Core.Path.{◌≡◌, refl, sym, ap, ◌∙◌}
+use mathlib.Core.Path.{◌≡◌, sym, ap, ◌∙◌}
 use Prim.Native.Nat.{ℕ, ◌-◌, ◌≤◌}
-use Rattle.entry.specs.declared.Sub.{Sub}
-use Rattle.entry.specs.declared.Sub.TheVariants.{Table, Outside, Leaf}
 use Rattle.region.specs.Chunks.{chunks_of}
 use Rattle.region.specs.declared.MemoryRegion.{MemoryRegion}
 use Rattle.region.specs.declared.ChunkedIterator.{ChunkedIterator}
 use Rattle.list_lines.specs.Lines.{each, lines_from, lines_at, lines-each}
-
-pub no_table : (x : Sub) → ((j : ℕ) → x ≡ Table j → ⊥) → (x ≡ Outside) ⊎ (x ≡ Leaf)
-no_table (Table j) n = absurd (n j refl)
-no_table Outside n = inl refl
-no_table Leaf n = inr refl
 
 -- all the lines, by the chunks at entry
 pub lines_split : (base n : ℕ) (words : List ℕ) (k level : ℕ) (r : MemoryRegion) {it : ChunkedIterator} → level ≤ 3

@@ -1,5 +1,6 @@
 -- `compact_subtables`: each way through the code by its law.
 use Rattle.std.proofs.Common.{◌≡◌, ◌⊎◌, inl, inr, ℕ, ◌+◌, ◌*◌, ◌-◌, refl, sym, ap, ◌∙◌, arith}
+use Rattle.entry.proofs.Tags.{no_table}
 use Rattle.laws.specs.Size.{lower}
 use Rattle.laws.specs.Slot.{iter_none, iter-step}
 use Rattle.entry.specs.Sub.{sub_found}
@@ -13,11 +14,6 @@ use Rattle.compact.proofs.+compact_subtables.Goals as goal
 -- what the call one level down does
 abbrev below : ℕ → Handle → ℕ → St → St
 below level handle = λ j t. compact_table (3 - (level + 1)) handle j t
-
-no_table : (x : Sub) → ((j : ℕ) → x ≡ Table j → ⊥) → (x ≡ Outside) ⊎ (x ≡ Leaf)
-no_table (Table j) n = absurd (n j refl)
-no_table Outside n = inl refl
-no_table Leaf n = inr refl
 
 pub returns-then-level-ge-LEAF_LEVEL : goal.returns-then-level-ge-LEAF_LEVEL
 returns-then-level-ge-LEAF_LEVEL t c =

@@ -1,4 +1,5 @@
 -- `count_lines`: each way through the code by its law.
+use Rattle.entry.proofs.Tags.{no_table}
 use Rattle.list_lines.proofs.+count_lines.Goals.{After-split-rest, After-subtable-kind}
 use mathlib.Core.List.{List, ◌∷◌}
 use mathlib.Core.Path.{◌≡◌, sym, ap, ◌∙◌}
@@ -10,7 +11,7 @@ use Rattle.entry.specs.declared.Sub.TheVariants.{Table}
 use Rattle.region.specs.Chunks.{chunks_of}
 use Rattle.list_lines.specs.Lines.{Line, each, lines_from, lines_at, lines-table, lines_other, lines_pages, next_chunk_lem}
 use Rattle.list_lines.specs.Lines.{next_none, each_none, count-step}
-use Rattle.list_lines.proofs.Chunk.{no_table, lines_split}
+use Rattle.list_lines.proofs.Chunk.{lines_split}
 use Rattle.list_lines.proofs.+count_lines.Goals as goal
 
 -- no more lines than a count can say

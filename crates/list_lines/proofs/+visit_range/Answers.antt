@@ -1,4 +1,5 @@
 -- `visit_range`: each way through the code by its law.
+use Rattle.entry.proofs.Tags.{no_table}
 use Rattle.list_lines.proofs.+visit_range.Goals.{After-subtable-kind}
 use mathlib.Core.Path.{◌≡◌, refl, sym, ap, ap₂, ◌∙◌}
 use mathlib.Core.List.{List, [], ◌∷◌}
@@ -10,7 +11,7 @@ use Rattle.entry.specs.declared.Sub.TheVariants.{Table}
 use Rattle.region.specs.Chunks.{chunks_of}
 use Rattle.list_lines.specs.Lines.{Line, line, each, lines_from, lines_at, lines-table, lines_other, next_chunk_lem}
 use Rattle.list_lines.specs.Lines.{next_none, each_none, count-step, write_step, write_done, written, write_lines, Written}
-use Rattle.list_lines.proofs.Chunk.{no_table, lines_split}
+use Rattle.list_lines.proofs.Chunk.{lines_split}
 use Rattle.list_lines.proofs.+visit_range.Goals as goal
 
 -- a chunk, once its entry is known: it, and the chunks after it

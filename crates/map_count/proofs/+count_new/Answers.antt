@@ -1,6 +1,7 @@
 -- `count_new`: each way through the code by its law.
 use Rattle.std.proofs.Common.{◌≡◌, ℕ, ◌+◌, ◌*◌, ◌-◌, ◌%◌, ◌^◌, ◌≤◌, ◌<◌, refl, sym, ap, ◌∙◌, arith}
 use mathlib.Core.Path.{subst⁻¹}
+use Rattle.entry.proofs.Tags.{is_outside}
 use Rattle.entry.specs.declared.Sub.{Sub}
 use Rattle.entry.specs.declared.Sub.TheVariants.{Table, Outside, Leaf}
 use Rattle.entry.specs.Sub.{sub-below}
@@ -19,12 +20,6 @@ use Rattle.map_count.specs.Laws.{count_at, closed_done, closed_open, count_fit, 
 use Rattle.map_count_leaf.proofs.Tags.{no_down}
 use Rattle.map_count.proofs.+count_new.Goals as goal
 use Rattle.map_count.proofs.+count_new.Goals.{After-entry_index-i}
-
--- neither a table nor a leaf
-is_outside : (x : Sub) → ((j : ℕ) → x ≡ Table j → ⊥) → (x ≡ Leaf → ⊥) → x ≡ Outside
-is_outside (Table j) n l = absurd (n j refl)
-is_outside Outside n l = refl
-is_outside Leaf n l = absurd (l refl)
 
 -- what is said of a chunk's record, said of its map
 ruled : (level w : ℕ) (m n : Map) {r : Rule} → r ≡ rule_of level m w → m ≡ n → r ≡ rule_of level n w

@@ -1,4 +1,5 @@
 -- `survey_range`: each way through the code by its law.
+use Rattle.entry.proofs.Tags.{is_outside}
 use Rattle.modify_survey.proofs.+survey_range.Goals.{After-entry_index-i}
 use mathlib.Core.Path.{◌≡◌, refl, sym, ap, ◌∙◌, subst⁻¹}
 use Prim.Native.Nat.{◌+◌, ◌-◌, ◌≤◌}
@@ -18,12 +19,6 @@ use Rattle.modify_survey.specs.Survey.{survey_entry, survey_range, survey_step, 
 use Rattle.modify_survey.specs.Room.{Room, Adds, same_adds, entry_adds, range_adds, room_chunk, room_after}
 use Prim.Native.Nat.{ℕ, ◌<◌}
 use Rattle.modify_survey.proofs.+survey_range.Goals as goal
-
--- what stands there is neither a table nor a leaf
-is_outside : (x : Sub) → ((j : ℕ) → x ≡ Table j → ⊥) → (x ≡ Leaf → ⊥) → x ≡ Outside
-is_outside (Table j) no_table no_leaf = absurd (no_table j refl)
-is_outside Outside no_table no_leaf = refl
-is_outside Leaf no_table no_leaf = absurd (no_leaf refl)
 
 -- what is done with one chunk, once its end and its slot are known
 abbrev step_of : {t : ℕ} → After-entry_index-i t → Survey → Survey

@@ -1,7 +1,6 @@
 -- `free`: each way through the code by its law.
-use Rattle.std.proofs.Common.{◌⊎◌, inl, inr}
-use Rattle.entry.specs.declared.Sub.{Sub}
-use Rattle.entry.specs.declared.Sub.TheVariants.{Table, Outside, Leaf}
+use Rattle.std.proofs.Common.{inl, inr}
+use Rattle.entry.proofs.Tags.{no_table}
 use mathlib.Core.Path.{◌≡◌, refl, sym, ap, ◌∙◌}
 use Prim.Native.Nat.{◌*◌}
 use native.Mathlib.Omega.{arith}
@@ -12,12 +11,6 @@ use Rattle.pool_table.specs.Table.{clear, free_slot, slot_table, slot_outside, s
 use Prim.Native.Nat.{ℕ}
 use Rattle.pool_table.proofs.+free.Invariants.{below}
 use Rattle.pool_table.proofs.+free.Goals as goal
-
--- an entry that is no table
-no_table : (x : Sub) → ((j : ℕ) → x ≡ Table j → ⊥) → (x ≡ Outside) ⊎ (x ≡ Leaf)
-no_table (Table j) n = absurd (n j refl)
-no_table Outside n = inl refl
-no_table Leaf n = inr refl
 
 pub clear_table-requires : goal.clear_table-requires
 clear_table-requires t c = (c.requires.0, c.requires.1)

@@ -1,7 +1,8 @@
 -- Document 01, "Putting down a map", Compact: "from the leaves up: it frees each table other than the root whose words are all zero, zeroes
 -- its slot, and so also frees a table that this empties". One entry is done when its subtree is, and its table is freed if that leaves it
 -- empty.
-use Rattle.std.specs.Prelude.{◌≡◌, Bool, true, false, cond, ◌&&◌, List, [], ◌∷◌, ℕ, zero, suc, ◌+◌, ◌*◌, ◌-◌, ◌≤◌, ◌<◌, eqb, length, get_or, drop}
+use Rattle.std.specs.Prelude.{◌≡◌, Bool, true, false, cond, ◌&&◌, List, [], ◌∷◌, ℕ}
+use Rattle.std.specs.Prelude.{zero, suc, ◌+◌, ◌*◌, ◌-◌, ◌≤◌, ◌<◌, eqb, length, get_or, drop}
 use Rattle.std.proofs.Common.{sym, ◌∙◌, add-one, arith, drop_of_length-le, drop-cons, eq-eqb, ne_eqb}
 use Rattle.std.proofs.Math.Path.{ap}
 use Rattle.laws.specs.Part.{part_of}
@@ -87,7 +88,8 @@ unfolding compact_table
 compact_down h k level s low =
     let e : suc (3 - (level + 1)) ≡ 3 - level = omega arith in
     let q : level ≡ 3 - suc (3 - (level + 1)) = omega arith in
-    ap (λ (l : ℕ). iter (compact_entry (λ j t. compact_table (3 - (level + 1)) h j t) h k l) 512 s) q ∙ ap (λ (d : ℕ). compact_table d h k s) e
+    ap (λ (l : ℕ). iter (compact_entry (λ j t. compact_table (3 - (level + 1)) h j t) h k l) 512 s) q
+    ∙ ap (λ (d : ℕ). compact_table d h k s) e
 
 pub compact_last : (h : Handle) (k level : ℕ) (s : St) → 3 ≤ level → s ≡ compact_table (3 - level) h k s
 unfolding compact_table

@@ -1,6 +1,7 @@
 -- What a word says (document 01, "What a word says"): its fields, its kind at its level, the word that refers to a table; the word that a
 -- map writes and the one that an edit leaves.
-use Rattle.std.specs.Prelude.{◌≡◌, ℕ, ◌+◌, ◌-◌, ◌*◌, ◌/◌, ◌%◌, ◌^◌, ◌<◌, ◌≤◌, Bool, true, false, cond, ◌||◌, ◌≢◌, ◌⊎◌, ◌==◌, bit_and, bit_or, nat_eq, nat_le, refl}
+use Rattle.std.specs.Prelude.{◌≡◌, ℕ, ◌+◌, ◌-◌, ◌*◌, ◌/◌, ◌%◌, ◌^◌, ◌<◌, ◌≤◌, Bool}
+use Rattle.std.specs.Prelude.{true, false, cond, ◌||◌, ◌≢◌, ◌⊎◌, ◌==◌, bit_and, bit_or, nat_eq, nat_le, refl}
 use Rattle.std.proofs.Common.{ap, ◌∙◌, inl, inr, lit<}
 use native.Mathlib.Omega.{arith}
 use Rattle.std.proofs.lemmas.Nat.Bits.{and_high}

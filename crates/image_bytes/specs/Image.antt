@@ -1,6 +1,7 @@
 -- A table's words as bytes, little-endian (document 01, "page image"), and the laws that the loops cite.
 use Rattle.std.specs.Prelude.{◌≡◌, refl, List, [], ◌∷◌, ◌++◌, ℕ, zero, suc, ◌+◌, ◌*◌, ◌/◌, ◌%◌, ◌<◌, length, get_or, take, drop}
-use Rattle.std.proofs.Common.{sym, ap, ap₂, ◌∙◌, append_assoc, append-nil, add-one, arith, length-append, drop_of_length-le, take-suc, take_at, length-take-le, drop-drop}
+use Rattle.std.proofs.Common.{sym, ap, ap₂, ◌∙◌, append_assoc, append-nil, add-one}
+use Rattle.std.proofs.Common.{arith, length-append, drop_of_length-le, take-suc, take_at, length-take-le, drop-drop}
 use Rattle.std.proofs.Math.Seq.{take-length, drop-append-add}
 use Rattle.laws.specs.Part.{put_part}
 

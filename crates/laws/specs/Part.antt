@@ -1,6 +1,7 @@
 -- A part of a list that was lent and has come back: what a callee says of the part, said of the whole.
 use Rattle.std.specs.Prelude.{◌≡◌, refl, List, [], ◌∷◌, ◌++◌, ℕ, zero, suc, ◌+◌, ◌-◌, ◌≤◌, ◌<◌, length, get_or, set, take, drop, replicate}
-use Rattle.std.proofs.Common.{sym, ap, ◌∙◌, append-nil, add-one, arith, length-append, length-take, length-drop, drop_of_length-le, get_or-take, get_or-drop, get_or-append-add, length-take-le, take_all}
+use Rattle.std.proofs.Common.{sym, ap, ◌∙◌, append-nil, add-one, arith, length-append}
+use Rattle.std.proofs.Common.{length-take, length-drop, drop_of_length-le, get_or-take, get_or-drop, get_or-append-add, length-take-le, take_all}
 use Rattle.std.proofs.Math.ListN.{get_or-append}
 use Rattle.std.proofs.Math.Seq.{drop-length}
 use borrow.Rule.Slice.PartMut.{put_mid, mid_of, Post-is, mid_len}

@@ -1,6 +1,7 @@
 -- Entry sizes, once over the level: 2^39, 2^30, 2^21 and 2^12 at levels 0 to 3, and 2^12 past them; a root's span. Rounding to a multiple.
 use Rattle.std.specs.Prelude.{◌≡◌, ◌&&◌, ℕ, ◌+◌, ◌*◌, ◌-◌, ◌/◌, ◌%◌, ◌^◌, ◌≤◌, ◌<◌, eqb}
-use Rattle.std.proofs.Common.{sym, ap, ◌∙◌, add-mul, mul_assoc, mul-le-mul_right, div-add-mod', mod-lt, mod-eq_of_lt, div-lt_iff_lt-mul, arith, pow-add, pow_pos, pow_mono}
+use Rattle.std.proofs.Common.{sym, ap, ◌∙◌, add-mul, mul_assoc, mul-le-mul_right, div-add-mod'}
+use Rattle.std.proofs.Common.{mod-lt, mod-eq_of_lt, div-lt_iff_lt-mul, arith, pow-add, pow_pos, pow_mono}
 use Rattle.std.proofs.Math.Nat.{mul-mod_left, zero-mod, mod-mod_of_dvd, dvd-mul_left, add-mul-mod_self_right, div-eq_of_lt-le}
 use Rattle.std.specs.Int.Bits.{bit_and, bit_or}
 use Rattle.std.proofs.lemmas.Nat.{and_mask}
@@ -105,7 +106,8 @@ pub size-or : (level a : ℕ) → bit_or a (size_at level - 1) ≡ down a (size_
 unfolding size_at down
 size-or level a = or_ones (12 + 9 * (3 - level)) a
 
-pub size_aligned : (level a b : ℕ) → eqb (bit_and (bit_or a b) (size_at level - 1)) 0 ≡ eqb (a % size_at level) 0 && eqb (b % size_at level) 0
+pub size_aligned : (level a b : ℕ) → eqb (bit_and (bit_or a b) (size_at level - 1)) 0
+    ≡ eqb (a % size_at level) 0 && eqb (b % size_at level) 0
 unfolding size_at
 size_aligned level a b = or_aligned (12 + 9 * (3 - level)) a b
 
@@ -203,8 +205,10 @@ pub size_next : (level x : ℕ) → level < 3 → x % size_at level ≡ 0 → x 
 size_next level x h e = multiple_of 512 (size_at (level + 1)) x (ap (λ (a : ℕ). x % a) (sym (size_step level h)) ∙ e)
 
 -- the offset in an entry: its slot in a table of the next level, and the offset there
-pub size-parts : (level x : ℕ) → level < 3 → x % size_at level ≡ x / size_at (level + 1) % 512 * size_at (level + 1) + x % size_at (level + 1)
-size-parts level x h = ap (λ (a : ℕ). x % a) (size_step level h) ∙ mod_parts 512 (size_at (level + 1)) x (size_pos (level + 1)) (omega arith)
+pub size-parts : (level x : ℕ) → level < 3
+    → x % size_at level ≡ x / size_at (level + 1) % 512 * size_at (level + 1) + x % size_at (level + 1)
+size-parts level x h = ap (λ (a : ℕ). x % a) (size_step level h)
+    ∙ mod_parts 512 (size_at (level + 1)) x (size_pos (level + 1)) (omega arith)
 
 -- the place in a page
 pub size_offset : (level a : ℕ) → a % size_at level % 4096 ≡ a % 4096

@@ -111,7 +111,8 @@ module _ (h : Handle) (s : St) (k level : ℕ) (c : Map) {i : ℕ} (index : i �
   unfolding need_below
   entry_leaf e q l =
       let o = leaf_open level c (word_at s k i) l in
-      entry-sub Leaf (sym q ∙ e) ∙ ap (λ (n : ℕ). if_down (rule_of level c (word_at s k i)) n) o ∙ down_twice (rule_of level c (word_at s k i)) _
+      entry-sub Leaf (sym q ∙ e) ∙ ap (λ (n : ℕ). if_down (rule_of level c (word_at s k i)) n) o
+      ∙ down_twice (rule_of level c (word_at s k i)) _
       ∙ sym o
 
   module _ {x : Sub} (e : x ≡ sub_of h.base.0 (tables s) level (word_at s k i)) {r : Rule} (is : r ≡ rule_of level c (word_at s k i)) where

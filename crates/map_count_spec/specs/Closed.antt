@@ -249,7 +249,8 @@ down_most Keep n = omega arith
 down_most (Drop x) n = omega arith
 down_most Down n = omega arith
 
-pub leaf_met : (depth : ℕ) (m : Map) (w : ℕ) → depth ≤ 3 → start_of m < end_of m → closed_leaf depth m w ≤ mets depth (start_of m) (end_of m)
+pub leaf_met : (depth : ℕ) (m : Map) (w : ℕ) → depth ≤ 3 → start_of m < end_of m
+    → closed_leaf depth m w ≤ mets depth (start_of m) (end_of m)
 unfolding closed_leaf mets
 leaf_met zero m w l h = omega arith
 leaf_met (suc depth) m w l h =

@@ -73,7 +73,8 @@ sum-rests depth f m l start each =
         begins : (chunk_end (3 - depth) (start_of c) (end_of c) ≡ end_of c)
             ⊎ ((chunk_end (3 - depth) (start_of c) (end_of c) < end_of c)
             × (chunk_end (3 - depth) (start_of c) (end_of c) % size_at (3 - depth) ≡ 0))
-            → (chunk_end (3 - depth) (start_of c) (end_of c) % size_at (3 - depth) ≡ 0) ⊎ (end_of c ≤ chunk_end (3 - depth) (start_of c) (end_of c))
+            → (chunk_end (3 - depth) (start_of c) (end_of c) % size_at (3 - depth) ≡ 0)
+            ⊎ (end_of c ≤ chunk_end (3 - depth) (start_of c) (end_of c))
         begins (inl e) = inr (omega arith)
         begins (inr d) = inl d.1
 
@@ -147,7 +148,8 @@ closed_leaf_lem (suc depth) m w l one law =
     begins : (chunk_end (3 - depth) (start_of m) (end_of m) ≡ end_of m)
         ⊎ ((chunk_end (3 - depth) (start_of m) (end_of m) < end_of m)
         × (chunk_end (3 - depth) (start_of m) (end_of m) % size_at (3 - depth) ≡ 0))
-        → (chunk_end (3 - depth) (start_of m) (end_of m) % size_at (3 - depth) ≡ 0) ⊎ (end_of m ≤ chunk_end (3 - depth) (start_of m) (end_of m))
+        → (chunk_end (3 - depth) (start_of m) (end_of m) % size_at (3 - depth) ≡ 0)
+        ⊎ (end_of m ≤ chunk_end (3 - depth) (start_of m) (end_of m))
     begins (inl e) = inr (omega arith)
     begins (inr d) = inl d.1
 

@@ -34,7 +34,8 @@ unfolding rest_at
 rest_off level m n = rw (ne_eqb (first_frame m % size_at level) 0 n) (both m.blocks)
   where
     both : (b : Bool)
-        → met level (start_of m) (end_of m) ≡ cond (b && false) (last_part level (start_of m) (end_of m)) (met level (start_of m) (end_of m))
+        → met level (start_of m) (end_of m)
+        ≡ cond (b && false) (last_part level (start_of m) (end_of m)) (met level (start_of m) (end_of m))
     both true = refl
     both false = refl
 

@@ -227,7 +227,8 @@ child_lawful level w a h p = go (eq_or (w % 2) 1)
 
 pub data Missed (level : ℕ) (m : Map) (w : ℕ) : Type 0 where
   hole : w % 2 ≡ 0 → address_of w ≡ 0 → start_of m % size_at level < first_frame m → Missed level m w
-  block : w % 4 ≡ 1 → address_of w % size_at level ≡ 0 → (flags_of w ≡ m.flags → first_frame m ≡ address_of w + start_of m % size_at level → ⊥)
+  block : w % 4 ≡ 1 → address_of w % size_at level ≡ 0
+      → (flags_of w ≡ m.flags → first_frame m ≡ address_of w + start_of m % size_at level → ⊥)
       → Missed level m w
 
 -- as it is tested, where rule 2 doesn't fit the chunk itself and the chunk begins with an entry of the next level

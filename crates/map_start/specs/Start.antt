@@ -52,5 +52,6 @@ module _ (h : Handle) (k level : ℕ) (m : Map) (s : St) where
   pub none_leads : LeadsTo h k level m s Nothing
   none_leads j e = let z : ◌≡◌ {A = ℕ} 0 1 = cc in absurd (omega arith)
 
-  pub some_leads : {j : ℕ} → map_range (3 - (level + 1)) h j m s ≡ map_range (3 - level) h k m s → j < tables s → LeadsTo h k level m s (At j)
+  pub some_leads : {j : ℕ} → map_range (3 - (level + 1)) h j m s ≡ map_range (3 - level) h k m s → j < tables s
+      → LeadsTo h k level m s (At j)
   some_leads {j} same below i e = let q : j ≡ i = cc in (ap (λ (x : ℕ). map_range (3 - (level + 1)) h x m s) (sym q) ∙ same, omega arith)

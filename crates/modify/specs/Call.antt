@@ -112,5 +112,6 @@ module _ (h : Handle) (start end set clear : ℕ) (live : Bool) (s : St) (list :
     pub call-refused : (r : Refusal) → x ≡ Refused r → refused r s list ≡ modify_call h start end set clear live s list
     call-refused r q = refused-first (λ r. refused r s list) x _ r q ∙ by_asked
 
-    pub call-asked : x ≡ Accepted → modify_sound h (asked_edit start end set clear live) s list ≡ modify_call h start end set clear live s list
+    pub call-asked : x ≡ Accepted → modify_sound h (asked_edit start end set clear live) s list
+        ≡ modify_call h start end set clear live s list
     call-asked q = accepted_next (λ r. refused r s list) x _ q ∙ by_asked

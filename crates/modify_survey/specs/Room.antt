@@ -17,7 +17,8 @@ use Rattle.modify_entry.specs.declared.Edit.{Edit}
 use Rattle.modify_entry.specs.Word.{chunk_edit, edit_word}
 use Rattle.modify_survey.specs.declared.Survey.{Survey}
 use Rattle.modify_survey.specs.House.{may_change}
-use Rattle.modify_survey.specs.Survey.{adding, splits_in, breach, if_block, survey_part, survey_whole, survey_entry, survey_sub, survey_chunk}
+use Rattle.modify_survey.specs.Survey.{adding, splits_in, breach, if_block}
+use Rattle.modify_survey.specs.Survey.{survey_part, survey_whole, survey_entry, survey_sub, survey_chunk}
 use Rattle.modify_survey.specs.Survey.{survey_range}
 
 abbrev pub length_of : MemoryRegion → ℕ

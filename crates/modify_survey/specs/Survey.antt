@@ -192,7 +192,8 @@ module _ (h : Handle) (s : St) (k level : ℕ) (e : Edit) (c : MemoryRegion) (v 
   unfolding survey_step survey_chunk
   found y q = rw (← index, ← is, q)
 
-  pub step-table : (j : ℕ) → x ≡ Table j → level < 3 → survey_range (3 - (level + 1)) h s j (chunk_edit e c) v ≡ survey_step h s k level e c v
+  pub step-table : (j : ℕ) → x ≡ Table j → level < 3
+      → survey_range (3 - (level + 1)) h s j (chunk_edit e c) v ≡ survey_step h s k level e c v
   unfolding survey_sub survey_below
   step-table j q l = rw (← found (Table j) q, lt-ltb level 3 l)
 

@@ -79,7 +79,8 @@ unfolding first_from
 first_skip i zero l n = absurd (n refl)
 first_skip i (suc x) l n = refl
 
-pub first_miss : (l : List ℕ) (i : ℕ) → i < length l → (get_or l i 0 ≡ 0 → ⊥) → first_from i (drop i l) ≡ first_from (i + 1) (drop (i + 1) l)
+pub first_miss : (l : List ℕ) (i : ℕ) → i < length l → (get_or l i 0 ≡ 0 → ⊥)
+    → first_from i (drop i l) ≡ first_from (i + 1) (drop (i + 1) l)
 first_miss l i h n = rw (drop-cons l i 0 h, add-one) (first_skip i (get_or l i 0) (drop (suc i) l) n)
 
 -- what is found is free, below n, and no lower table is free

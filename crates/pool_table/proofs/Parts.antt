@@ -18,7 +18,8 @@ pub table-length : (k : ℕ) (w : List ℕ) → 512 * k + 512 ≤ length w → l
 table-length k w h = part_length (512 * k) (512 * k + 512) w h ∙ (let e : 512 * k + 512 - 512 * k ≡ 512 = omega arith in e)
 
 -- all zero
-pub zeroed_part : (k : ℕ) (w t : List ℕ) → 512 * k + 512 ≤ length w → t ≡ replicate (length (mid_of (512 * k) (512 * k + 512 - 512 * k) w)) 0
+pub zeroed_part : (k : ℕ) (w t : List ℕ) → 512 * k + 512 ≤ length w
+    → t ≡ replicate (length (mid_of (512 * k) (512 * k + 512 - 512 * k) w)) 0
     → put_mid (512 * k) (512 * k + 512 - 512 * k) w t ≡ put_table k zeros w
 unfolding zeros
 zeroed_part k w t h e =

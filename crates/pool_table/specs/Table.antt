@@ -110,7 +110,8 @@ unfolding free_tree
 free-down h k level s low =
     let e : suc (3 - (level + 1)) ≡ 3 - level = omega arith in
     let q : level ≡ 3 - suc (3 - (level + 1)) = omega arith in
-    ap (λ (l : ℕ). clear k (iter (free_slot (λ j t. free_tree (3 - (level + 1)) h j t) h k l) 512 s)) q ∙ ap (λ (d : ℕ). free_tree d h k s) e
+    ap (λ (l : ℕ). clear k (iter (free_slot (λ j t. free_tree (3 - (level + 1)) h j t) h k l) 512 s)) q
+    ∙ ap (λ (d : ℕ). free_tree d h k s) e
 
 pub free_last : (h : Handle) (k level : ℕ) (s : St) → 3 ≤ level → clear k s ≡ free_tree (3 - level) h k s
 unfolding free_tree

@@ -34,7 +34,8 @@ ptb_make base level range s old =
     told_out old (make_call (handle_of base level range) s)
 
 module _ (base level range : ℕ) (s : St) (old : List ℕ) where
-  pub ptb_make_told : {h : Handle} {o : Outcome} {s' : St} {x : Slip} → h ≡ handle_of base level range → out o s' ≡ make_call h s → x ≡ told o old
+  pub ptb_make_told : {h : Handle} {o : Outcome} {s' : St} {x : Slip} → h ≡ handle_of base level range → out o s' ≡ make_call h s
+      → x ≡ told o old
       → out x s' ≡ ptb_make base level range s old
   unfolding ptb_make
   ptb_make_told {s' = s'} e m t = ap (λ (y : Slip). out y s') t ∙ ap (told_out old) (m ∙ ap (λ (g : Handle). make_call g s) e)
@@ -67,7 +68,8 @@ ptb_look_up base level range s va old =
     told_looked (look_up_call (handle_of base level range) s va) old
 
 module _ (base level range : ℕ) (s : St) (va : ℕ) (old : List ℕ) where
-  pub ptb_look_up_told : {h : Handle} {o : Looked} {x : Slip} → h ≡ handle_of base level range → o ≡ look_up_call h s va → x ≡ told_looked o old
+  pub ptb_look_up_told : {h : Handle} {o : Looked} {x : Slip} → h ≡ handle_of base level range → o ≡ look_up_call h s va
+      → x ≡ told_looked o old
       → x ≡ ptb_look_up base level range s va old
   unfolding ptb_look_up
   ptb_look_up_told e m t = t ∙ ap (λ (o : Looked). told_looked o old) (m ∙ ap (λ (g : Handle). look_up_call g s va) e)
@@ -139,11 +141,13 @@ ptb_compact base level range s old =
     told_count old (compact.compact_call (handle_of base level range) s)
 
 module _ (base level range : ℕ) (s : St) (old : List ℕ) where
-  pub ptb_compact_told : {h : Handle} {o : Counted} {s' : St} {x : Slip} → h ≡ handle_of base level range → out o s' ≡ compact.compact_call h s
+  pub ptb_compact_told : {h : Handle} {o : Counted} {s' : St} {x : Slip} → h ≡ handle_of base level range
+      → out o s' ≡ compact.compact_call h s
       → x ≡ told_counted o old
       → out x s' ≡ ptb_compact base level range s old
   unfolding ptb_compact
-  ptb_compact_told {s' = s'} e m t = ap (λ (y : Slip). out y s') t ∙ ap (told_count old) (m ∙ ap (λ (g : Handle). compact.compact_call g s) e)
+  ptb_compact_told {s' = s'} e m t = ap (λ (y : Slip). out y s') t
+      ∙ ap (told_count old) (m ∙ ap (λ (g : Handle). compact.compact_call g s) e)
 
   pub compact_no_range : 1 < range → ptb_compact base level range s old ≡ out (told_refusal Shape old) s
   unfolding ptb_compact told_counted
@@ -182,7 +186,8 @@ module _ (base level range start end set clear live : ℕ) (s : St) (list old : 
       ap (λ (y : Slip). changed y s' list') t
       ∙ ap (told_modify old) (m ∙ ap (λ (g : Handle). modify.modify_call g start end set clear (live_of live) s list) e)
 
-  pub modify_no_range : 1 < range → ptb_modify base level range start end set clear live s list old ≡ changed (told_refusal Shape old) s list
+  pub modify_no_range : 1 < range → ptb_modify base level range start end set clear live s list old
+      ≡ changed (told_refusal Shape old) s list
   unfolding ptb_modify told_modified
   modify_no_range above =
       ap (told_modify old)

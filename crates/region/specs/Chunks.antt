@@ -1,6 +1,8 @@
 -- The chunks of a region at a level, as a list: ascending, each in one entry, together the region and nothing else. Leans on `Region`.
-use Rattle.std.specs.Prelude.{◌≡◌, refl, cond, List, [], ◌∷◌, ◌⊎◌, ℕ, zero, suc, ◌+◌, ◌*◌, ◌-◌, ◌/◌, ◌%◌, ◌≤◌, ◌<◌, min, ltb, length, get_or}
-use Rattle.std.proofs.Common.{ap, ◌∙◌, inl, inr, mul-div_cancel, le-div_iff_mul-le, div-lt_iff_lt-mul, div-add-mod', mod-lt, add-mul, suc-mul, mul-le-mul_left, mul-le-mul_right, arith, lt-ltb, le-ltb}
+use Rattle.std.specs.Prelude.{◌≡◌, refl, cond, List, [], ◌∷◌, ◌⊎◌, ℕ, zero, suc}
+use Rattle.std.specs.Prelude.{◌+◌, ◌*◌, ◌-◌, ◌/◌, ◌%◌, ◌≤◌, ◌<◌, min, ltb, length, get_or}
+use Rattle.std.proofs.Common.{ap, ◌∙◌, inl, inr, mul-div_cancel, le-div_iff_mul-le, div-lt_iff_lt-mul, div-add-mod'}
+use Rattle.std.proofs.Common.{mod-lt, add-mul, suc-mul, mul-le-mul_left, mul-le-mul_right, arith, lt-ltb, le-ltb}
 use Rattle.std.proofs.Math.Nat.{div-eq_of_lt-le, mul-mod_left}
 use Rattle.laws.specs.Size.{size_at, size_pos, down, down_rest, multiple_is, next_multiple}
 use Rattle.laws.specs.Test.{le_or}
@@ -87,7 +89,8 @@ unfolding chunks_in
 in_none zero level s e h = refl
 in_none (suc n) level s e h = rw (le-ltb s e h)
 
-in_step : (n level s e : ℕ) → s < e → chunks_in (suc n) level s e ≡ region_of s (chunk_end level s e) ∷ chunks_in n level (chunk_end level s e) e
+in_step : (n level s e : ℕ) → s < e → chunks_in (suc n) level s e
+    ≡ region_of s (chunk_end level s e) ∷ chunks_in n level (chunk_end level s e) e
 unfolding chunks_in
 in_step n level s e h = rw (lt-ltb s e h)
 
@@ -237,7 +240,8 @@ unfolding chunk_end
 chunk_stops level s e = go (le_or e (entry_last level s + 1))
   where
     go : (e ≤ entry_last level s + 1) ⊎ (entry_last level s + 1 < e)
-        → (min e (entry_last level s + 1) ≡ e) ⊎ ((min e (entry_last level s + 1) < e) × (min e (entry_last level s + 1) % size_at level ≡ 0))
+        → (min e (entry_last level s + 1) ≡ e)
+        ⊎ ((min e (entry_last level s + 1) < e) × (min e (entry_last level s + 1) % size_at level ≡ 0))
     go (inl l) = inl (omega arith)
     go (inr l) =
         let here : min e (entry_last level s + 1) ≡ (s / size_at level + 1) * size_at level = let n = last_number level s in omega arith in

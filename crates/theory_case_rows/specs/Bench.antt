@@ -171,7 +171,8 @@ made = (refl, refl, refl, refl)
 abbrev pub Quick : Type 0
 Quick =
     RowHolds A
-    × RowHolds (B 8 (Tables 3) (pool_b 8)) × RowHolds (B 3 (Tables 3) (pool_b 3)) × RowHolds (B 2 (Refused (WantOfRoom 2 1)) (fresh_row 1 2))
+    × RowHolds (B 8 (Tables 3) (pool_b 8)) × RowHolds (B 3 (Tables 3) (pool_b 3))
+    × RowHolds (B 2 (Refused (WantOfRoom 2 1)) (fresh_row 1 2))
     × RowHolds (CD 0x4020_0000 1 pool_a) × RowHolds (CD 0x5000_0000 3 pool_d)
     × RowHolds (G 0 3 pool_g) × RowHolds (G 0x1000 1 (fresh_row 1 8))
     × RowHolds AA

@@ -10,7 +10,8 @@ use Rattle.pool.specs.Refuse.{first_refused}
 use Rattle.modify_entry.specs.Own.{put_number, own_chunk, own_range}
 use Rattle.modify_range.specs.Range.{own, down_chunk, own_work, modify_range}
 use Rattle.modify_survey.specs.House.{house_rule, may_change}
-use Rattle.modify_survey.specs.Survey.{adding, splits_in, breach, if_block, survey_part, survey_whole, survey_entry, survey_sub, survey_chunk}
+use Rattle.modify_survey.specs.Survey.{adding, splits_in, breach, if_block}
+use Rattle.modify_survey.specs.Survey.{survey_part, survey_whole, survey_entry, survey_sub, survey_chunk}
 use Rattle.modify_survey.specs.Survey.{survey_range}
 use Rattle.modify_verify.specs.Verify.{asked_edit, settable, verify_bits, verify_edit, verify_survey}
 use Rattle.modify.specs.Call.{modifying, answer_of, edit_tables, modify_sound, modify_call}

@@ -40,7 +40,8 @@ module _ {h : Handle} (placed : Placed h) where
   -- what is still to be shown of a table one level down
   abbrev Below : ℕ → Type 0
   Below depth =
-      (s : St) (j : ℕ) → Ready h s depth j → Worked h placed s (compact_table depth h j s) depth j (compact_tree depth (tree_from h s depth j))
+      (s : St) (j : ℕ) → Ready h s depth j
+      → Worked h placed s (compact_table depth h j s) depth j (compact_tree depth (tree_from h s depth j))
 
   module _ (depth : ℕ) (below : Below depth) where
     abbrev rec : ℕ → St → St

@@ -22,7 +22,8 @@ use Rattle.region_verify.specs.Verify.{end_fits, verify}
 use Rattle.map_count_spec.specs.Needed.{needed}
 use Rattle.map_rules.specs.declared.Map.{Map}
 use Rattle.map_verify.specs.Verify.{asked_map, frame_asked, verify_map, ask_end, ask_invalid, ask_set, ask_region, ask_frame}
-use Rattle.map_spec.specs.Call.{put_down, map_sound, map_call, sound_not, sound_full, sound_mapped, call_misshaped, call-refused, call-asked}
+use Rattle.map_spec.specs.Call.{put_down, map_sound, map_call, sound_not}
+use Rattle.map_spec.specs.Call.{sound_full, sound_mapped, call_misshaped, call-refused, call-asked}
 use Rattle.theory_demands.specs.Slip.{BadEnd, HasBit1, OutsideSet, Backwards, BeyondRange, BadFrame}
 use Rattle.theory_demands.specs.Slip.{MapSlip}
 use Rattle.theory_demands.specs.Told.{NoneBelow, LowestGiven, Told, number_range, shape_lowest, none_first, none_next}

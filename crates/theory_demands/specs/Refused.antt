@@ -28,7 +28,8 @@ use Rattle.arm.specs.Arm.{Walked, hole, block, page as one_page, outside, walk}
 use Rattle.look_up.specs.Call.{answer, look_up_call, look_misshaped, look_beyond, look_walks}
 use Rattle.look_up.specs.declared.Looked.TheVariants as looked
 use Rattle.list_lines.specs.Lines.{lines_of}
-use Rattle.list.specs.Call.{Listing, verify_ends, list_lines, list_call, list_misshaped, list_region, list_unsound, list_sound_lem, ends_past}
+use Rattle.list.specs.Call.{Listing, verify_ends, list_lines, list_call}
+use Rattle.list.specs.Call.{list_misshaped, list_region, list_unsound, list_sound_lem, ends_past}
 use Rattle.list.specs.Call.{ends_fit, list_short}
 use Rattle.list.specs.Call.{list_written}
 use Rattle.list.specs.declared.Listed.{Listed}

@@ -37,7 +37,8 @@ differs : pool_a ≢ fresh_row 1 8
 unfolding pool_a word fresh_row root_number
 differs e = let z : ◌≡◌ {A = ℕ} 0x4000_0401 0 = ap (λ (s : St). word_at s 0 0) e in omega arith
 
-module _ (f : Handle → MapArguments → St → Out Counted) (meets : (h : Handle) (c : MapArguments) (s : St) → f h c s ≡ map_answer h c s) where
+module _ (f : Handle → MapArguments → St → Out Counted) (meets : (h : Handle) (c : MapArguments) (s : St)
+    → f h c s ≡ map_answer h c s) where
   answers : (h : Handle) (c : MapArguments) (s : St) {a : Counted} {t : St} → map_answer h c s ≡ out a t → (f h c s).answer ≡ a
   answers h c s e = ap (λ (x : Out Counted). x.answer) (meets h c s ∙ e)
 
@@ -61,7 +62,8 @@ module _ (f : Handle → MapArguments → St → Out Counted) (meets : (h : Hand
   pub not_constant : (a : Counted) → ¬ ((h : Handle) (c : MapArguments) (s : St) → (f h c s).answer ≡ a)
   not_constant a all =
       let z : Tables 1 ≡ Tables 3 =
-      sym (answers (handle 1) call_a (fresh_row 1 8) case_A) ∙ all (handle 1) call_a (fresh_row 1 8) ∙ sym (all (handle 1) call_b (fresh_row 1 8))
+      sym (answers (handle 1) call_a (fresh_row 1 8) case_A) ∙ all (handle 1) call_a (fresh_row 1 8)
+      ∙ sym (all (handle 1) call_b (fresh_row 1 8))
       ∙ answers (handle 1) call_b (fresh_row 1 8) case_B in
       let o : ◌≡◌ {A = ℕ} 1 3 = cc in
       omega arith

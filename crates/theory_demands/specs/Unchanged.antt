@@ -29,7 +29,8 @@ use Rattle.map_rules.specs.declared.Map.{Map}
 use Rattle.modify.specs.declared.Modified.{Modified}
 use Rattle.modify.specs.Call.{Modifying, modifying}
 use Rattle.map_verify.specs.Verify.{asked_map, verify_map}
-use Rattle.map_spec.specs.Call.{put_down, map_sound, map_call, sound_not, sound_full, sound_mapped, call_misshaped, call-refused, call-asked}
+use Rattle.map_spec.specs.Call.{put_down, map_sound, map_call, sound_not}
+use Rattle.map_spec.specs.Call.{sound_full, sound_mapped, call_misshaped, call-refused, call-asked}
 use Rattle.theory_demands.specs.Decided.{accepted-not}
 
 -- ---- NO SECOND ANSWER: what meets a contract is what its definition gives, answer and all that was lent together

@@ -62,7 +62,8 @@ module _ {A : Type 0} (slots : ℕ → ℕ) (inside : (depth : ℕ) → slots de
       ∙ sym (empty_walk depth (compact_tree depth (node f)) e) ∙ ih f)
       (λ e. ap (λ (v : Tree). read (walk_tree slots (suc depth) v)) (squash_stays (λ v. compact_tree depth v) f e) ∙ ih f)
 
-  pub compact_walk : (depth : ℕ) (t : Tree) → read (walk_tree slots (suc depth) (compact_tree depth t)) ≡ read (walk_tree slots (suc depth) t)
+  pub compact_walk : (depth : ℕ) (t : Tree)
+      → read (walk_tree slots (suc depth) (compact_tree depth t)) ≡ read (walk_tree slots (suc depth) t)
   unfolding compact_tree each_slot walk_tree
   compact_walk zero t = refl
   compact_walk (suc depth) (leaf w) = refl

@@ -16,7 +16,8 @@ use Rattle.pool.specs.declared.Counted.TheVariants as counted
 use Rattle.map_rules.specs.declared.Map.{Map}
 use Rattle.map_count_spec.specs.Needed.{needed}
 use Rattle.map_put.specs.Put.{map_range}
-use Rattle.map_spec.specs.Call.{refused, map_sound, sound_not, sound_full, sound_mapped, put_down_lem, call_misshaped, call-refused, call-asked}
+use Rattle.map_spec.specs.Call.{refused, map_sound, sound_not, sound_full}
+use Rattle.map_spec.specs.Call.{sound_mapped, put_down_lem, call_misshaped, call-refused, call-asked}
 use Rattle.theory_forest.specs.Tree.{Tree}
 use Rattle.theory_sound.specs.Codec.{shaped_placed, root_tree}
 use Rattle.theory_sound.proofs.Decide.{sound_decide}
@@ -108,7 +109,8 @@ module _ {h : Handle} {c : MapArguments} {s : St} (passed : MapPassed h c s) whe
   pub call-maps : made_by h c s ≤ free s.ledger
       → map_answer h c s ≡ out (counted.Tables (used (state_after h c s).ledger)) (state_after h c s)
   call-maps room =
-      sym (put_down_lem h (map_asked c) s refl refl ∙ sound_mapped h (map_asked c) s sound_is (sym (needed-made passed)) refl room ∙ asked_is)
+      sym (put_down_lem h (map_asked c) s refl refl ∙ sound_mapped h (map_asked c) s sound_is (sym (needed-made passed)) refl room
+      ∙ asked_is)
 
 -- what is answered otherwise than by refusals 1 to 8 was left by them
 passed_by : (h : Handle) (c : MapArguments) (s : St) {x : Out Counted} → map_answer h c s ≡ x

@@ -85,7 +85,8 @@ module _ {h : Handle} (placed : Placed h) where
       pub same : (j : ℕ) → suc (slot_at depth c) ≤ j
           → slot_tree (tree_from h (state_of (each c p x)) depth k) j ≡ slot_tree (tree_from h (state_of x) depth k) j
       pub rest : let p' = p + (c.end.0 - c.start.0) in
-          tallied depth count cs p' (tree_from h (state_of (each c p x)) depth k) ≡ tallied depth count cs p' (tree_from h (state_of x) depth k)
+          tallied depth count cs p' (tree_from h (state_of (each c p x)) depth k)
+          ≡ tallied depth count cs p' (tree_from h (state_of x) depth k)
       pub room : tallied depth count cs (p + (c.end.0 - c.start.0)) (tree_from h (state_of (each c p x)) depth k)
           ≤ free (state_of (each c p x)).ledger
 

@@ -25,7 +25,8 @@ use Rattle.modify_entry.specs.declared.Edit.{Edit}
 use Rattle.modify_entry.specs.Word.{chunk_edit, edit_word}
 use Rattle.modify_survey.specs.declared.Survey.{Survey}
 use Rattle.modify_survey.specs.House.{may_change}
-use Rattle.modify_survey.specs.Survey.{splits_in, breach, if_block, survey_part, survey_whole, survey_entry, survey_chunk, survey_range, entry_whole}
+use Rattle.modify_survey.specs.Survey.{splits_in, breach, if_block, survey_part}
+use Rattle.modify_survey.specs.Survey.{survey_whole, survey_entry, survey_chunk, survey_range, entry_whole}
 use Rattle.modify_survey.specs.Survey.{entry_part}
 use Rattle.theory_forest.specs.Tree.{Tree, leaf, node}
 use Rattle.theory_sound.specs.Codec.{Placed, tree_from}

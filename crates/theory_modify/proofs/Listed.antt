@@ -130,7 +130,8 @@ module _ (set clear : ℕ) where
         let z = parts (edited set clear w) in
         omega arith
 
-    seen-valid : (depth w y : ℕ) → Fine depth w → valid w ≡ true → seen_in depth w y ≡ mapped (plain_flags w) (frame_in w + y % pages_in depth)
+    seen-valid : (depth w y : ℕ) → Fine depth w → valid w ≡ true
+        → seen_in depth w y ≡ mapped (plain_flags w) (frame_in w + y % pages_in depth)
     seen-valid depth w y fine v = seen_fine depth w y fine ∙ rw v
 
     seen_none : (depth w y : ℕ) → Fine depth w → valid w ≡ false → seen_in depth w y ≡ hole (plain_flags w)
@@ -263,7 +264,8 @@ module _ (set clear : ℕ) where
                         count =
                             occurs-append x (entry_numbers depth c (slot_tree (node v) i)) (gathered depth (entry_numbers depth) cs (node v))
                             ∙ ap₂ ◌+◌ (ap (λ (t : Tree). occurs x (entry_numbers depth c t)) (in_node v i) ∙ T.count) zero_rest
-                            ∙ (let n : changes set clear (seen depth (v i) y) + 0 ≡ changes set clear (seen depth (v i) y) = omega arith in n);
+                            ∙ (let n : changes set clear (seen depth (v i) y) + 0
+                            ≡ changes set clear (seen depth (v i) y) = omega arith in n);
                       });
                 }
             go (inl l) later =
@@ -359,7 +361,8 @@ module _ (set clear : ℕ) where
             count =
                 ap (occurs (first_page 0 (after 0 c p (leaf w)) y % 2 ^ 44))
                 (sym (leaf_page set clear c (leaf w)))
-                ∙ changed-count 0 c w y _ fine (ap (λ (n : ℕ). n % 2 ^ 44) (here ∙ sym start)) ∙ ap (changes set clear) (sym (seen_leaf 0 w y));
+                ∙ changed-count 0 c w y _ fine (ap (λ (n : ℕ). n % 2 ^ 44) (here ∙ sym start))
+                ∙ ap (changes set clear) (sym (seen_leaf 0 w y));
           }
 
       -- an entry that is covered as a whole
@@ -385,7 +388,8 @@ module _ (set clear : ℕ) where
             count = ap (occurs (first_page (suc depth) (after (suc depth) c p (leaf w)) y % 2 ^ 44))
                 (ap₂ (λ (a b : List ℕ). a ++ b) (lower-own set clear (λ d v. table_numbers set clear depth d v) depth c (leaf w) all)
                 (own_here set clear depth c (leaf w) all))
-                ∙ changed-count (suc depth) c w y _ fine (ap (λ (n : ℕ). n % 2 ^ 44) here) ∙ ap (changes set clear) (sym (seen_leaf (suc depth) w y));
+                ∙ changed-count (suc depth) c w y _ fine (ap (λ (n : ℕ). n % 2 ^ 44) here)
+                ∙ ap (changes set clear) (sym (seen_leaf (suc depth) w y));
           }
 
       -- an entry that goes down
@@ -407,7 +411,8 @@ module _ (set clear : ℕ) where
           subst (λ (t : Tree). Tells (suc depth) c.start.0 t u (entry_numbers (suc depth) c u)) (sym tree)
           (record {
             from = T.from;
-            count = ap (occurs _) numbers ∙ nil_occurs set clear _ (table_numbers set clear depth c (node v)) ∙ T.count ∙ ap (changes set clear) shows;
+            count = ap (occurs _) numbers ∙ nil_occurs set clear _ (table_numbers set clear depth c (node v)) ∙ T.count
+                ∙ ap (changes set clear) shows;
           })
 
       up_tells : (depth : ℕ) → suc depth ≤ 3 → EachTells depth → EachTells (suc depth)

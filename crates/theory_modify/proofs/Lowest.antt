@@ -234,7 +234,8 @@ module _ {h : Handle} {c : ModifyArguments} {s : St} (passed : ModifyPassed h c 
     same_end = sym (reached va) ∙ S.ends
 
     -- the tree after the modify has the edited word at the same level
-    pub kept_walk : ends_of h (tree_after_modify h c s) (va / 4096) ≡ record { word = edit_word level e w; depth = (ends (va / 4096)).depth }
+    pub kept_walk : ends_of h (tree_after_modify h c s) (va / 4096)
+        ≡ record { word = edit_word level e w; depth = (ends (va / 4096)).depth }
     kept_walk =
         let y : ℕ = va / 4096 in
         let page = (region_paged passed).page va S.region in

@@ -50,7 +50,8 @@ bits_pass h set clear ok =
 
 -- ---- what is left of a call
 
-module _ (h : Handle) (start end set clear : ℕ) (live : Bool) (ok : verify_edit h end (asked_edit start end set clear live) ≡ Accepted) where
+module _ (h : Handle) (start end set clear : ℕ) (live : Bool) (ok : verify_edit h end (asked_edit start end set clear live)
+    ≡ Accepted) where
   abbrev e : Edit
   e = asked_edit start end set clear live
 

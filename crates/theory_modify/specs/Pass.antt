@@ -71,7 +71,8 @@ module _ {h : Handle} (placed : Placed h) {S : Type 0} (work_of : S → Work) (e
   -- each chunk edits its slot
   abbrev pub EachEdits : Type 0
   EachEdits =
-      (c : MemoryRegion) (p : ℕ) (x : S) → Piece depth (child q (slot_at depth c)) (area_of (chunk_edit e c) p) → Ready h (state_of x) depth k
+      (c : MemoryRegion) (p : ℕ) (x : S) → Piece depth (child q (slot_at depth c)) (area_of (chunk_edit e c) p)
+      → Ready h (state_of x) depth k
       → let i = entry_index (3 - depth) c.start.0 in let t = slot_shows h (state_of x) depth k i in
       count c p t ≤ free (state_of x).ledger
       → SlotEdited placed e.live (work_of x) (work_of (each c x)) depth k i (eachTree c p t) (count c p t) (numbers c t)

@@ -79,7 +79,8 @@ module _ (set clear : ℕ) where
   splits_none depth c e = rw e
 
   takes_fill : (depth : ℕ) (c : MemoryRegion) (p w : ℕ) → whole (3 - suc depth) c ≡ false
-      → needed (document_modify set clear) (suc depth) c p (leaf w) ≡ 1 + needed_table (document_modify set clear) depth c p (fill_tree depth w)
+      → needed (document_modify set clear) (suc depth) c p (leaf w)
+      ≡ 1 + needed_table (document_modify set clear) depth c p (fill_tree depth w)
   unfolding splits opened
   takes_fill depth c p w e = takes_on set clear depth c p (leaf w) e
 
@@ -159,7 +160,8 @@ entry-splits h depth e c p w v low = go depth low
     go : (depth : ℕ) → depth ≤ 3
         → (survey_entry h (3 - depth) (chunk_edit e c) w v).splits ≡ v.splits + needed (document_modify e.set e.clear) depth c p (leaf w)
     go depth low = by_bool (whole (3 - depth) c)
-        (λ q. let z = all depth low q in entry_is_whole h (3 - depth) (chunk_edit e c) w v q ∙ whole-splits h (3 - depth) (chunk_edit e c) w v
+        (λ q. let z = all depth low q in entry_is_whole h (3 - depth) (chunk_edit e c) w v q
+        ∙ whole-splits h (3 - depth) (chunk_edit e c) w v
         ∙ (let n : v.splits ≡ v.splits + needed (document_modify e.set e.clear) depth c p (leaf w) = omega arith in n))
         (part depth low)
 

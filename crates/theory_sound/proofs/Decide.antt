@@ -5,7 +5,8 @@ use Rattle.std.proofs.Common.{◌∙◌, subst, inl, inr, ltb→lt, lt→ltb}
 use Prim.Native.Nat.{ℕ, zero, suc, ◌+◌, ◌*◌, ◌-◌, ◌/◌, ◌%◌, ◌<◌}
 use native.Mathlib.Omega.{arith}
 use Rattle.std.proofs.Math.Dec.{T, eqb, eqb→eq}
-use Rattle.laws.specs.Test.{eq_or, and_l, and_r, and_i, or-e, or_l, or_r, cond_true, cond_false, cond_of, eq→eqb, all_below, all_of, all_from}
+use Rattle.laws.specs.Test.{eq_or, and_l, and_r, and_i, or-e, or_l, or_r}
+use Rattle.laws.specs.Test.{cond_true, cond_false, cond_of, eq→eqb, all_below, all_of, all_from}
 use Rattle.laws.specs.Test.{from_of}
 use Rattle.entry.specs.Word.{address_of, link_of, link_address}
 use Rattle.pool.specs.State.{St, tables, word_at, number_at, used_in}
@@ -99,7 +100,8 @@ module _ (h : Handle) (s : St) where
       (cond (refersb (number_at s k) (word_at s k i)) (linkb h.base.0 s k i (word_at s k i))
       (leafb (flag_set h) (level_at s k) (word_at s k i)))
   unfolding slotb
-  slot_used k i t used = cond_false (eqb (number_at s k) 0) _ _ (λ z. let e : number_at s k ≡ 0 = eqb→eq (number_at s k) 0 z in omega arith) t
+  slot_used k i t used = cond_false (eqb (number_at s k) 0) _ _ (λ z. let e : number_at s k
+      ≡ 0 = eqb→eq (number_at s k) 0 z in omega arith) t
 
   slot_link : (k i : ℕ) → Slot k i → InUse s k → TableWord (level_at s k) (word_at s k i) → (c : ℕ) × LinksTo h s k i c
   slot_link k i t used table =

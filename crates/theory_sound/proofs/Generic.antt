@@ -138,7 +138,8 @@ module _ {h : Handle} (placed : Placed h) {s : St} where
       hang zero used = inl (refl, P.root)
       hang (suc k) used = let at = P.hangs (suc k) (λ e. omega arith) used in inr (hangs_to at.2)
 
-      name : (k i : ℕ) → InUse s k → i < 512 → IsTable (codec_of h placed) (view s) k i → (c : ℕ) × Refers (codec_of h placed) (view s) k i c
+      name : (k i : ℕ) → InUse s k → i < 512 → IsTable (codec_of h placed) (view s) k i
+          → (c : ℕ) × Refers (codec_of h placed) (view s) k i c
       name k i used inside table =
           let to = P.links k i inside used (omega (arith, table.0), ap (λ (w : ℕ). w % 4) (sym (word_in s k i inside)) ∙ table.1) in
           (to.0, refer to.0 to.1)
@@ -176,7 +177,8 @@ module _ {h : Handle} (placed : Placed h) {s : St} where
         names = names_slot x hangs.well;
         used = subst (λ (q : ℕ). InUse s q) from hangs.used;
         higher = subst (λ (q : ℕ). level_of x ≡ level_at s q + 1) from (omega (arith, hangs.below));
-        refers = sym (word_in s (parent_of x) (slot_of x) (omega arith)) ∙ ap (λ (q : ℕ). slot_word s q (slot_of x)) (sym from) ∙ hangs.refers;
+        refers = sym (word_in s (parent_of x) (slot_of x) (omega arith)) ∙ ap (λ (q : ℕ). slot_word s q (slot_of x)) (sym from)
+            ∙ hangs.refers;
       }
 
   pub sound_pool : length s.words ≡ 512 * tables s → Sound (codec_of h placed) (view s) → SoundPool h s

@@ -16,7 +16,8 @@ use Rattle.theory_sound.specs.Step.{Ready}
 use Rattle.theory_sound.specs.Slot.{HoldsLeaf, SlotHolds, holds_table, holds_leaf}
 
 module _ {h : Handle} (placed : Placed h) {s : St} where
-  leaf_holds : {depth k : ℕ} → Ready h s depth k → (i : ℕ) → i < 512 → ¬ (TableWord (level_at s k) (word_at s k i)) → HoldsLeaf h s depth k i
+  leaf_holds : {depth k : ℕ} → Ready h s depth k → (i : ℕ) → i < 512 → ¬ (TableWord (level_at s k) (word_at s k i))
+      → HoldsLeaf h s depth k i
   leaf_holds {depth} {k} R i inside plain = record {
     plain = plain;
     leads =

@@ -17,7 +17,8 @@ use Rattle.theory_tree.proofs.Rules.{drops_yes}
 use Rattle.theory_tree.specs.Rules.{page_in}
 use Rattle.theory_tree.proofs.Rules.{fits_yes, same_yes, rule_off, rule_page}
 use Rattle.theory_tree.proofs.Rules.{rule-same, rule_block, rule-drop, rule-split, rule-down}
-use Rattle.theory_tree.specs.After.{covers, asked, after, yes_covers, covers_yes, after_in, after-out, asked-valid, asked_hole, off_out, whole_in, frame_page_lem}
+use Rattle.theory_tree.specs.After.{covers, asked, after, yes_covers, covers_yes, after_in}
+use Rattle.theory_tree.specs.After.{after-out, asked-valid, asked_hole, off_out, whole_in, frame_page_lem}
 
 -- ---- what is written
 

@@ -84,7 +84,8 @@ module _ (m : Map) where
         → work m (suc depth) q (each_slot h (node f)) ≡ each_slot (λ i u. work m depth (child q i) (h i u)) (node f)
     work-each h f =
         ap (work m (suc depth) q) (each_node h f) ∙ work-down (slot_after h f)
-        ∙ ap (each_slot (λ i u. work m depth (child q i) u)) (sym (each_node h f)) ∙ each_both (λ i u. work m depth (child q i) u) h (node f)
+        ∙ ap (each_slot (λ i u. work m depth (child q i) u)) (sym (each_node h f))
+        ∙ each_both (λ i u. work m depth (child q i) u) h (node f)
 
     -- a word that it splits
     work-split : (w : ℕ) → same (first (suc depth) q) m w ≡ false

@@ -18,7 +18,8 @@ use Rattle.theory_tree.specs.Count.{nodes_leaf, nodes_node, table_balance, total
 nodes-opened : (depth : ℕ) (t : Tree) → nodes (opened depth t) ≡ nodes t + splits t
 unfolding opened splits
 nodes-opened depth (leaf w) =
-    let none = sum_none 512 (λ i. nodes (fill_slot depth w i)) (λ i l. ap nodes (fill_slot_lem depth w i l) ∙ nodes_leaf (fill_word depth w i)) in
+    let none = sum_none 512 (λ i. nodes (fill_slot depth w i)) (λ i l. ap nodes (fill_slot_lem depth w i l)
+    ∙ nodes_leaf (fill_word depth w i)) in
     ap nodes (fill_node depth w) ∙ nodes_node (fill_slot depth w) ∙ (let z = nodes_leaf w in omega arith)
 nodes-opened depth (node f) = omega arith
 

@@ -70,7 +70,8 @@ module _ (depth q s e p flags : ℕ) (blocks : Bool) (low : depth ≤ 3) (some :
       let z : e / 4096 % pages_in depth ≡ 0 = ap (λ (x : ℕ). x % pages_in depth) y ∙ end_rest depth q in
       eq→eqb (e % size_at (3 - depth)) 0 (omega arith))
     where
-      ends : e / 4096 % pages_in depth ≡ 0 → (b + pages_in depth ≤ e / 4096) ⊎ (e / 4096 < b + pages_in depth) → b + pages_in depth ≤ e / 4096
+      ends : e / 4096 % pages_in depth ≡ 0 → (b + pages_in depth ≤ e / 4096) ⊎ (e / 4096 < b + pages_in depth)
+          → b + pages_in depth ≤ e / 4096
       ends z (inl h) = h
       ends z (inr h) =
           let l : b < e / 4096 = omega (arith, I.low, I.start_page, I.end_page) in

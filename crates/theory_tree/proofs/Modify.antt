@@ -27,7 +27,8 @@ module _ (set clear : ℕ) where
   modify_off m (suc depth) b (leaf w) e = rw e
   modify_off m (suc depth) b (node f) e = rw e
 
-  modify_agree : (m n : Map) (depth b : ℕ) (t : Tree) → Agree depth b m n → modify_rule set clear m depth b t ≡ modify_rule set clear n depth b t
+  modify_agree : (m n : Map) (depth b : ℕ) (t : Tree) → Agree depth b m n
+      → modify_rule set clear m depth b t ≡ modify_rule set clear n depth b t
   unfolding modify_rule
   modify_agree m n zero b (leaf w) a = rw (agree_meets zero b m n a)
   modify_agree m n zero b (node f) a = refl

@@ -137,7 +137,8 @@ module _ {rule : Map → ℕ → ℕ → Tree → Rule} (L : Local rule) (rules 
         ap₂ (λ (x : Rule) (k : ℕ). counted x 0 (splits (leaf w) + k)) (says (suc depth) q s e p (leaf w) low some I)
         (ap (tallied depth (λ d x u. needed rules depth d x u) (chunks (3 - depth) s e) p) (fill_node depth w)
         ∙ tallied_is depth (omega arith) (needed_is depth) q s e p (fill_slot depth w) I
-        ∙ ap (made_table (rule (call s e p)) depth q) (sym (fill_node depth w)) ∙ table-made depth q (rule (call s e p)) (fill_tree depth w))
+        ∙ ap (made_table (rule (call s e p)) depth q) (sym (fill_node depth w))
+        ∙ table-made depth q (rule (call s e p)) (fill_tree depth w))
     needed_is (suc depth) q s e p (node f) low some I =
         ap₂ (λ (x : Rule) (k : ℕ). counted x 0 (splits (node f) + k)) (says (suc depth) q s e p (node f) low some I)
         (tallied_is depth (omega arith) (needed_is depth) q s e p f I

@@ -58,7 +58,8 @@ module _ (depth r : ℕ) where
   run_grows [] v t = omega arith
   run_grows (m ∷ ms) v t = omega (arith, run_grows ms v.1 (map_tree depth r m t), valid_grows depth r m v.0.valid t)
 
-  pub room_if : (n : ℕ) (ms : List Map) → Each ValidMap ms → (t : Tree) → nodes t ≤ n → RoomFor depth r n ms t ↔ (nodes (run depth r ms t) ≤ n)
+  pub room_if : (n : ℕ) (ms : List Map) → Each ValidMap ms → (t : Tree) → nodes t ≤ n
+      → RoomFor depth r n ms t ↔ (nodes (run depth r ms t) ≤ n)
   unfolding run
   room_if n [] v t h = (λ room. h, λ fits. tt)
   room_if n (m ∷ ms) v t h = (

@@ -64,7 +64,8 @@ module _ {rule : ℕ → ℕ → Tree → Rule} {new : ℕ → Seen → Seen} (S
 
   -- a page's slot after the visit of a table
   each_seen : (depth : ℕ) (h : ℕ → Tree → Tree) (f : ℕ → Tree) (page : ℕ)
-      → seen depth (h (slot_of_page page depth) (f (slot_of_page page depth))) page ≡ new page (seen depth (f (slot_of_page page depth)) page)
+      → seen depth (h (slot_of_page page depth) (f (slot_of_page page depth))) page
+      ≡ new page (seen depth (f (slot_of_page page depth)) page)
       → seen (suc depth) (each_slot h (node f)) page ≡ new page (seen depth (f (slot_of_page page depth)) page)
   each_seen depth h f page below =
       ap (λ (t : Tree). seen (suc depth) t page) (each_node h f) ∙ seen_node depth (slot_after h f) page

@@ -21,7 +21,8 @@ module _ (set clear : ℕ) (S : Plain set) (C : Plain clear) where
       → bit_and (edited set clear w) mask ≡ bit_and w mask
   unfolding edited
   edited_keeps w mask wide small noSet noClear =
-      let none : bit_and (bit_and w mask) clear ≡ 0 = and_assoc w mask clear ∙ ap (bit_and w) (and_comm mask clear ∙ noClear) ∙ and_zero_r w in
+      let none : bit_and (bit_and w mask) clear
+      ≡ 0 = and_assoc w mask clear ∙ ap (bit_and w) (and_comm mask clear ∙ noClear) ∙ and_zero_r w in
       and_swap (bit_or w set) (2 ^ 64 - 1 - clear) mask
       ∙ ap (λ (x : ℕ). bit_and x (2 ^ 64 - 1 - clear)) (and-or w set mask ∙ ap (bit_or (bit_and w mask)) noSet ∙ or_zero_r (bit_and w mask))
       ∙ sub-not 64 (bit_and w mask) clear (omega (arith, and_le_r w mask)) C.wide none

@@ -60,7 +60,8 @@ module _ (set clear : ℕ) where
     unfolding edit_rule
     edit_good depth w fine = by_bool (valid w) (λ v. rw v (fine_edited set clear S C depth w fine v)) (λ v. rw v tt)
 
-    edit_seen : (depth w page : ℕ) → Fine depth w → valid w ≡ true → seen_in depth (edited set clear w) page ≡ changed (seen_in depth w page)
+    edit_seen : (depth w page : ℕ) → Fine depth w → valid w ≡ true
+        → seen_in depth (edited set clear w) page ≡ changed (seen_in depth w page)
     unfolding changed
     edit_seen depth w page fine v =
         seen_fine depth (edited set clear w) page (fine_edited set clear S C depth w fine v)

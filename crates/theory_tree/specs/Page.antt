@@ -74,7 +74,8 @@ unfolding first child
 child-first depth q i =
     let s = span_suc depth in
     add-mul (q * 512) i (pages_in depth)
-    ∙ ap (λ (x : ℕ). x + i * pages_in depth) (mul_assoc q 512 (pages_in depth) ∙ ap (λ (x : ℕ). q * x) (mul_comm 512 (pages_in depth) ∙ sym s))
+    ∙ ap (λ (x : ℕ). x + i * pages_in depth) (mul_assoc q 512 (pages_in depth)
+    ∙ ap (λ (x : ℕ). q * x) (mul_comm 512 (pages_in depth) ∙ sym s))
 
 pub child_in : (depth q i : ℕ) → i < 512
     → (first (suc depth) q ≤ first depth (child q i))
@@ -102,7 +103,8 @@ unfolding first child
 multiple_child depth a i e =
     let q : ℕ = a / pages_in (suc depth) in
     let whole : a ≡ first (suc depth) q = omega (arith, div-add-mod' a (pages_in (suc depth))) in
-    let sum : a + i * pages_in depth ≡ first depth (child q i) = ap (λ (x : ℕ). x + i * pages_in depth) whole ∙ sym (child-first depth q i) in
+    let sum : a + i * pages_in depth ≡ first depth (child q i) = ap (λ (x : ℕ). x + i * pages_in depth) whole
+    ∙ sym (child-first depth q i) in
     ap (λ (x : ℕ). x % pages_in depth) sum ∙ mul-mod_left (child q i) (pages_in depth)
 
 -- the sizes that take blocks divide 2^36

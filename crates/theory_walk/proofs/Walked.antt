@@ -58,7 +58,8 @@ module _ {h : Handle} {s : St} (shape : Shaped h s) (P : SoundPool h s) (va : �
       is : x ≡ word_at s k i
       is = word_in s k i inside
 
-      go : (c : ℕ) × Leads h s k i c → (has_table base (tables s) x ≡ true) × (table_of base x ≡ child_of base x) × On depth (child_of base x)
+      go : (c : ℕ) × Leads h s k i c → (has_table base (tables s) x ≡ true) × (table_of base x ≡ child_of base x)
+          × On depth (child_of base x)
       go (c, leads) =
           let r = leads_refers shape P leads in
           let child : child_of base x ≡ c = refers_child r in

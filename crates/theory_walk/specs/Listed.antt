@@ -45,7 +45,8 @@ module _ {h : Handle} {s : St} {start end : ℕ} {list : List ℕ} {count : ℕ}
       ls : List Line
       ls = lines_of h s (rounded start end)
 
-      written : shaped h s ≡ true → verify_ends h start end ≡ Accepted → soundb h s ≡ true → list_lines ls list ≡ listing (Lines count) after
+      written : shaped h s ≡ true → verify_ends h start end ≡ Accepted → soundb h s ≡ true
+          → list_lines ls list ≡ listing (Lines count) after
           → Accepts h s start end list count after
       written shape region sound q = by_bool (leb (4 * length ls) (length list))
           (λ room.

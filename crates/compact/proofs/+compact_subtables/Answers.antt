@@ -8,7 +8,8 @@ use Rattle.entry.specs.declared.Sub.{Sub}
 use Rattle.entry.specs.declared.Sub.TheVariants.{Table, Outside, Leaf}
 use Rattle.pool.specs.State.{St, st}
 use Rattle.pool.specs.declared.Handle.{Handle}
-use Rattle.compact_spec.specs.Compact.{release_empty, compact_entry, compact_table, entry-table, entry_outside, entry_leaf, compact_down, compact_last}
+use Rattle.compact_spec.specs.Compact.{release_empty, compact_entry, compact_table, entry-table}
+use Rattle.compact_spec.specs.Compact.{entry_outside, entry_leaf, compact_down, compact_last}
 use Rattle.compact.proofs.+compact_subtables.Goals as goal
 
 -- what the call one level down does

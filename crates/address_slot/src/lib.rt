@@ -1,7 +1,8 @@
 // The entry of a level that holds an address: its last address and its slot; where a chunk ends that begins there.
 #![tactic(auto)]
 
-ghost use Rattle.std.specs.Prelude.{◌≡◌};
+ghost use Rattle.std.specs.Prelude.{◌≡◌, ◌/◌};
+ghost use Rattle.laws.specs.Size.{size_at};
 ghost use Rattle.address_slot.specs.Slot.{entry_last, entry_index, chunk_end};
 
 // The last address of the entry at this level that holds the address: no sum can pass 2^64.
@@ -11,16 +12,23 @@ pub fn entry_last(level: usize, va: u64) -> u64
     va | (address::granularity_at_level(level) - 1)
 }
 
+// The number of the entry at this level that holds the address.
+pub fn entry_number(level: usize, va: u64) -> u64
+    ensures { result ≡ va / size_at level }
+{
+    match level {
+        0 => va / 0x80_0000_0000,
+        1 => va / 0x4000_0000,
+        2 => va / 0x20_0000,
+        _ => va / 4096,
+    }
+}
+
 // The slot of the entry at this level that holds the address.
 pub fn entry_index(level: usize, va: u64) -> usize
     ensures { result ≡ entry_index level va }
 {
-    match level {
-        0 => (va / 0x80_0000_0000 % 512) as usize,
-        1 => (va / 0x4000_0000 % 512) as usize,
-        2 => (va / 0x20_0000 % 512) as usize,
-        _ => (va / 4096 % 512) as usize,
-    }
+    (entry_number(level, va) % 512) as usize
 }
 
 // Where the chunk that begins at start ends: with its entry, or with the region.

@@ -8,54 +8,52 @@ use Rattle.pool.specs.Refuse.{shaped}
 use Rattle.pool.specs.Sound.{soundb}
 use Rattle.pool.specs.declared.Handle.{Handle}
 use Rattle.pool.specs.declared.Refusal.TheVariants.{Shape, Unsound}
-use Rattle.pool.specs.declared.Found.{Found}
-use Rattle.pool.specs.declared.Found.TheVariants.{At, Nothing}
-use Rattle.pool.specs.declared.Outcome.{Outcome}
-use Rattle.pool.specs.declared.Outcome.TheVariants.{Accepted, Refused}
+use Rattle.std.specs.Prelude.{Err, None, Ok, Option, Some}
+use Rattle.pool.specs.Refuse.{Outcome}
 
 -- refusals 1, 8
 unfoldable pub check_call : Handle → St → Outcome
-check_call h s = cond (shaped h s) (cond (soundb h s) Accepted (Refused Unsound)) (Refused Shape)
+check_call h s = cond (shaped h s) (cond (soundb h s) (Ok tt) (Err Unsound)) (Err Shape)
 
 -- the tables in use, where the pool is sound
-unfoldable pub sound_count : Handle → St → Found
-sound_count h s = cond (soundb h s) (At (used s.ledger)) Nothing
+unfoldable pub sound_count : Handle → St → Option ℕ
+sound_count h s = cond (soundb h s) (Some (used s.ledger)) None
 
 -- ---- laws: one for each way through the code
 
 module _ (h : Handle) (s : St) where
-  pub count_none : soundb h s ≡ false → Nothing ≡ sound_count h s
+  pub count_none : soundb h s ≡ false → None ≡ sound_count h s
   unfolding sound_count
   count_none e = rw e
 
-  pub count_some : {n : ℕ} → n ≡ used s.ledger → soundb h s ≡ true → At n ≡ sound_count h s
+  pub count_some : {n : ℕ} → n ≡ used s.ledger → soundb h s ≡ true → Some n ≡ sound_count h s
   unfolding sound_count
   count_some q e = rw (e, q)
 
   -- read back
-  module _ {x : Found} (is : x ≡ sound_count h s) where
-    pub count_unsound : x ≡ Nothing → soundb h s ≡ false
+  module _ {x : Option ℕ} (is : x ≡ sound_count h s) where
+    pub count_unsound : x ≡ None → soundb h s ≡ false
     count_unsound e =
         by_bool (soundb h s)
         (λ holds. absurd
-        (let q : At (used s.ledger) ≡ Nothing = count_some refl holds ∙ sym is ∙ e in let z : ◌≡◌ {A = ℕ} 0 1 = cc in
+        (let q : Some (used s.ledger) ≡ None = count_some refl holds ∙ sym is ∙ e in let z : ◌≡◌ {A = ℕ} 0 1 = cc in
         omega arith))
         (λ fails. fails)
 
-    pub count_sound : (n : ℕ) → x ≡ At n → (soundb h s ≡ true) × (n ≡ used s.ledger)
+    pub count_sound : (n : ℕ) → x ≡ Some n → (soundb h s ≡ true) × (n ≡ used s.ledger)
     count_sound n e =
         by_bool (soundb h s)
-        (λ holds. (holds, let q : At n ≡ At (used s.ledger) = sym e ∙ is ∙ sym (count_some refl holds) in cc))
-        (λ fails. absurd (let q : At n ≡ Nothing = sym e ∙ is ∙ sym (count_none fails) in let z : ◌≡◌ {A = ℕ} 0 1 = cc in omega arith))
+        (λ holds. (holds, let q : Some n ≡ Some (used s.ledger) = sym e ∙ is ∙ sym (count_some refl holds) in cc))
+        (λ fails. absurd (let q : Some n ≡ None = sym e ∙ is ∙ sym (count_none fails) in let z : ◌≡◌ {A = ℕ} 0 1 = cc in omega arith))
 
-pub check_misshaped : (h : Handle) (s : St) → shaped h s ≡ false → Refused Shape ≡ check_call h s
+pub check_misshaped : (h : Handle) (s : St) → shaped h s ≡ false → Err Shape ≡ check_call h s
 unfolding check_call
 check_misshaped h s e = rw e
 
-pub check_unsound : (h : Handle) (s : St) → shaped h s ≡ true → soundb h s ≡ false → Refused Unsound ≡ check_call h s
+pub check_unsound : (h : Handle) (s : St) → shaped h s ≡ true → soundb h s ≡ false → Err Unsound ≡ check_call h s
 unfolding check_call
 check_unsound h s e q = rw (e, q)
 
-pub check_sound : (h : Handle) (s : St) → shaped h s ≡ true → soundb h s ≡ true → Accepted ≡ check_call h s
+pub check_sound : (h : Handle) (s : St) → shaped h s ≡ true → soundb h s ≡ true → (Ok tt) ≡ check_call h s
 unfolding check_call
 check_sound h s e q = rw (e, q)

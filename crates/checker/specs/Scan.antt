@@ -15,8 +15,7 @@ use Rattle.checker_words.specs.Answer.{count-below, passed_says, failed_says}
 use Rattle.checker_pass.specs.Pass.{run_words, run_links, table_passes, table_links, tables_run}
 use Rattle.checker.specs.Counted.{streamb, stream_sound}
 use Rattle.pool.specs.declared.Handle.{Handle}
-use Rattle.checker_words.specs.declared.Run.{Run}
-use Rattle.checker_words.specs.declared.Run.TheVariants.{Passed, Failed}
+use Rattle.std.specs.Prelude.{None, Option, Some}
 
 -- at most 512 links a table
 links_few : (s : St) (k : ℕ) → length s.words ≡ 512 * tables s → k < tables s → table_links s k ≤ 512
@@ -26,22 +25,22 @@ links_few s k sized l = sum_most 4 128 (run_links s k) (λ r h.
     let long = length_part (512 * k + 128 * r) 128 s.words (omega arith) in
     omega arith)
 
-module _ (h : Handle) (s : St) (shape : Shaped h s) {r : Run} (is : r ≡ tables_run h s) where
-  scan_says : (links : ℕ) → r ≡ Passed links → (all_below (tables s) (table_passes h s) ≡ true) × (links ≡ sum (tables s) (table_links s))
+module _ (h : Handle) (s : St) (shape : Shaped h s) {r : Option ℕ} (is : r ≡ tables_run h s) where
+  scan_says : (links : ℕ) → r ≡ Some links → (all_below (tables s) (table_passes h s) ≡ true) × (links ≡ sum (tables s) (table_links s))
   unfolding tables_run
   scan_says links e = passed_says (all_below (tables s) (table_passes h s)) (sum (tables s) (table_links s)) links (sym e ∙ is)
 
-  pub scan_few : (links : ℕ) → r ≡ Passed links → links ≤ 512 * tables s
+  pub scan_few : (links : ℕ) → r ≡ Some links → links ≤ 512 * tables s
   scan_few links e = omega (arith, (scan_says links e).1, sum_most (tables s) 512 (table_links s) (λ k l. links_few s k shape.sized l))
 
-  pub scan_counted : (links : ℕ) → r ≡ Passed links → eqb (links + 1) (used s.ledger) ≡ soundb h s
+  pub scan_counted : (links : ℕ) → r ≡ Some links → eqb (links + 1) (used s.ledger) ≡ soundb h s
   unfolding streamb
   scan_counted links e =
       let says = scan_says links e in
       let same : streamb h s ≡ eqb (sum (tables s) (table_links s) + 1) (used s.ledger) = rw says.0 in
       ap (λ (x : ℕ). eqb (x + 1) (used s.ledger)) says.1 ∙ sym same ∙ stream_sound h s shape
 
-  pub scan_unsound : r ≡ Failed → false ≡ soundb h s
+  pub scan_unsound : r ≡ None → false ≡ soundb h s
   unfolding tables_run streamb
   scan_unsound e =
       let fails = failed_says (all_below (tables s) (table_passes h s)) (sum (tables s) (table_links s)) (sym e ∙ is) in

@@ -7,23 +7,19 @@ ghost use Rattle.pool.specs.Refuse.{Shaped};
 ghost use Rattle.pool.specs.Sound.{soundb};
 ghost use Rattle.checker.specs.Call.{sound_count, check_call};
 
-use checker_words::Run;
-use pool::{Found, Handle, Outcome, Refusal};
+use pool::{Handle, Refusal};
 
 // The tables in use, if the pool is sound: where every used table hangs, as many links as used tables but the root leave no other link.
-pub fn count_sound(words: &[u64], ledger: &[u32], handle: Handle) -> Found
+pub fn count_sound(words: &[u64], ledger: &[u32], handle: Handle) -> Option<usize>
     requires { Shaped handle (st words.now ledger.now) }
     ensures { result ≡ sound_count handle (st words.now ledger.now) }
 {
-    let found = checker_pass::scan_tables(words, ledger, handle);
-    let Run::Passed(links) = found else {
-        return Found::Nothing;
-    };
+    let links = checker_pass::scan_tables(words, ledger, handle)?;
     let used = pool_ledger::count_used(ledger);
     if links + 1 != used {
-        return Found::Nothing;
+        return None;
     }
-    Found::At(used)
+    Some(used)
 }
 
 // Whether the pool is sound.
@@ -31,23 +27,19 @@ pub fn is_sound(words: &[u64], ledger: &[u32], handle: Handle) -> bool
     requires { Shaped handle (st words.now ledger.now) }
     ensures { result ≡ soundb handle (st words.now ledger.now) }
 {
-    let counted = count_sound(words, ledger, handle);
-    match counted {
-        Found::At(_) => true,
-        Found::Nothing => false,
-    }
+    count_sound(words, ledger, handle).is_some()
 }
 
 // The pool check.
-pub fn check(words: &[u64], ledger: &[u32], handle: Handle) -> Outcome
+pub fn check(words: &[u64], ledger: &[u32], handle: Handle) -> Result<(), Refusal>
     ensures { result ≡ check_call handle (st words.now ledger.now) }
 {
     if !pool_handle::is_shaped(words, ledger, handle) {
-        return Outcome::Refused(Refusal::Shape);
+        return Err(Refusal::Shape);
     }
     if is_sound(words, ledger, handle) {
-        Outcome::Accepted
+        Ok(())
     } else {
-        Outcome::Refused(Refusal::Unsound)
+        Err(Refusal::Unsound)
     }
 }

@@ -7,8 +7,7 @@ use Rattle.pool.specs.State.{St, tables, number_at}
 use Rattle.pool.specs.Sound.{flag_set, tableb}
 use Rattle.checker_words.specs.Words.{pass_all, count_all}
 use Rattle.pool.specs.declared.Handle.{Handle}
-use Rattle.checker_words.specs.declared.Run.{Run}
-use Rattle.checker_words.specs.declared.Run.TheVariants.{Passed, Failed}
+use Rattle.std.specs.Prelude.{None, Option, Some}
 
 -- a table is read in four runs of 128 words
 abbrev pub run_words : St → ℕ → ℕ → List ℕ
@@ -27,5 +26,5 @@ unfoldable pub table_links : St → ℕ → ℕ
 table_links s k = sum 4 (run_links s k)
 
 -- the links of all tables, if all pass
-unfoldable pub tables_run : Handle → St → Run
-tables_run h s = cond (all_below (tables s) (table_passes h s)) (Passed (sum (tables s) (table_links s))) Failed
+unfoldable pub tables_run : Handle → St → Option ℕ
+tables_run h s = cond (all_below (tables s) (table_passes h s)) (Some (sum (tables s) (table_links s))) None

@@ -7,15 +7,15 @@ use Rattle.pool.specs.State.{St, tables}
 use Rattle.pool.specs.Sound.{tableb}
 use Rattle.checker_pass.specs.Pass.{run_passes, table_passes, table_links, tables_run}
 use Rattle.pool.specs.declared.Handle.{Handle}
-use Rattle.checker_words.specs.declared.Run.TheVariants.{Passed, Failed}
+use Rattle.std.specs.Prelude.{None, Some}
 
 pub tables_passed : (h : Handle) (s : St) (links : ℕ) → T (all_below (tables s) (table_passes h s)) → links ≡ sum (tables s) (table_links s)
-    → Passed links ≡ tables_run h s
+    → Some links ≡ tables_run h s
 unfolding tables_run
-tables_passed h s links t e = rw (is_true (all_below (tables s) (table_passes h s)) t) (ap Passed e)
+tables_passed h s links t e = rw (is_true (all_below (tables s) (table_passes h s)) t) (ap Some e)
 
 -- a table whose number is wrong, or one of whose runs fails
-pub tables_failed : (h : Handle) (s : St) (k : ℕ) → k < tables s → table_passes h s k ≡ false → Failed ≡ tables_run h s
+pub tables_failed : (h : Handle) (s : St) (k : ℕ) → k < tables s → table_passes h s k ≡ false → None ≡ tables_run h s
 unfolding tables_run
 tables_failed h s k l e = rw (all_fails (tables s) (table_passes h s) k l e)
 

@@ -6,12 +6,11 @@ ghost use Rattle.pool.specs.State.{st};
 ghost use Rattle.pool.specs.Refuse.{Shaped};
 ghost use Rattle.checker_pass.specs.Pass.{tables_run};
 
-use checker_words::Run;
 use pool::Handle;
 
 // The links of all tables, if every number is right and every run passes. A table is read in four runs of 128 words; a run that fails ends
 // both loops.
-pub fn scan_tables(words: &[u64], ledger: &[u32], handle: Handle) -> Run
+pub fn scan_tables(words: &[u64], ledger: &[u32], handle: Handle) -> Option<usize>
     requires { Shaped handle (st words.now ledger.now) }
     ensures { result ≡ tables_run handle (st words.now ledger.now) }
 {
@@ -21,22 +20,20 @@ pub fn scan_tables(words: &[u64], ledger: &[u32], handle: Handle) -> Run
     let mut k = 0;
     'tables: loop {
         if n <= k {
-            break 'tables Run::Passed(links);
+            break 'tables Some(links);
         }
         if !checker_ledger::table_holds(words, ledger, handle, k) {
-            break 'tables Run::Failed;
+            break 'tables None;
         }
         let number = ledger[k];
-        let mut r = 0;
-        while r < 4 {
+        for r in 0..4 {
             let a = 512 * k + 128 * r;
             let e = a + 128;
             let run = checker_words::scan_run(&words[a..e], set, number);
-            let Run::Passed(count) = run else {
-                break 'tables Run::Failed;
+            let Some(count) = run else {
+                break 'tables None;
             };
             links += count;
-            r += 1;
         }
         k += 1;
     }

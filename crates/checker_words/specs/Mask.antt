@@ -21,7 +21,7 @@ use Rattle.entry.specs.Word.{address_of, only, el1_flags, plain_flags, mask_plai
 use Rattle.pool.specs.Number.{level_of}
 use Rattle.pool.specs.Sound.{fits, leafb, refersb}
 use Rattle.checker_words.specs.Words.{passesb, pass_all, link_count, count_all, run_of, allowed_at, union, strays, leaves, links}
-use Rattle.checker_words.specs.declared.Run.TheVariants.{Passed, Failed}
+use Rattle.std.specs.Prelude.{None, Some}
 
 -- ---- flag sets
 
@@ -216,9 +216,9 @@ unfolding count_all link_count
 free-count [] = refl
 free-count (w ∷ ws) = zero-add (count_all 0 ws) ∙ free-count ws
 
-pub free_run_lem : (set : ℕ) (ws : List ℕ) → run_of set 0 ws ≡ cond (eqb (union ws) 0) (Passed 0) Failed
+pub free_run_lem : (set : ℕ) (ws : List ℕ) → run_of set 0 ws ≡ cond (eqb (union ws) 0) (Some 0) None
 unfolding run_of
-free_run_lem set ws = ap₂ (λ (b : Bool) (n : ℕ). cond b (Passed n) Failed) (free_pass set ws) (free-count ws)
+free_run_lem set ws = ap₂ (λ (b : Bool) (n : ℕ). cond b (Some n) None) (free_pass set ws) (free-count ws)
 
 and_four : (a b c d : Bool) → (a && b) && (c && d) ≡ (a && c) && (b && d)
 and_four true true c d = refl
@@ -249,9 +249,9 @@ module _ (set y : ℕ) (plain : PlainSet set) (some : 0 < y) (at : level_of y �
   pages_count (w ∷ ws) = rw (ne_eqb y 0 (λ e. omega arith), at) (zero-add (count_all y ws) ∙ pages_count ws)
 
   pub pages_run_lem : (ws : List ℕ) → Words ws
-      → run_of set y ws ≡ cond (only (allowed_at set 3) (union ws) && eqb (strays ws % 2) 0) (Passed 0) Failed
+      → run_of set y ws ≡ cond (only (allowed_at set 3) (union ws) && eqb (strays ws % 2) 0) (Some 0) None
   unfolding run_of
-  pages_run_lem ws words = ap₂ (λ (b : Bool) (n : ℕ). cond b (Passed n) Failed) (pages_pass ws words) (pages_count ws)
+  pages_run_lem ws words = ap₂ (λ (b : Bool) (n : ℕ). cond b (Some n) None) (pages_pass ws words) (pages_count ws)
 
 only-cond : (m w : ℕ) (b : Bool) → only m (cond b 0 w) ≡ cond b true (only m w)
 only-cond m w true = only_zero m
@@ -279,9 +279,9 @@ module _ (set y level : ℕ) (plain : PlainSet set) (some : 0 < y) (at : level_o
   links-count (w ∷ ws) =
       rw (ne_eqb y 0 (λ e. omega arith), at, lt-ltb level 3 high) (ap (λ (n : ℕ). cond (eqb (w % 4) 3) 1 0 + n) (links-count ws))
 
-  pub links_run_lem : (ws : List ℕ) → Words ws → run_of set y ws ≡ cond (only (allowed_at set level) (leaves ws)) (Passed (links ws)) Failed
+  pub links_run_lem : (ws : List ℕ) → Words ws → run_of set y ws ≡ cond (only (allowed_at set level) (leaves ws)) (Some (links ws)) None
   unfolding run_of
-  links_run_lem ws words = ap₂ (λ (b : Bool) (n : ℕ). cond b (Passed n) Failed) (links_pass ws words) (links-count ws)
+  links_run_lem ws words = ap₂ (λ (b : Bool) (n : ℕ). cond b (Some n) None) (links_pass ws words) (links-count ws)
 
 -- ---- a run read word by word, for loops: what stands after i words, and one word more
 

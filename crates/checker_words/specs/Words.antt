@@ -6,8 +6,7 @@ use Rattle.laws.specs.Size.{size_at}
 use Rattle.entry.specs.Word.{only}
 use Rattle.pool.specs.Number.{level_of}
 use Rattle.pool.specs.Sound.{leafb, refersb}
-use Rattle.checker_words.specs.declared.Run.{Run}
-use Rattle.checker_words.specs.declared.Run.TheVariants.{Passed, Failed}
+use Rattle.std.specs.Prelude.{None, Option, Some}
 
 -- ---- one run of words of a table whose number is y
 
@@ -27,8 +26,8 @@ unfoldable pub count_all : ℕ → List ℕ → ℕ
 count_all y [] = 0
 count_all y (w ∷ ws) = link_count y w + count_all y ws
 
-unfoldable pub run_of : ℕ → ℕ → List ℕ → Run
-run_of set y ws = cond (pass_all set y ws) (Passed (count_all y ws)) Failed
+unfoldable pub run_of : ℕ → ℕ → List ℕ → Option ℕ
+run_of set y ws = cond (pass_all set y ws) (Some (count_all y ws)) None
 
 -- ---- a run by unions: which bits a leaf may have at a level of a used table
 
@@ -61,13 +60,13 @@ links (w ∷ ws) = cond (eqb (w % 4) 3) 1 0 + links ws
 -- ---- a run, judged by its unions
 
 -- of a free table
-unfoldable pub free_run : List ℕ → Run
-free_run ws = cond (eqb (union ws) 0) (Passed 0) Failed
+unfoldable pub free_run : List ℕ → Option ℕ
+free_run ws = cond (eqb (union ws) 0) (Some 0) None
 
 -- of a table of pages, with the bits that are allowed
-unfoldable pub pages_run : ℕ → List ℕ → Run
-pages_run allowed ws = cond (only allowed (union ws) && eqb (strays ws % 2) 0) (Passed 0) Failed
+unfoldable pub pages_run : ℕ → List ℕ → Option ℕ
+pages_run allowed ws = cond (only allowed (union ws) && eqb (strays ws % 2) 0) (Some 0) None
 
 -- of a table of levels 0 to 2
-unfoldable pub links_run : ℕ → List ℕ → Run
-links_run allowed ws = cond (only allowed (leaves ws)) (Passed (links ws)) Failed
+unfoldable pub links_run : ℕ → List ℕ → Option ℕ
+links_run allowed ws = cond (only allowed (leaves ws)) (Some (links ws)) None

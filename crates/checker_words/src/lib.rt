@@ -5,74 +5,48 @@ ghost use Rattle.std.specs.Prelude.{◌≡◌};
 ghost use Rattle.checker_words.specs.Words.{free_run, pages_run, links_run, run_of, allowed_at};
 ghost use Rattle.checker_words.specs.Mask.{PlainSet};
 
-// A run of words that passed, with how many of them refer to tables; or one that holds a wrong word.
-#[derive(Clone, Copy)]
-pub enum Run {
-    Passed(usize),
-    Failed,
-}
-
-// A run of a free table: the union of its words is 0.
-pub fn scan_free(run: &[u64]) -> Run
+// How many words of a run refer to tables, where it passes; nothing where it holds a wrong word. A run of a free table: the union of its
+// words is 0.
+pub fn scan_free(run: &[u64]) -> Option<usize>
     ensures { result ≡ free_run run.now }
 {
     let mut any = 0;
-    let mut i = 0;
-    while i < run.len() {
-        any |= run[i];
-        i += 1;
+    for word in run {
+        any |= *word;
     }
-    if any == 0 {
-        Run::Passed(0)
-    } else {
-        Run::Failed
-    }
+    if any == 0 { Some(0) } else { None }
 }
 
 // A run of a table of pages: bits that are allowed, and bit 1 wherever bit 0 is. No branch on a word.
-pub fn scan_pages(run: &[u64], allowed: u64) -> Run
+pub fn scan_pages(run: &[u64], allowed: u64) -> Option<usize>
     ensures { result ≡ pages_run allowed run.now }
 {
     let mut any = 0;
     let mut stray = 0;
-    let mut i = 0;
-    while i < run.len() {
-        let word = run[i];
+    for &word in run {
         any |= word;
         stray |= word & !(word / 2);
-        i += 1;
     }
     if any & allowed != any {
-        return Run::Failed;
+        return None;
     }
-    if stray % 2 == 0 {
-        Run::Passed(0)
-    } else {
-        Run::Failed
-    }
+    if stray % 2 == 0 { Some(0) } else { None }
 }
 
 // A run of a table of levels 0 to 2: table words are counted, the others have bits that are allowed.
-pub fn scan_links(run: &[u64], allowed: u64) -> Run
+pub fn scan_links(run: &[u64], allowed: u64) -> Option<usize>
     ensures { result ≡ links_run allowed run.now }
 {
     let mut any = 0;
     let mut links = 0;
-    let mut i = 0;
-    while i < run.len() {
-        let word = run[i];
+    for &word in run {
         if word % 4 == 3 {
             links += 1;
         } else {
             any |= word;
         }
-        i += 1;
     }
-    if any & allowed == any {
-        Run::Passed(links)
-    } else {
-        Run::Failed
-    }
+    if any & allowed == any { Some(links) } else { None }
 }
 
 // The bits that a leaf may have at a level.
@@ -89,7 +63,7 @@ fn allowed_at(set: u64, level: usize) -> u64
 }
 
 // A run of a table with this ledger number.
-pub fn scan_run(run: &[u64], set: u64, number: u32) -> Run
+pub fn scan_run(run: &[u64], set: u64, number: u32) -> Option<usize>
     requires { PlainSet set }
     ensures { result ≡ run_of set number run.now }
 {

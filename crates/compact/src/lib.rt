@@ -8,7 +8,7 @@ ghost use Rattle.compact_spec.specs.Compact.{compact_table};
 ghost use Rattle.compact_spec.specs.Call.{compact_call};
 
 use entry::Sub;
-use pool::{Counted, Handle, Refusal};
+use pool::{Handle, Refusal};
 
 // Compacts what hangs from table k, at this level: each entry's subtree first, and then its table is freed if it is empty.
 pub fn compact_subtables(
@@ -25,10 +25,7 @@ pub fn compact_subtables(
     if address::LEAF_LEVEL <= level {
         return;
     }
-    let mut next = 0;
-    while next < 512 {
-        let i = next;
-        next += 1;
+    for i in 0..512 {
         let kind = entry::subtable(handle.base, ledger.len(), level, words[512 * k + i]);
         let Sub::Table(j) = kind else {
             continue;
@@ -39,16 +36,16 @@ pub fn compact_subtables(
 }
 
 // Compacts the pool: no table but the root stays that is all zero.
-pub fn compact(words: &mut [u64], ledger: &mut [u32], handle: Handle) -> Counted
+pub fn compact(words: &mut [u64], ledger: &mut [u32], handle: Handle) -> Result<usize, Refusal>
     ensures { out result (st words.new ledger.new)
         ≡ compact_call handle (st words.old ledger.old) }
 {
     if !pool_handle::is_shaped(words, ledger, handle) {
-        return Counted::Refused(Refusal::Shape);
+        return Err(Refusal::Shape);
     }
     if !checker::is_sound(words, ledger, handle) {
-        return Counted::Refused(Refusal::Unsound);
+        return Err(Refusal::Unsound);
     }
     compact_subtables(words, ledger, handle, 0, handle.level);
-    Counted::Tables(pool_ledger::count_used(ledger))
+    Ok(pool_ledger::count_used(ledger))
 }

@@ -9,14 +9,7 @@ ghost use Rattle.compact_spec.specs.Compact.{all_zero, release_empty};
 fn is_empty(table: &[u64]) -> bool
     ensures { result ≡ all_zero table.now }
 {
-    let mut i = 0;
-    while i < table.len() {
-        if table[i] != 0 {
-            return false;
-        }
-        i += 1;
-    }
-    true
+    table.iter().all(|word| *word == 0)
 }
 
 // Frees table j if it is empty, and zeroes slot i of table k, which refers to it.

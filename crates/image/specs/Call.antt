@@ -7,8 +7,8 @@ use Rattle.pool.specs.Refuse.{shaped}
 use Rattle.image_bytes.specs.Image.{image_of}
 use Rattle.pool.specs.declared.Handle.{Handle}
 use Rattle.pool.specs.declared.Refusal.TheVariants.{Shape, Short}
-use Rattle.pool.specs.declared.Outcome.{Outcome}
-use Rattle.pool.specs.declared.Outcome.TheVariants.{Accepted, Refused}
+use Rattle.std.specs.Prelude.{Err, Ok}
+use Rattle.pool.specs.Refuse.{Outcome}
 
 -- the answer and the page
 pub record Imaged : Type 0 where
@@ -22,26 +22,26 @@ unfoldable pub image_call : Handle → St → ℕ → List ℕ → Imaged
 image_call h s k page =
     cond (shaped h s)
     (cond (ltb k (tables s))
-    (cond (eqb (length page) 4096) (imaged Accepted (image_of (part_of (512 * k) 512 s.words))) (imaged (Refused (Short 4096)) page))
-    (imaged (Refused Shape) page))
-    (imaged (Refused Shape) page)
+    (cond (eqb (length page) 4096) (imaged (Ok tt) (image_of (part_of (512 * k) 512 s.words))) (imaged (Err (Short 4096)) page))
+    (imaged (Err Shape) page))
+    (imaged (Err Shape) page)
 
 -- ---- laws: one for each way through the code
 
 module _ (h : Handle) (s : St) (k : ℕ) (page : List ℕ) where
-  pub image_misshaped : shaped h s ≡ false → imaged (Refused Shape) page ≡ image_call h s k page
+  pub image_misshaped : shaped h s ≡ false → imaged (Err Shape) page ≡ image_call h s k page
   unfolding image_call
   image_misshaped e = rw e
 
-  pub image_no_table : shaped h s ≡ true → tables s ≤ k → imaged (Refused Shape) page ≡ image_call h s k page
+  pub image_no_table : shaped h s ≡ true → tables s ≤ k → imaged (Err Shape) page ≡ image_call h s k page
   unfolding image_call
   image_no_table e l = rw (e, le-ltb k (tables s) l)
 
-  pub image_short : shaped h s ≡ true → k < tables s → (length page ≡ 4096 → ⊥) → imaged (Refused (Short 4096)) page ≡ image_call h s k page
+  pub image_short : shaped h s ≡ true → k < tables s → (length page ≡ 4096 → ⊥) → imaged (Err (Short 4096)) page ≡ image_call h s k page
   unfolding image_call
   image_short e l n = rw (e, lt-ltb k (tables s) l, ne_eqb (length page) 4096 n)
 
   pub image_written : shaped h s ≡ true → k < tables s → length page ≡ 4096
-      → imaged Accepted (image_of (part_of (512 * k) 512 s.words)) ≡ image_call h s k page
+      → imaged (Ok tt) (image_of (part_of (512 * k) 512 s.words)) ≡ image_call h s k page
   unfolding image_call
   image_written e l n = rw (e, lt-ltb k (tables s) l, eq-eqb (length page) 4096 n)

@@ -9,13 +9,7 @@ fn put_word(bytes: &mut [u8], word: u64)
     requires { length bytes.old ≡ 8 }
     ensures { bytes.new ≡ bytes_of 8 word }
 {
-    let mut rest = word;
-    let mut i = 0;
-    while i < 8 {
-        bytes[i] = (rest % 256) as u8;
-        rest /= 256;
-        i += 1;
-    }
+    bytes.copy_from_slice(&word.to_le_bytes());
 }
 
 // A table's words, little-endian.
@@ -23,11 +17,8 @@ pub fn write_to(table: &[u64], page: &mut [u8])
     requires { length page.old ≡ 8 * length table.now }
     ensures { page.new ≡ image_of table.now }
 {
-    let mut i = 0;
-    while i < table.len() {
+    for (i, word) in table.iter().enumerate() {
         let a = 8 * i;
-        let e = a + 8;
-        put_word(&mut page[a..e], table[i]);
-        i += 1;
+        put_word(&mut page[a..a + 8], *word);
     }
 }

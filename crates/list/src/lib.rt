@@ -7,22 +7,15 @@ ghost use Rattle.list_lines.specs.Lines.{lines_from};
 ghost use Rattle.list.specs.Call.{verify_ends, listing, list_lines, list_call};
 
 use address::VirtualAddress;
-use pool::{Handle, Outcome, Refusal};
+use pool::{Handle, Refusal};
 use region::MemoryRegion;
 
-// What list answers: the count of its lines.
-#[derive(Clone, Copy)]
-pub enum Listed {
-    Lines(usize),
-    Refused(Refusal),
-}
-
 // Whether the region that the two numbers touch can be asked for.
-fn verify_ends(handle: Handle, start: u64, end: u64) -> Outcome
+fn verify_ends(handle: Handle, start: u64, end: u64) -> Result<(), Refusal>
     ensures { result ≡ verify_ends handle start end }
 {
     if !region_verify::end_fits(end) {
-        return Outcome::Refused(Refusal::End(end));
+        return Err(Refusal::End(end));
     }
     region_verify::verify_region(handle, MemoryRegion::new(start, end))
 }
@@ -34,20 +27,20 @@ fn list_lines(
     handle: Handle,
     region: MemoryRegion,
     list: &mut [u64],
-) -> Listed
+) -> Result<usize, Refusal>
     requires { (length words.now ≡ 512 * tables) × (1 ≤ tables) × (handle.level ≤ 3) × (region.end.0 - region.start.0 ≤ 2 ^ 48) }
     ensures { listing result list.new
         ≡ list_lines (lines_from handle.base.0 tables words.now (3 - handle.level) 0 region) list.old }
 {
     let count = list_lines::count_lines(words, tables, handle, 0, handle.level, region);
     if list.len() / 4 < count {
-        return Listed::Refused(Refusal::Short(4 * (count as u64)));
+        return Err(Refusal::Short(4 * (count as u64)));
     }
     list_lines::visit_range(words, tables, handle, 0, handle.level, region, list, 0);
-    Listed::Lines(count)
+    Ok(count)
 }
 
-// Lists the entries that the region meets: start, end, word and level of each.
+// Lists the entries that the region meets: start, end, word and level of each. Answers with the count of its lines.
 pub fn list(
     words: &[u64],
     ledger: &[u32],
@@ -55,19 +48,16 @@ pub fn list(
     start: VirtualAddress,
     end: VirtualAddress,
     list: &mut [u64],
-) -> Listed
+) -> Result<usize, Refusal>
     ensures { listing result list.new
         ≡ list_call handle (st words.now ledger.now) start.0 end.0 list.old }
 {
     if !pool_handle::is_shaped(words, ledger, handle) {
-        return Listed::Refused(Refusal::Shape);
+        return Err(Refusal::Shape);
     }
-    let verified = verify_ends(handle, start.0, end.0);
-    if let Outcome::Refused(refusal) = verified {
-        return Listed::Refused(refusal);
-    }
+    verify_ends(handle, start.0, end.0)?;
     if !checker::is_sound(words, ledger, handle) {
-        return Listed::Refused(Refusal::Unsound);
+        return Err(Refusal::Unsound);
     }
     list_lines(
         words,

@@ -8,13 +8,11 @@ use Rattle.std.proofs.Math.Seq.{drop-append-add}
 use Rattle.laws.specs.Part.{put_part}
 use Rattle.laws.specs.Test.{eq_or, le_or}
 use Rattle.address_slot.specs.Slot.{chunk_end}
-use Rattle.region.specs.Region.{region, next_chunk}
-use Rattle.region.specs.Chunks.{chunks, chunks_of, next_gives, met, met_none, met-step, chunks_none, chunks-step, Tiles, none, more}
+use Rattle.region.specs.Region.{region}
+use Rattle.region.specs.Chunks.{chunks, chunks_of, met, met_none, met-step, chunks_none, chunks-step, Tiles, none, more}
 use Rattle.region.specs.Chunks.{chunks_tile}
 use Rattle.region.specs.declared.MemoryRegion.{MemoryRegion}
 use Rattle.region.specs.declared.ChunkedIterator.{ChunkedIterator}
-use Rattle.region.specs.declared.NextChunk.{NextChunk}
-use Rattle.region.specs.declared.NextChunk.TheVariants.{Chunk, Done}
 use Rattle.entry.specs.Sub.{sub_of, sub_leaf}
 use Rattle.entry.specs.declared.Sub.{Sub}
 use Rattle.entry.specs.declared.Sub.TheVariants.{Table, Outside, Leaf}
@@ -108,13 +106,6 @@ unfoldable pub lines_of : Handle → St → MemoryRegion → List Line
 lines_of h s r = lines_from h.base.0 (tables s) s.words (3 - h.level) 0 r
 
 -- ---- chunk by chunk
-
-pub next_chunk_lem : (c : ChunkedIterator) {x : NextChunk} (r : MemoryRegion) (a : ChunkedIterator) → x ≡ next_chunk c → x ≡ Chunk r a
-    → chunks_of c ≡ r ∷ chunks_of a
-next_chunk_lem c r a e q = rw (sym e ∙ q) at (next_gives c)
-
-pub next_none : (c : ChunkedIterator) {x : NextChunk} → x ≡ next_chunk c → x ≡ Done → chunks_of c ≡ []
-next_none c e q = rw (sym e ∙ q) at (next_gives c)
 
 -- ---- numbers in a lent list
 

@@ -10,7 +10,7 @@ ghost use Rattle.list_lines.specs.Lines.{line, numbers, lines_from, written, wri
 use address::VirtualAddress;
 use entry::Sub;
 use pool::Handle;
-use region::{MemoryRegion, NextChunk};
+use region::MemoryRegion;
 
 // The word of table k that the address lies in.
 fn get_entry(words: &[u64], tables: usize, k: usize, level: usize, va: VirtualAddress) -> u64
@@ -48,13 +48,7 @@ pub fn count_lines(
         return count_pages(region);
     }
     let mut count = 0;
-    let mut rest = region.split(level);
-    loop {
-        let next = rest.next();
-        let NextChunk::Chunk(chunk, after) = next else {
-            return count;
-        };
-        rest = after;
+    for chunk in region.split(level) {
         let word = get_entry(words, tables, k, level, VirtualAddress(chunk.start.0));
         let kind = entry::subtable(handle.base, tables, level, word);
         let Sub::Table(j) = kind else {
@@ -63,6 +57,7 @@ pub fn count_lines(
         };
         count += count_lines(words, tables, handle, j, level + 1, chunk);
     }
+    count
 }
 
 // One line.
@@ -93,13 +88,7 @@ pub fn visit_range(
         ≡ write_lines from (lines_from handle.base.0 tables words.now (3 - level) k region) list.old }
 {
     let mut to = from;
-    let mut rest = region.split(level);
-    loop {
-        let next = rest.next();
-        let NextChunk::Chunk(chunk, after) = next else {
-            return to;
-        };
-        rest = after;
+    for chunk in region.split(level) {
         let word = get_entry(words, tables, k, level, VirtualAddress(chunk.start.0));
         let kind = entry::subtable(handle.base, tables, level, word);
         let Sub::Table(j) = kind else {
@@ -109,4 +98,5 @@ pub fn visit_range(
         };
         to = visit_range(words, tables, handle, j, level + 1, chunk, list, to);
     }
+    to
 }

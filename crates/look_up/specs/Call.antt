@@ -17,28 +17,29 @@ use Rattle.pool.specs.declared.Refusal.TheVariants.{Shape, AddressRange, Unsound
 use Rattle.arm.specs.Arm.{frame_of, flags_in, Walked, hole, block, page, outside, at, says, walk}
 use Rattle.arm.specs.Walk.{says_hole, says_block, says_page}
 use Rattle.look_up.specs.declared.Looked.{Looked}
-use Rattle.look_up.specs.declared.Looked.TheVariants.{Hole, Block, Page, Refused}
+use Rattle.look_up.specs.declared.Looked.TheVariants.{Hole, Block, Page}
+use Rattle.std.specs.Prelude.{Err}
 
 -- the number that an answer returns: 0, or the refusal's (document 01, "The refusal slip": No.)
 abbrev pub returned : Looked → ℕ
 returned (Hole level flags) = 0
 returned (Block level flags frame) = 0
 returned (Page level flags frame) = 0
-returned (Refused r) = number r
+returned (Err r) = number r
 
 -- the values of an answer: kind (0 hole, 1 block, 2 page), level, flags, frame (0 for a hole); of a refusal, what it carries
 abbrev pub values : Looked → List ℕ
 values (Hole level flags) = 0 ∷ level ∷ flags ∷ 0 ∷ []
 values (Block level flags frame) = 1 ∷ level ∷ flags ∷ frame.0 ∷ []
 values (Page level flags frame) = 2 ∷ level ∷ flags ∷ frame.0 ∷ []
-values (Refused r) = carried r
+values (Err r) = carried r
 
 -- the walk as an answer: refusal 8 where a table word on its path points outside the pool
 unfoldable pub answer : Walked → Looked
 answer (hole level flags) = Hole level flags
 answer (block level flags frame) = Block level flags (record { 0 = frame })
 answer (page level flags frame) = Page level flags (record { 0 = frame })
-answer outside = Refused Unsound
+answer outside = Err Unsound
 
 -- the address lies in the root's span: from 0 up, or up to 2^64 (document 01, "The refusal slip", 6)
 unfoldable pub spanned : VaRange → ℕ → ℕ → Bool
@@ -50,18 +51,18 @@ look_up_call h s va =
     cond (shaped h s)
     (cond (spanned h.range h.level va)
     (answer (walk h.base.0 (tables s) s.words va h.level))
-    (Refused (AddressRange (record { 0 = va }))))
-    (Refused Shape)
+    (Err (AddressRange (record { 0 = va }))))
+    (Err Shape)
 
 -- ---- laws: one for each way through the code
 
 module _ (h : Handle) (s : St) (va : ℕ) where
-  pub look_misshaped : shaped h s ≡ false → Refused Shape ≡ look_up_call h s va
+  pub look_misshaped : shaped h s ≡ false → Err Shape ≡ look_up_call h s va
   unfolding look_up_call
   look_misshaped e = rw e
 
   pub look_beyond : shaped h s ≡ true → spanned h.range h.level va ≡ false
-      → Refused (AddressRange (record { 0 = va })) ≡ look_up_call h s va
+      → Err (AddressRange (record { 0 = va })) ≡ look_up_call h s va
   unfolding look_up_call
   look_beyond e f = rw (e, f)
 

@@ -10,13 +10,12 @@ use address::{PhysicalAddress, VirtualAddress};
 use entry::{Kind, Sub};
 use pool::{Handle, Refusal, VaRange};
 
-// What look up answers: kind, level, flags without bit 1, and the frame of the address's page. A hole has no frame.
+// What a walk finds: kind, level, flags without bit 1, and the frame of the address's page. A hole has no frame.
 #[derive(Clone, Copy)]
 pub enum Looked {
     Hole(usize, u64),
     Block(usize, u64, PhysicalAddress),
     Page(usize, u64, PhysicalAddress),
-    Refused(Refusal),
 }
 
 // Whether the address lies in the root's span.
@@ -32,7 +31,7 @@ fn is_spanned(range: VaRange, level: usize, va: VirtualAddress) -> bool
 
 // What a word says that ends the walk.
 fn leaf(level: usize, word: u64, va: VirtualAddress) -> Looked
-    ensures { result ≡ answer (says va.0 (at level word)) }
+    ensures { Ok result ≡ answer (says va.0 (at level word)) }
 {
     let flags = look_up_fields::plain_flags(word);
     let kind = entry::kind_of(level, word);
@@ -44,7 +43,7 @@ fn leaf(level: usize, word: u64, va: VirtualAddress) -> Looked
 }
 
 // From the root down until a word ends the walk.
-fn walk_from(words: &[u64], tables: usize, handle: Handle, va: VirtualAddress) -> Looked
+fn walk_from(words: &[u64], tables: usize, handle: Handle, va: VirtualAddress) -> Result<Looked, Refusal>
     requires { (1 ≤ tables) × (length words.now ≡ 512 * tables) × (handle.level ≤ 3) }
     ensures { result ≡ answer (walk handle.base.0 tables words.now va.0 handle.level) }
 {
@@ -57,9 +56,9 @@ fn walk_from(words: &[u64], tables: usize, handle: Handle, va: VirtualAddress) -
         let kind = entry::subtable(handle.base, tables, level, word);
         let Sub::Table(j) = kind else {
             if let Sub::Outside = kind {
-                return Looked::Refused(Refusal::Unsound);
+                return Err(Refusal::Unsound);
             }
-            return leaf(level, word, va);
+            return Ok(leaf(level, word, va));
         };
         k = j;
         level += 1;
@@ -67,15 +66,15 @@ fn walk_from(words: &[u64], tables: usize, handle: Handle, va: VirtualAddress) -
 }
 
 // What the walk of the address answers.
-pub fn look_up(words: &[u64], ledger: &[u32], handle: Handle, va: VirtualAddress) -> Looked
+pub fn look_up(words: &[u64], ledger: &[u32], handle: Handle, va: VirtualAddress) -> Result<Looked, Refusal>
     ensures { result ≡ look_up_call handle (st words.now ledger.now) va.0 }
 {
     if !pool_handle::is_shaped(words, ledger, handle) {
-        return Looked::Refused(Refusal::Shape);
+        return Err(Refusal::Shape);
     }
     let range = handle.range;
     if !is_spanned(range, handle.level, va) {
-        return Looked::Refused(Refusal::AddressRange(va));
+        return Err(Refusal::AddressRange(va));
     }
     walk_from(words, ledger.len(), handle, va)
 }

@@ -11,10 +11,10 @@ use address::{PhysicalAddress, VirtualAddress};
 pub fn slots_of(va: VirtualAddress) -> [u16; 4]
     ensures { result ≡ slots_of va.0 }
 {
-    let s0 = (va.0 / 0x80_0000_0000 % 512) as u16;
-    let s1 = (va.0 / 0x4000_0000 % 512) as u16;
-    let s2 = (va.0 / 0x20_0000 % 512) as u16;
-    let s3 = (va.0 / 0x1000 % 512) as u16;
+    let s0 = address_slot::entry_index(0, va.0) as u16;
+    let s1 = address_slot::entry_index(1, va.0) as u16;
+    let s2 = address_slot::entry_index(2, va.0) as u16;
+    let s3 = address_slot::entry_index(3, va.0) as u16;
     [s0, s1, s2, s3]
 }
 

@@ -5,8 +5,8 @@ use Rattle.pool.specs.Number.{root_number}
 use Rattle.pool.specs.Refuse.{shaped, Out, out, refuse}
 use Rattle.pool.specs.declared.Handle.{Handle}
 use Rattle.pool.specs.declared.Refusal.TheVariants.{Shape}
-use Rattle.pool.specs.declared.Outcome.{Outcome}
-use Rattle.pool.specs.declared.Outcome.TheVariants.{Accepted}
+use Rattle.std.specs.Prelude.{Ok}
+use Rattle.pool.specs.Refuse.{Outcome}
 
 -- ---- make: "zeroes all words and the ledger, then enters the root". Refusal 1.
 
@@ -14,7 +14,7 @@ unfoldable pub fresh : Handle → St → St
 fresh h s = st (replicate (length s.words) 0) (set (replicate (length s.ledger) 0) 0 (root_number h.level))
 
 unfoldable pub make_call : Handle → St → Out Outcome
-make_call h s = cond (shaped h s) (out Accepted (fresh h s)) (refuse Shape s)
+make_call h s = cond (shaped h s) (out (Ok tt) (fresh h s)) (refuse Shape s)
 
 -- ---- laws: one for each way through the code
 
@@ -22,6 +22,6 @@ pub make_refused : (h : Handle) (s : St) → shaped h s ≡ false → refuse Sha
 unfolding make_call
 make_refused h s e = rw e
 
-pub make_accepted : (h : Handle) (s : St) → shaped h s ≡ true → out Accepted (fresh h s) ≡ make_call h s
+pub make_accepted : (h : Handle) (s : St) → shaped h s ≡ true → out (Ok tt) (fresh h s) ≡ make_call h s
 unfolding make_call
 make_accepted h s e = rw e

@@ -6,18 +6,18 @@ ghost use Rattle.pool.specs.State.{st};
 ghost use Rattle.pool.specs.Refuse.{out};
 ghost use Rattle.make.specs.Call.{make_call};
 
-use pool::{Handle, Outcome, Refusal};
+use pool::{Handle, Refusal};
 
 // Zeroes all words and the ledger, then enters the root as table 0.
-pub fn make(words: &mut [u64], ledger: &mut [u32], handle: Handle) -> Outcome
+pub fn make(words: &mut [u64], ledger: &mut [u32], handle: Handle) -> Result<(), Refusal>
     ensures { out result (st words.new ledger.new)
         ≡ make_call handle (st words.old ledger.old) }
 {
     if !pool_handle::is_shaped(words, ledger, handle) {
-        return Outcome::Refused(Refusal::Shape);
+        return Err(Refusal::Shape);
     }
-    pool_zero::zero_words(words);
-    pool_zero::zero_numbers(ledger);
+    pool_zero::zero(words);
+    pool_zero::zero(ledger);
     ledger[0] = (4 + handle.level) as u32;
-    Outcome::Accepted
+    Ok(())
 }

@@ -8,14 +8,14 @@ ghost use Rattle.map_spec.specs.Call.{map_call};
 
 use address::{PhysicalAddress, VirtualAddress};
 use map_rules::Map;
-use pool::{Counted, Handle, Outcome, Refusal};
+use pool::{Handle, Refusal};
 use region::MemoryRegion;
 
 // The crate's two constraints; only the first is read.
 #[derive(Clone, Copy)]
 pub struct Constraints(pub u64);
 
-// Puts a map down: each page of the region to its frame, ascending, with these flags.
+// Puts a map down: each page of the region to its frame, ascending, with these flags. Answers with the tables in use.
 pub fn map(
     words: &mut [u64],
     ledger: &mut [u32],
@@ -25,12 +25,12 @@ pub fn map(
     frame: PhysicalAddress,
     flags: u64,
     constraints: Constraints,
-) -> Counted
+) -> Result<usize, Refusal>
     ensures { out result (st words.new ledger.new)
         ≡ map_call handle start.0 end.0 frame.0 flags constraints.0 (st words.old ledger.old) }
 {
     if !pool_handle::is_shaped(words, ledger, handle) {
-        return Counted::Refused(Refusal::Shape);
+        return Err(Refusal::Shape);
     }
     let asked = Map {
         region: MemoryRegion::new(start.0, end.0),
@@ -38,9 +38,6 @@ pub fn map(
         flags,
         blocks: constraints.0 % 2 == 0,
     };
-    let outcome = map_verify::verify_map(handle, end.0, asked);
-    match outcome {
-        Outcome::Refused(refusal) => Counted::Refused(refusal),
-        Outcome::Accepted => map_room::map_sound(words, ledger, handle, asked),
-    }
+    map_verify::verify_map(handle, end.0, asked)?;
+    map_room::map_sound(words, ledger, handle, asked)
 }

@@ -7,7 +7,6 @@ ghost use Rattle.map_rules.specs.Fit.{Fit};
 ghost use Rattle.map_count_spec.specs.Closed.{closed};
 ghost use Rattle.map_count.specs.Laws.{over};
 
-use address::{PhysicalAddress, VirtualAddress};
 use entry::Sub;
 use map_rules::{Map, Rule};
 use pool::Handle;
@@ -17,17 +16,12 @@ fn count_last(words: &[u64], ledger: &[u32], handle: Handle, k: usize, map: Map)
     requires { (length words.now ≡ 512 * length ledger.now) × (k < length ledger.now) × Fit map }
     ensures { result ≡ closed 1 handle (st words.now ledger.now) k map }
 {
-    let end = map.region.end.0;
-    let mut at = map.region.start.0;
-    let mut frame = map.frame.0;
+    let mut frame = map.frame;
     let mut count = 0;
-    while at < end {
-        let stop = address_slot::chunk_end(2, at, end);
-        let i = address_slot::entry_index(2, at);
-        let start = VirtualAddress(at);
-        let chunk = map_rules::chunk_of(map, start, VirtualAddress(stop), PhysicalAddress(frame));
-        frame += stop - at;
-        at = stop;
+    for region in map.region.split(2) {
+        let i = address_slot::entry_index(2, region.start.0);
+        let chunk = map_rules::chunk_of(map, region, frame);
+        frame.0 += region.len();
         let word = words[512 * k + i];
         let kind = entry::subtable(handle.base, ledger.len(), 2, word);
         let Sub::Leaf = kind else {
@@ -53,34 +47,22 @@ fn count_new(words: &[u64], ledger: &[u32], handle: Handle, k: usize, level: usi
     if level == 2 {
         return count_last(words, ledger, handle, k, map);
     }
-    let end = map.region.end.0;
-    let mut at = map.region.start.0;
-    let mut frame = map.frame.0;
+    let mut frame = map.frame;
     let mut count = 0;
-    while at < end {
-        let stop = address_slot::chunk_end(level, at, end);
-        let i = address_slot::entry_index(level, at);
-        let start = VirtualAddress(at);
-        let first = PhysicalAddress(frame);
-        frame += stop - at;
-        at = stop;
+    for region in map.region.split(level) {
+        let i = address_slot::entry_index(level, region.start.0);
+        let first = frame;
+        frame.0 += region.len();
         let word = words[512 * k + i];
         let kind = entry::subtable(handle.base, ledger.len(), level, word);
         let Sub::Table(j) = kind else {
             let Sub::Leaf = kind else {
                 continue;
             };
-            count += map_count_leaf::count_entry(
-                level,
-                map,
-                start,
-                VirtualAddress(stop),
-                first,
-                word,
-            );
+            count += map_count_leaf::count_entry(level, map, region, first, word);
             continue;
         };
-        let chunk = map_rules::chunk_of(map, start, VirtualAddress(stop), first);
+        let chunk = map_rules::chunk_of(map, region, first);
         let rule = map_rules::rule_of(level, chunk, word);
         let Rule::Down = rule else {
             continue;

@@ -2,11 +2,9 @@
 #![tactic(auto)]
 
 ghost use Rattle.std.specs.Prelude.{◌≡◌, ◌-◌, ◌/◌, ◌≤◌, ◌<◌, ◌^◌, ◌+◌};
-ghost use Rattle.laws.specs.Size.{size_at};
 ghost use Rattle.region.specs.Chunks.{met};
 ghost use Rattle.map_count_spec.specs.Closed.{rest_at, rests, mets, closed_leaf};
 ghost use Rattle.map_count_spec.specs.Missed.{missedb};
-ghost use Rattle.region.specs.Region.{region};
 ghost use Rattle.map_rules.specs.Rules.{chunk_map};
 ghost use Rattle.map_rules.specs.Fit.{Fit};
 ghost use Rattle.map_count_spec.specs.Needed.{child_word};
@@ -14,18 +12,7 @@ ghost use Rattle.map_count_spec.specs.Count.{Chunk};
 
 use address::{PhysicalAddress, VirtualAddress};
 use map_rules::{Map, Rule};
-
-// The number of the entry at this level that holds the address.
-fn entry_number(level: usize, va: u64) -> u64
-    ensures { result ≡ va / size_at level }
-{
-    match level {
-        0 => va / 0x80_0000_0000,
-        1 => va / 0x4000_0000,
-        2 => va / 0x20_0000,
-        _ => va / 4096,
-    }
-}
+use region::MemoryRegion;
 
 // The entries of this level that the region meets.
 fn entries_met(level: usize, start: u64, end: u64) -> u64
@@ -34,7 +21,7 @@ fn entries_met(level: usize, start: u64, end: u64) -> u64
     if end <= start {
         return 0;
     }
-    entry_number(level, end - 1) - entry_number(level, start) + 1
+    address_slot::entry_number(level, end - 1) - address_slot::entry_number(level, start) + 1
 }
 
 // The entries of this level, and of those below down to level 2, that the region meets: no map of it needs more tables.
@@ -43,10 +30,8 @@ pub fn count_most(level: usize, start: u64, end: u64) -> u64
     ensures { result ≡ mets (3 - level) start end }
 {
     let mut count = 0;
-    let mut below = level;
-    while below < address::LEAF_LEVEL {
+    for below in level..address::LEAF_LEVEL {
         count += entries_met(below, start, end);
-        below += 1;
     }
     count
 }
@@ -79,10 +64,8 @@ pub fn count_rest(level: usize, map: Map) -> u64
     ensures { result ≡ rests (3 - level) map }
 {
     let mut count = 0;
-    let mut below = level;
-    while below < address::LEAF_LEVEL {
+    for below in level..address::LEAF_LEVEL {
         count += count_at(below, map);
-        below += 1;
     }
     count
 }
@@ -136,23 +119,12 @@ fn count_leaf(level: usize, map: Map, word: u64) -> u64
     if 2 <= level {
         return 1;
     }
-    let start = map.region.start.0;
-    let end = map.region.end.0;
-    let frame = map.frame.0;
-    let stop = address_slot::chunk_end(level + 1, start, end);
-    let first = map_rules::chunk_of(
-        map,
-        VirtualAddress(start),
-        VirtualAddress(stop),
-        PhysicalAddress(frame),
-    );
-    let rest = map_rules::chunk_of(
-        map,
-        VirtualAddress(stop),
-        VirtualAddress(end),
-        PhysicalAddress(frame + (stop - start)),
-    );
-    let part = part_of(level, word, start);
+    let MemoryRegion { start, end } = map.region;
+    let stop = VirtualAddress(address_slot::chunk_end(level + 1, start.0, end.0));
+    let first = map_rules::chunk_of(map, MemoryRegion { start, end: stop }, map.frame);
+    let after = PhysicalAddress(map.frame.0 + (stop.0 - start.0));
+    let rest = map_rules::chunk_of(map, MemoryRegion { start: stop, end }, after);
+    let part = part_of(level, word, start.0);
     1 + count_leaf(level + 1, first, part) + count_rest(level + 1, rest)
 }
 
@@ -161,16 +133,14 @@ fn count_leaf(level: usize, map: Map, word: u64) -> u64
 pub fn count_entry(
     level: usize,
     map: Map,
-    start: VirtualAddress,
-    end: VirtualAddress,
+    region: MemoryRegion,
     frame: PhysicalAddress,
     word: u64,
 ) -> u64
-    requires { Fit (chunk_map map (region start.0 end.0) frame.0)
-        × Chunk level (chunk_map map (region start.0 end.0) frame.0) × (level < 2) }
-    ensures { result ≡ closed_leaf (3 - level) (chunk_map map (region start.0 end.0) frame.0) word }
+    requires { Fit (chunk_map map region frame.0) × Chunk level (chunk_map map region frame.0) × (level < 2) }
+    ensures { result ≡ closed_leaf (3 - level) (chunk_map map region frame.0) word }
 {
-    let chunk = map_rules::chunk_of(map, start, end, frame);
+    let chunk = map_rules::chunk_of(map, region, frame);
     let rule = map_rules::rule_of(level, chunk, word);
     let Rule::Down = rule else {
         return 0;
@@ -178,6 +148,6 @@ pub fn count_entry(
     if is_missed(level, chunk, word) {
         return 1 + count_rest(level + 1, chunk);
     }
-    let looked = map_rules::chunk_of(map, start, end, frame);
+    let looked = map_rules::chunk_of(map, region, frame);
     count_leaf(level, looked, word)
 }

@@ -9,13 +9,12 @@ use Rattle.pool.specs.State.{St, tables, word_at, store_at}
 use Rattle.pool.specs.Number.{lowest_free}
 use Rattle.pool_table.specs.Table.{Taken, taken, take_table, take_found, free_sub, free_tree}
 use Rattle.pool.specs.declared.Handle.{Handle}
-use Rattle.pool.specs.declared.Found.{Found}
-use Rattle.pool.specs.declared.Found.TheVariants.{At, Nothing}
 use Rattle.map_rules.specs.declared.Rule.{Rule}
 use Rattle.map_rules.specs.declared.Rule.TheVariants.{Write, Keep, Drop, Down}
 use Rattle.map_rules.specs.Rules.{fill_of}
 use Rattle.map_split.specs.Split.{split_entry, below_of, below}
 use Rattle.map_put.specs.Put.{drop_entry, by_rule}
+use Rattle.std.specs.Prelude.{None, Option, Some}
 
 -- ---- a rule that goes no lower
 
@@ -57,7 +56,7 @@ sub_kept h k level i s (Table j) n = refl
 sub_kept h k level i s Outside n = refl
 sub_kept h k level i s Leaf n = absurd (n refl)
 
-pub below_kept : (h : Handle) (k level i : ℕ) (s : St) {f : Found} {t : St} → taken f t ≡ below h k level i s → level < 3
+pub below_kept : (h : Handle) (k level i : ℕ) (s : St) {f : Option ℕ} {t : St} → taken f t ≡ below h k level i s → level < 3
     → word_at s k i % 4 ≡ 3 → t ≡ s
 unfolding below
 below_kept h k level i s e l w =
@@ -66,20 +65,20 @@ below_kept h k level i s e l w =
     (sub_some h.base.0 (tables s) level (word_at s k i) l w)
 
 -- nothing taken
-take-nothing : (h : Handle) (p level i : ℕ) (l : List ℕ) (s : St) (f : Found) → (take_found h p level i l s f).table ≡ Nothing
+take-nothing : (h : Handle) (p level i : ℕ) (l : List ℕ) (s : St) (f : Option ℕ) → (take_found h p level i l s f).table ≡ None
     → (take_found h p level i l s f).state ≡ s
 unfolding take_found
-take-nothing h p level i l s (At j) e = let z : ◌≡◌ {A = ℕ} 0 1 = cc in absurd (omega arith)
-take-nothing h p level i l s Nothing e = refl
+take-nothing h p level i l s (Some j) e = let z : ◌≡◌ {A = ℕ} 0 1 = cc in absurd (omega arith)
+take-nothing h p level i l s None e = refl
 
-sub-nothing : (h : Handle) (k level i : ℕ) (s : St) (x : Sub) → (below_of h k level i s x).table ≡ Nothing
+sub-nothing : (h : Handle) (k level i : ℕ) (s : St) (x : Sub) → (below_of h k level i s x).table ≡ None
     → (below_of h k level i s x).state ≡ s
 unfolding below_of split_entry take_table
 sub-nothing h k level i s (Table j) e = refl
 sub-nothing h k level i s Outside e = refl
 sub-nothing h k level i s Leaf e = take-nothing h k (level + 1) i (fill_of level (word_at s k i)) s (lowest_free s.ledger) e
 
-pub below-nothing : (h : Handle) (k level i : ℕ) (s : St) {f : Found} {t : St} → taken f t ≡ below h k level i s → f ≡ Nothing → t ≡ s
+pub below-nothing : (h : Handle) (k level i : ℕ) (s : St) {f : Option ℕ} {t : St} → taken f t ≡ below h k level i s → f ≡ None → t ≡ s
 unfolding below
 below-nothing h k level i s e q =
     ap (λ (x : Taken). x.state) e

@@ -10,8 +10,6 @@ use Rattle.pool.specs.State.{St, word_at, store_at}
 use Rattle.pool.specs.Number.{in_found}
 use Rattle.pool_table.specs.Table.{Taken, taken}
 use Rattle.pool.specs.declared.Handle.{Handle}
-use Rattle.pool.specs.declared.Found.{Found}
-use Rattle.pool.specs.declared.Found.TheVariants.{At, Nothing}
 use Rattle.map_rules.specs.declared.Map.{Map}
 use Rattle.map_rules.specs.declared.Rule.{Rule}
 use Rattle.map_rules.specs.declared.Rule.TheVariants.{Write, Keep, Drop, Down}
@@ -19,6 +17,7 @@ use Rattle.map_rules.specs.Rules.{rule_of, chunk_map}
 use Rattle.map_split.specs.Split.{below, into}
 use Rattle.map_put.specs.Put.{drop_entry, by_rule, map_chunk, Framed, framed, framed_chunk, each_map_chunk, map_range}
 use Rattle.map_put.specs.Laws.{put_here}
+use Rattle.std.specs.Prelude.{None, Option, Some}
 
 -- ---- one level down
 
@@ -91,15 +90,15 @@ module _ (h : Handle) (k level : ℕ) (m : Map) (s : St) {i : ℕ} (index : i �
   pub chunk_here : (r ≡ Down → ⊥) → by_rule (λ j t. t) h k level i r s ≡ map_step h k level m s
   chunk_here n = put_here (λ j t. t) (λ j t. map_below h level j m t) h k level i s r n ∙ chosen r refl
 
-  module _ (e : r ≡ Down) {f : Found} {t : St} (found : taken f t ≡ below h k level i s) where
+  module _ (e : r ≡ Down) {f : Option ℕ} {t : St} (found : taken f t ≡ below h k level i s) where
     gone-down : in_found (λ j u. map_below h level j m u) f t ≡ map_step h k level m s
     unfolding by_rule into
     gone-down = ap (λ (x : Taken). in_found (λ j u. map_below h level j m u) x.table x.state) found ∙ chosen Down e
 
-    pub chunk_none : f ≡ Nothing → t ≡ map_step h k level m s
+    pub chunk_none : f ≡ None → t ≡ map_step h k level m s
     unfolding in_found
-    chunk_none q = ap (λ (x : Found). in_found (λ j u. map_below h level j m u) x t) (sym q) ∙ gone-down
+    chunk_none q = ap (λ (x : Option ℕ). in_found (λ j u. map_below h level j m u) x t) (sym q) ∙ gone-down
 
-    pub chunk-into : (j : ℕ) → f ≡ At j → level < 3 → map_range (3 - (level + 1)) h j m t ≡ map_step h k level m s
+    pub chunk-into : (j : ℕ) → f ≡ Some j → level < 3 → map_range (3 - (level + 1)) h j m t ≡ map_step h k level m s
     unfolding in_found
-    chunk-into j q l = rec-down h j level m t l ∙ ap (λ (x : Found). in_found (λ j u. map_below h level j m u) x t) (sym q) ∙ gone-down
+    chunk-into j q l = rec-down h j level m t l ∙ ap (λ (x : Option ℕ). in_found (λ j u. map_below h level j m u) x t) (sym q) ∙ gone-down

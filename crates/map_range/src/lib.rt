@@ -7,9 +7,8 @@ ghost use Rattle.pool.specs.Refuse.{Shaped};
 ghost use Rattle.map_put.specs.Put.{map_range};
 ghost use Rattle.map_rules.specs.Fit.{Fit};
 
-use address::{PhysicalAddress, VirtualAddress};
 use map_rules::{Map, Rule};
-use pool::{Found, Handle};
+use pool::Handle;
 
 // Every chunk of the map in table k, ascending. Whether a table was taken or freed.
 pub fn map_range(
@@ -25,17 +24,12 @@ pub fn map_range(
         ≡ map_range (3 - level) handle k map (st words.old ledger.old))
         × (result ≡ false → ledger.new ≡ ledger.old) }
 {
-    let end = map.region.end.0;
-    let mut at = map.region.start.0;
-    let mut frame = map.frame.0;
+    let mut frame = map.frame;
     let mut changed = false;
-    while at < end {
-        let stop = address_slot::chunk_end(level, at, end);
-        let i = address_slot::entry_index(level, at);
-        let start = VirtualAddress(at);
-        let chunk = map_rules::chunk_of(map, start, VirtualAddress(stop), PhysicalAddress(frame));
-        frame += stop - at;
-        at = stop;
+    for region in map.region.split(level) {
+        let i = address_slot::entry_index(level, region.start.0);
+        let chunk = map_rules::chunk_of(map, region, frame);
+        frame.0 += region.len();
         let word = words[512 * k + i];
         let rule = map_rules::rule_of(level, chunk, word);
         let Rule::Down = rule else {
@@ -43,7 +37,7 @@ pub fn map_range(
             continue;
         };
         let under = map_split::descend(words, ledger, handle, k, level, i);
-        let Found::At(j) = under else {
+        let Some(j) = under else {
             continue;
         };
         let below = map_range(words, ledger, handle, j, level + 1, chunk);

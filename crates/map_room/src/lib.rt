@@ -1,21 +1,20 @@
 // A map whose numbers were verified: refusals 8 and 9, then the map.
 #![tactic(auto)]
 
-ghost use Rattle.std.specs.Prelude.{◌≡◌};
+ghost use Rattle.std.specs.Prelude.{◌≡◌, Ok};
 ghost use Rattle.pool.specs.State.{st};
 ghost use Rattle.pool.specs.Number.{used};
 ghost use Rattle.pool.specs.Refuse.{Shaped, out};
-ghost use Rattle.pool.specs.declared.Counted.TheVariants.{Tables};
 ghost use Rattle.map_rules.specs.Fit.{Fit};
 ghost use Rattle.map_spec.specs.Call.{put_down, map_sound};
 
 use map_rules::Map;
-use pool::{Counted, Found, Handle, Refusal};
+use pool::{Handle, Refusal};
 
 // The map, from the lowest table over its region, and the tables in use afterwards: counted again only where one was taken or freed.
 fn put_down(words: &mut [u64], ledger: &mut [u32], handle: Handle, map: Map, before: usize) -> usize
     requires { Shaped handle (st words.old ledger.old) × Fit map × (before ≡ used ledger.old) }
-    ensures { out (Tables result) (st words.new ledger.new)
+    ensures { out (Ok result) (st words.new ledger.new)
         ≡ put_down handle map (st words.old ledger.old) }
 {
     let place = map_start::lowest_table(words, ledger, handle, map);
@@ -27,19 +26,19 @@ fn put_down(words: &mut [u64], ledger: &mut [u32], handle: Handle, map: Map, bef
 
 // Refusals 8 and 9, then the map.
 #[tactic(auto, using(crate::proofs::Room::full))]
-pub fn map_sound(words: &mut [u64], ledger: &mut [u32], handle: Handle, map: Map) -> Counted
+pub fn map_sound(words: &mut [u64], ledger: &mut [u32], handle: Handle, map: Map) -> Result<usize, Refusal>
     requires { Shaped handle (st words.old ledger.old) × Fit map }
     ensures { out result (st words.new ledger.new)
         ≡ map_sound handle map (st words.old ledger.old) }
 {
     let found = checker::count_sound(words, ledger, handle);
-    let Found::At(used) = found else {
-        return Counted::Refused(Refusal::Unsound);
+    let Some(used) = found else {
+        return Err(Refusal::Unsound);
     };
     let free = (ledger.len() - used) as u64;
     let needed = map_count::count_over(words, ledger, handle, map, free);
     if free < needed {
-        return Counted::Refused(Refusal::WantOfRoom(needed, free));
+        return Err(Refusal::WantOfRoom(needed, free));
     }
-    Counted::Tables(put_down(words, ledger, handle, map, used))
+    Ok(put_down(words, ledger, handle, map, used))
 }

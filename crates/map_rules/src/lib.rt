@@ -3,12 +3,11 @@
 #![tactic(auto)]
 
 ghost use Rattle.std.specs.Prelude.{◌≡◌, ◌%◌, ◌^◌, ◌<◌};
-ghost use Rattle.region.specs.Region.{region};
 ghost use Rattle.entry.specs.Word.{leaf_word, Plain};
 ghost use Rattle.map_rules.specs.Rules.{chunk_map, rule2, blockable, rule_of};
 ghost use Rattle.map_rules.specs.Fit.{Fit};
 
-use address::{PhysicalAddress, VirtualAddress};
+use address::PhysicalAddress;
 use region::MemoryRegion;
 
 // What to put down: the region, the frame of its first page, the flags, and whether blocks are allowed.
@@ -30,19 +29,13 @@ pub enum Rule {
 }
 
 // The map of one chunk, with its frame.
-pub fn chunk_of(
-    map: Map,
-    start: VirtualAddress,
-    stop: VirtualAddress,
-    frame: PhysicalAddress,
-) -> Map
-    ensures { result ≡ chunk_map map (region start.0 stop.0) frame.0 }
+pub fn chunk_of(map: Map, region: MemoryRegion, frame: PhysicalAddress) -> Map
+    ensures { result ≡ chunk_map map region frame.0 }
 {
     Map {
-        region: MemoryRegion { start, end: stop },
+        region,
         frame,
-        flags: map.flags,
-        blocks: map.blocks,
+        ..map
     }
 }
 

@@ -11,22 +11,21 @@ use Rattle.pool.specs.Sound.{soundb}
 use Rattle.pool.specs.declared.Handle.{Handle}
 use Rattle.pool.specs.declared.Refusal.{Refusal}
 use Rattle.pool.specs.declared.Refusal.TheVariants.{Shape, Unsound, WantOfRoom}
-use Rattle.pool.specs.declared.Outcome.{Outcome}
-use Rattle.pool.specs.declared.Outcome.TheVariants.{Accepted, Refused}
-use Rattle.pool.specs.declared.Counted.{Counted}
-use Rattle.pool.specs.declared.Counted.TheVariants as counted
 use Rattle.map_rules.specs.declared.Map.{Map}
 use Rattle.map_put.specs.Put.{map_range}
 use Rattle.map_count_spec.specs.Needed.{needed}
 use Rattle.map_verify.specs.Verify.{asked_map, verify_map}
+use Rattle.std.specs.Prelude.{Err, Ok}
+use Rattle.pool.specs.Refuse.{Counted}
+use Rattle.pool.specs.Refuse.{Outcome}
 
 -- a refusal leaves the state as it was
 abbrev pub refused : Refusal → St → Out Counted
-refused r s = out (counted.Refused r) s
+refused r s = out (Err r) s
 
 -- the map is put down in the root; "tables in use afterwards, counted off the ledger"
 unfoldable pub put_down : Handle → Map → St → Out Counted
-put_down h m s = let t = map_range (3 - h.level) h 0 m s in out (counted.Tables (used t.ledger)) t
+put_down h m s = let t = map_range (3 - h.level) h 0 m s in out (Ok (used t.ledger)) t
 
 -- refusals 8, 9
 unfoldable pub map_sound : Handle → Map → St → Out Counted
@@ -59,9 +58,9 @@ module _ (h : Handle) (m : Map) (s : St) where
     sound_mapped l = rw (sound, sym counts, sym spare, le-ltb room need l)
 
   pub put_down_lem : {t : St} {count : ℕ} → t ≡ map_range (3 - h.level) h 0 m s → count ≡ used t.ledger
-      → out (counted.Tables count) t ≡ put_down h m s
+      → out (Ok count) t ≡ put_down h m s
   unfolding put_down
-  put_down_lem {t} e q = rw q (ap (λ (x : St). out (counted.Tables (used x.ledger)) x) e)
+  put_down_lem {t} e q = rw q (ap (λ (x : St). out (Ok (used x.ledger)) x) e)
 
 module _ (h : Handle) (start end frame flags constraints : ℕ) (s : St) where
   abbrev m : Map
@@ -76,8 +75,8 @@ module _ (h : Handle) (start end frame flags constraints : ℕ) (s : St) where
     unfolding map_call
     by_asked = rw (shape, is)
 
-    pub call-refused : (r : Refusal) → x ≡ Refused r → refused r s ≡ map_call h start end frame flags constraints s
+    pub call-refused : (r : Refusal) → x ≡ Err r → refused r s ≡ map_call h start end frame flags constraints s
     call-refused r e = refused-first (λ r. refused r s) x _ r e ∙ by_asked
 
-    pub call-asked : x ≡ Accepted → map_sound h m s ≡ map_call h start end frame flags constraints s
+    pub call-asked : x ≡ Ok tt → map_sound h m s ≡ map_call h start end frame flags constraints s
     call-asked e = accepted_next (λ r. refused r s) x _ e ∙ by_asked

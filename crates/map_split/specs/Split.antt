@@ -9,9 +9,8 @@ use Rattle.pool.specs.State.{St, tables, word_at}
 use Rattle.pool.specs.Number.{lowest_free, lowest_found, in_found}
 use Rattle.pool_table.specs.Table.{Taken, taken, take_table, take_found}
 use Rattle.pool.specs.declared.Handle.{Handle}
-use Rattle.pool.specs.declared.Found.{Found}
-use Rattle.pool.specs.declared.Found.TheVariants.{At, Nothing}
 use Rattle.map_rules.specs.Rules.{fill_of}
+use Rattle.std.specs.Prelude.{None, Option, Some}
 
 -- a split takes a new table for slot i of table k and links it
 unfoldable pub split_entry : Handle → ℕ → ℕ → ℕ → St → Taken
@@ -19,8 +18,8 @@ split_entry h k level i s = take_table h k (level + 1) i (fill_of level (word_at
 
 -- the table below slot i of table k: the one that is there, or a new one ("splitting first if there is no table")
 unfoldable pub below_of : Handle → ℕ → ℕ → ℕ → St → Sub → Taken
-below_of h k level i s (Table j) = taken (At j) s
-below_of h k level i s Outside = taken Nothing s
+below_of h k level i s (Table j) = taken (Some j) s
+below_of h k level i s Outside = taken None s
 below_of h k level i s Leaf = split_entry h k level i s
 
 unfoldable pub below : Handle → ℕ → ℕ → ℕ → St → Taken
@@ -44,11 +43,11 @@ module _ (h : Handle) (k level i : ℕ) (s : St) {x : Sub} (is : x ≡ sub_of h.
   unfolding below
   chosen y e = ap (below_of h k level i s) (sym e ∙ is)
 
-  pub below-table : (j : ℕ) → x ≡ Table j → taken (At j) s ≡ below h k level i s
+  pub below-table : (j : ℕ) → x ≡ Table j → taken (Some j) s ≡ below h k level i s
   unfolding below_of
   below-table j e = chosen (Table j) e
 
-  pub below_outside : x ≡ Outside → taken Nothing s ≡ below h k level i s
+  pub below_outside : x ≡ Outside → taken None s ≡ below h k level i s
   unfolding below_of
   below_outside e = chosen Outside e
 
@@ -57,20 +56,20 @@ module _ (h : Handle) (k level i : ℕ) (s : St) {x : Sub} (is : x ≡ sub_of h.
   below_split e = chosen Leaf e
 
 -- the table that is found is one of the pool's
-take_table_lem : (h : Handle) (p level i : ℕ) (t : List ℕ) (s : St) (f : Found) → (take_found h p level i t s f).table ≡ f
+take_table_lem : (h : Handle) (p level i : ℕ) (t : List ℕ) (s : St) (f : Option ℕ) → (take_found h p level i t s f).table ≡ f
 unfolding take_found
-take_table_lem h p level i t s (At j) = refl
-take_table_lem h p level i t s Nothing = refl
+take_table_lem h p level i t s (Some j) = refl
+take_table_lem h p level i t s None = refl
 
 inside : (h : Handle) (k level i : ℕ) (s : St) (j : ℕ) (x : Sub) → sub_of h.base.0 (tables s) level (word_at s k i) ≡ x
-    → (below_of h k level i s x).table ≡ At j → j < tables s
+    → (below_of h k level i s x).table ≡ Some j → j < tables s
 unfolding below_of split_entry take_table
 inside h k level i s j (Table y) q e = let same : y ≡ j = cc in sub-below h.base.0 (tables s) level (word_at s k i) j (q ∙ ap Table same)
 inside h k level i s j Outside q e = let z : ◌≡◌ {A = ℕ} 0 1 = cc in absurd (omega arith)
 inside h k level i s j Leaf q e =
     (lowest_found s.ledger j (sym (take_table_lem h k (level + 1) i (fill_of level (word_at s k i)) s (lowest_free s.ledger)) ∙ e)).inside
 
-pub below_inside : (h : Handle) (k level i : ℕ) (s : St) (j : ℕ) {f : Found} {t : St} → taken f t ≡ below h k level i s → f ≡ At j
+pub below_inside : (h : Handle) (k level i : ℕ) (s : St) (j : ℕ) {f : Option ℕ} {t : St} → taken f t ≡ below h k level i s → f ≡ Some j
     → j < tables s
 unfolding below
 below_inside h k level i s j found e =

@@ -9,7 +9,7 @@ ghost use Rattle.map_split.specs.Split.{split_entry, below};
 
 use address::PhysicalAddress;
 use entry::Sub;
-use pool::{Found, Handle};
+use pool::Handle;
 
 // A new table for an entry that is no table, filled with the old entry.
 #[tactic(auto, using(crate::proofs::Fill::split_hole))]
@@ -20,7 +20,7 @@ pub fn split_entry(
     k: usize,
     level: usize,
     i: usize,
-) -> Found
+) -> Option<usize>
     requires { Shaped handle (st words.old ledger.old) × (level < 3) × (k < length ledger.old) × (i < 512)
         × (get_or words.old (512 * k + i) 0 % 4 ≡ 3 → ⊥) }
     ensures { taken result (st words.new ledger.new)
@@ -45,7 +45,7 @@ pub fn descend(
     k: usize,
     level: usize,
     i: usize,
-) -> Found
+) -> Option<usize>
     requires { Shaped handle (st words.old ledger.old) × (level < 3) × (k < length ledger.old) × (i < 512) }
     ensures { taken result (st words.new ledger.new)
         ≡ below handle k level i (st words.old ledger.old) }
@@ -54,9 +54,9 @@ pub fn descend(
     let kind = entry::subtable(handle.base, ledger.len(), level, word);
     let Sub::Table(j) = kind else {
         let Sub::Leaf = kind else {
-            return Found::Nothing;
+            return None;
         };
         return split_entry(words, ledger, handle, k, level, i);
     };
-    Found::At(j)
+    Some(j)
 }

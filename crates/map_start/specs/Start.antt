@@ -8,8 +8,6 @@ use Rattle.address_slot.specs.Slot.{entry_index, chunk_end}
 use Rattle.region.specs.Region.{region}
 use Rattle.pool.specs.State.{St, tables, word_at}
 use Rattle.pool.specs.declared.Handle.{Handle}
-use Rattle.pool.specs.declared.Found.{Found}
-use Rattle.pool.specs.declared.Found.TheVariants.{At, Nothing}
 use Rattle.map_rules.specs.declared.Map.{Map}
 use Rattle.map_rules.specs.declared.Rule.{Rule}
 use Rattle.map_rules.specs.declared.Rule.TheVariants.{Down}
@@ -17,14 +15,15 @@ use Rattle.map_rules.specs.Rules.{rule_of, chunk_map}
 use Rattle.map_split.specs.Split.{below-table}
 use Rattle.map_put.specs.Put.{each_map_chunk, map_range}
 use Rattle.map_put.specs.Range.{map_step, map_open, map_each_done, map-each-step, chunk-into}
+use Rattle.std.specs.Prelude.{None, Option, Some}
 
 -- a table of this level from which the map does what it does from the root
 abbrev pub Serves : Handle → Map → St → ℕ → ℕ → Type 0
 Serves h m s k level = (map_range (3 - level) h k m s ≡ map_range (3 - h.level) h 0 m s) × (k < tables s) × (level ≤ 3)
 
 -- a table below table k in which the map does what it does in table k
-abbrev pub LeadsTo : Handle → ℕ → ℕ → Map → St → Found → Type 0
-LeadsTo h k level m s f = (j : ℕ) → f ≡ At j → (map_range (3 - (level + 1)) h j m s ≡ map_range (3 - level) h k m s) × (j < tables s)
+abbrev pub LeadsTo : Handle → ℕ → ℕ → Map → St → Option ℕ → Type 0
+LeadsTo h k level m s f = (j : ℕ) → f ≡ Some j → (map_range (3 - (level + 1)) h j m s ≡ map_range (3 - level) h k m s) × (j < tables s)
 
 -- a region in one entry is one chunk
 one_chunk : (level : ℕ) (f : Map → St → St) (m : Map) (s : St) → m.region.start.0 < m.region.end.0
@@ -49,9 +48,9 @@ module _ (h : Handle) (k level : ℕ) (m : Map) (s : St) where
       ∙ sym (one_chunk level (map_step h k level) m s some one)
       ∙ map_open h k level m s (omega arith)
 
-  pub none_leads : LeadsTo h k level m s Nothing
+  pub none_leads : LeadsTo h k level m s None
   none_leads j e = let z : ◌≡◌ {A = ℕ} 0 1 = cc in absurd (omega arith)
 
   pub some_leads : {j : ℕ} → map_range (3 - (level + 1)) h j m s ≡ map_range (3 - level) h k m s → j < tables s
-      → LeadsTo h k level m s (At j)
+      → LeadsTo h k level m s (Some j)
   some_leads {j} same below i e = let q : j ≡ i = cc in (ap (λ (x : ℕ). map_range (3 - (level + 1)) h x m s) (sym q) ∙ same, omega arith)

@@ -9,7 +9,7 @@ ghost use Rattle.map_start.specs.Start.{LeadsTo, Serves};
 
 use entry::Sub;
 use map_rules::{Map, Rule};
-use pool::{Found, Handle};
+use pool::Handle;
 
 // A table, and its level.
 #[derive(Clone, Copy)]
@@ -26,30 +26,30 @@ fn next_table(
     k: usize,
     level: usize,
     map: Map,
-) -> Found
+) -> Option<usize>
     requires { Shaped handle (st words.now ledger.now) × (k < length ledger.now) × (level < 3) × Fit map }
     ensures { LeadsTo handle k level map (st words.now ledger.now) result }
 {
     let start = map.region.start.0;
     let end = map.region.end.0;
     if end <= start {
-        return Found::Nothing;
+        return None;
     }
     let stop = address_slot::chunk_end(level, start, end);
     if stop != end {
-        return Found::Nothing;
+        return None;
     }
     let i = address_slot::entry_index(level, start);
     let word = words[512 * k + i];
     let kind = entry::subtable(handle.base, ledger.len(), level, word);
     let Sub::Table(j) = kind else {
-        return Found::Nothing;
+        return None;
     };
     let rule = map_rules::rule_of(level, map, word);
     let Rule::Down = rule else {
-        return Found::Nothing;
+        return None;
     };
-    Found::At(j)
+    Some(j)
 }
 
 // A table from which the map does what it does from the root, as low as links and rule 5 lead.
@@ -57,15 +57,16 @@ pub fn lowest_table(words: &[u64], ledger: &[u32], handle: Handle, map: Map) -> 
     requires { Shaped handle (st words.now ledger.now) × Fit map }
     ensures { Serves handle map (st words.now ledger.now) result.table result.level }
 {
-    let mut k = 0;
-    let mut level = handle.level;
-    while level < address::LEAF_LEVEL {
-        let next = next_table(words, ledger, handle, k, level, map);
-        let Found::At(j) = next else {
-            return Place { table: k, level };
+    let mut table = 0;
+    for level in handle.level..address::LEAF_LEVEL {
+        let next = next_table(words, ledger, handle, table, level, map);
+        let Some(below) = next else {
+            return Place { table, level };
         };
-        k = j;
-        level += 1;
+        table = below;
     }
-    Place { table: k, level }
+    Place {
+        table,
+        level: address::LEAF_LEVEL,
+    }
 }

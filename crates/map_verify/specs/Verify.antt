@@ -16,11 +16,11 @@ use Rattle.pool.specs.Sound.{flag_set}
 use Rattle.pool.specs.declared.Handle.{Handle}
 use Rattle.pool.specs.declared.Refusal.{Refusal}
 use Rattle.pool.specs.declared.Refusal.TheVariants.{End, InvalidFlags, FlagSet, Frame}
-use Rattle.pool.specs.declared.Outcome.{Outcome}
-use Rattle.pool.specs.declared.Outcome.TheVariants.{Accepted, Refused}
 use Rattle.region_verify.specs.Verify.{end_fits, verify, refused_never, verified_forwards}
 use Rattle.map_rules.specs.declared.Map.{Map}
 use Rattle.map_rules.specs.Fit.{Fit}
+use Rattle.std.specs.Prelude.{Err, Ok}
+use Rattle.pool.specs.Refuse.{Outcome}
 
 -- the map that a call asks for: "start is rounded down and end up to 4096"; "blocks allowed" is NO_BLOCK_MAPPINGS unset, the constraints'
 -- bit 0
@@ -41,17 +41,17 @@ abbrev pub frames_fit : ℕ → ℕ → Bool
 frames_fit frame length = eqb (frame % 4096) 0 && leb (frame + length) (2 ^ 48)
 
 unfoldable pub frame_asked : ℕ → ℕ → Outcome
-frame_asked frame length = cond (frames_fit frame length) Accepted (Refused (Frame (record { 0 = frame })))
+frame_asked frame length = cond (frames_fit frame length) (Ok tt) (Err (Frame (record { 0 = frame })))
 
 -- 2: the end; 3: bit 1 of the flags; 4: flags from the set; 5, 6: the region; 7: the frame
 unfoldable pub verify_map : Handle → ℕ → Map → Outcome
 verify_map h end m =
     cond (end_fits end)
-    (cond (eqb (m.flags / 2 % 2) 1) (Refused (InvalidFlags m.flags))
+    (cond (eqb (m.flags / 2 % 2) 1) (Err (InvalidFlags m.flags))
     (cond (only (flag_set h) m.flags)
-    (first_refused Refused (verify h m.region) (frame_asked m.frame.0 (m.region.end.0 - m.region.start.0)))
-    (Refused (FlagSet m.flags))))
-    (Refused (End end))
+    (first_refused Err (verify h m.region) (frame_asked m.frame.0 (m.region.end.0 - m.region.start.0)))
+    (Err (FlagSet m.flags))))
+    (Err (End end))
 
 -- ---- laws: one for each way through the code
 
@@ -72,53 +72,53 @@ module _ (frame length : ℕ) where
       (λ h. lt-leb frame (2 ^ 48 - length) (omega arith) ∙ sym (lt-leb (frame + length) (2 ^ 48) h))
       (le_or (frame + length) (2 ^ 48)))
 
-  pub frame_not : frames_fit frame length ≡ false → Refused (Frame (record { 0 = frame })) ≡ frame_asked frame length
+  pub frame_not : frames_fit frame length ≡ false → Err (Frame (record { 0 = frame })) ≡ frame_asked frame length
   unfolding frame_asked
   frame_not e = rw e
 
-  pub frame_may : frames_fit frame length ≡ true → Accepted ≡ frame_asked frame length
+  pub frame_may : frames_fit frame length ≡ true → (Ok tt) ≡ frame_asked frame length
   unfolding frame_asked
   frame_may e = rw e
 
-  pub frame_part : (frame % 4096 ≡ 0 → ⊥) → Refused (Frame (record { 0 = frame })) ≡ frame_asked frame length
+  pub frame_part : (frame % 4096 ≡ 0 → ⊥) → Err (Frame (record { 0 = frame })) ≡ frame_asked frame length
   unfolding frame_asked
   frame_part n = rw (ne_eqb (frame % 4096) 0 n)
 
-  pub frame_past : frame % 4096 ≡ 0 → 2 ^ 48 < frame + length → Refused (Frame (record { 0 = frame })) ≡ frame_asked frame length
+  pub frame_past : frame % 4096 ≡ 0 → 2 ^ 48 < frame + length → Err (Frame (record { 0 = frame })) ≡ frame_asked frame length
   unfolding frame_asked
   frame_past e l = rw (eq-eqb (frame % 4096) 0 e, lt-leb (frame + length) (2 ^ 48) l)
 
-  pub frame_fits : frame % 4096 ≡ 0 → frame + length ≤ 2 ^ 48 → Accepted ≡ frame_asked frame length
+  pub frame_fits : frame % 4096 ≡ 0 → frame + length ≤ 2 ^ 48 → (Ok tt) ≡ frame_asked frame length
   unfolding frame_asked
   frame_fits e l = rw (eq-eqb (frame % 4096) 0 e, le-leb (frame + length) (2 ^ 48) l)
 
 module _ (h : Handle) (end : ℕ) (m : Map) where
-  pub ask_end : end_fits end ≡ false → Refused (End end) ≡ verify_map h end m
+  pub ask_end : end_fits end ≡ false → Err (End end) ≡ verify_map h end m
   unfolding verify_map
   ask_end e = rw e
 
   module _ (ends : end_fits end ≡ true) where
-    pub ask_invalid : m.flags / 2 % 2 ≡ 1 → Refused (InvalidFlags m.flags) ≡ verify_map h end m
+    pub ask_invalid : m.flags / 2 % 2 ≡ 1 → Err (InvalidFlags m.flags) ≡ verify_map h end m
     unfolding verify_map
     ask_invalid e = rw (ends, eq-eqb (m.flags / 2 % 2) 1 e)
 
     module _ (plain : m.flags / 2 % 2 ≡ 1 → ⊥) where
-      pub ask_set : only (flag_set h) m.flags ≡ false → Refused (FlagSet m.flags) ≡ verify_map h end m
+      pub ask_set : only (flag_set h) m.flags ≡ false → Err (FlagSet m.flags) ≡ verify_map h end m
       unfolding verify_map
       ask_set e = rw (ends, ne_eqb (m.flags / 2 % 2) 1 plain, e)
 
       module _ (from : only (flag_set h) m.flags ≡ true) where
-        by_region : first_refused Refused (verify h m.region) (frame_asked m.frame.0 (m.region.end.0 - m.region.start.0))
+        by_region : first_refused Err (verify h m.region) (frame_asked m.frame.0 (m.region.end.0 - m.region.start.0))
             ≡ verify_map h end m
         unfolding verify_map
         by_region = rw (ends, ne_eqb (m.flags / 2 % 2) 1 plain, from)
 
-        pub ask_region : {x : Outcome} → x ≡ verify h m.region → (r : Refusal) → x ≡ Refused r → x ≡ verify_map h end m
-        ask_region e r q = q ∙ refused-first Refused _ _ r (sym e ∙ q) ∙ by_region
+        pub ask_region : {x : Outcome} → x ≡ verify h m.region → (r : Refusal) → x ≡ Err r → x ≡ verify_map h end m
+        ask_region e r q = q ∙ refused-first Err _ _ r (sym e ∙ q) ∙ by_region
 
-        pub ask_frame : {x : Outcome} → x ≡ verify h m.region → x ≡ Accepted
+        pub ask_frame : {x : Outcome} → x ≡ verify h m.region → x ≡ Ok tt
             → frame_asked m.frame.0 (m.region.end.0 - m.region.start.0) ≡ verify_map h end m
-        ask_frame e q = accepted_next Refused _ _ (sym e ∙ q) ∙ by_region
+        ask_frame e q = accepted_next Err _ _ (sym e ∙ q) ∙ by_region
 
 -- ---- what they leave
 
@@ -135,18 +135,18 @@ pub record Passes (h : Handle) (end : ℕ) (m : Map) : Type 0 where
   pub ends : end_fits end ≡ true
   pub plain : m.flags / 2 % 2 ≡ 0
   pub from : only (flag_set h) m.flags ≡ true
-  pub region : verify h m.region ≡ Accepted
-  pub frame : frame_asked m.frame.0 (m.region.end.0 - m.region.start.0) ≡ Accepted
+  pub region : verify h m.region ≡ Ok tt
+  pub frame : frame_asked m.frame.0 (m.region.end.0 - m.region.start.0) ≡ Ok tt
 
 -- an accepted map passes each of them
-pub passes : (h : Handle) (end : ℕ) (m : Map) → verify_map h end m ≡ Accepted → Passes h end m
+pub passes : (h : Handle) (end : ℕ) (m : Map) → verify_map h end m ≡ Ok tt → Passes h end m
 passes h end m ok = by_bool (end_fits end) ended (λ e. absurd (refused_never (ask_end h end m e ∙ ok)))
   where
     framed : (ends : end_fits end ≡ true) (plain : m.flags / 2 % 2 ≡ 1 → ⊥) (from : only (flag_set h) m.flags ≡ true) (x : Outcome)
         → verify h m.region ≡ x → Passes h end m
-    framed ends plain from Accepted e =
+    framed ends plain from (Ok tt) e =
         record { ends = ends; plain = omega arith; from = from; region = e; frame = ask_frame h end m ends plain from (sym e) refl ∙ ok }
-    framed ends plain from (Refused r) e = absurd (refused_never (ask_region h end m ends plain from (sym e) r refl ∙ ok))
+    framed ends plain from (Err r) e = absurd (refused_never (ask_region h end m ends plain from (sym e) r refl ∙ ok))
 
     ended : end_fits end ≡ true → Passes h end m
     ended ends = ⊎_elim
@@ -155,7 +155,7 @@ passes h end m ok = by_bool (end_fits end) ended (λ e. absurd (refused_never (a
         (λ e. absurd (refused_never (ask_set h end m ends plain e ∙ ok))))
         (eq_or (m.flags / 2 % 2) 1)
 
-frame_says : (frame length : ℕ) → frame_asked frame length ≡ Accepted → (frame % 4096 ≡ 0) × (frame + length ≤ 2 ^ 48)
+frame_says : (frame length : ℕ) → frame_asked frame length ≡ Ok tt → (frame % 4096 ≡ 0) × (frame + length ≤ 2 ^ 48)
 frame_says frame length ok = ⊎_elim
     (λ e. ⊎_elim (λ l. (e, l)) (λ l. absurd (refused_never (frame_past frame length e l ∙ ok))) (le_or (frame + length) (2 ^ 48)))
     (λ n. absurd (refused_never (frame_part frame length n ∙ ok)))
@@ -168,7 +168,7 @@ up_pages a = by_bool (ltb (up a 4096) (2 ^ 64)) (λ e. rw e (down_paged 3 (a + 4
 
 -- what is put down is whole pages, with frames below 2^48 and flags that share no bit with them
 pub asked_fit : (h : Handle) (start end frame flags constraints : ℕ) → flags < 2 ^ 64
-    → let m = asked_map start end frame flags constraints in verify_map h end m ≡ Accepted → Fit m
+    → let m = asked_map start end frame flags constraints in verify_map h end m ≡ Ok tt → Fit m
 unfolding asked_map rounded size_at
 asked_fit h start end frame flags constraints low ok =
     let m = asked_map start end frame flags constraints in

@@ -6,7 +6,7 @@ ghost use Rattle.map_verify.specs.Verify.{frames_fit, frame_asked, verify_map};
 
 use address::PhysicalAddress;
 use map_rules::Map;
-use pool::{Handle, Outcome, Refusal};
+use pool::{Handle, Refusal};
 
 // Whether frames of this length can begin there: the bound on the length comes before the difference is formed.
 fn has_frames(frame: PhysicalAddress, length: u64) -> bool
@@ -22,32 +22,29 @@ fn has_frames(frame: PhysicalAddress, length: u64) -> bool
 }
 
 // Refusal 7.
-fn verify_frame(frame: PhysicalAddress, length: u64) -> Outcome
+fn verify_frame(frame: PhysicalAddress, length: u64) -> Result<(), Refusal>
     ensures { result ≡ frame_asked frame.0 length }
 {
     if !has_frames(frame, length) {
-        return Outcome::Refused(Refusal::Frame(frame));
+        return Err(Refusal::Frame(frame));
     }
-    Outcome::Accepted
+    Ok(())
 }
 
 // Whether the map can be asked for at all; `end` is the caller's, before it is rounded.
-pub fn verify_map(handle: Handle, end: u64, map: Map) -> Outcome
+pub fn verify_map(handle: Handle, end: u64, map: Map) -> Result<(), Refusal>
     ensures { result ≡ verify_map handle end map }
 {
     if !region_verify::end_fits(end) {
-        return Outcome::Refused(Refusal::End(end));
+        return Err(Refusal::End(end));
     }
     if map.flags / 2 % 2 == 1 {
-        return Outcome::Refused(Refusal::InvalidFlags(map.flags));
+        return Err(Refusal::InvalidFlags(map.flags));
     }
     if !entry::are_from(map.flags, pool_handle::flag_set(handle)) {
-        return Outcome::Refused(Refusal::FlagSet(map.flags));
+        return Err(Refusal::FlagSet(map.flags));
     }
     let region = map.region;
-    let outcome = region_verify::verify_region(handle, region);
-    let Outcome::Accepted = outcome else {
-        return outcome;
-    };
+    region_verify::verify_region(handle, region)?;
     verify_frame(map.frame, region.len())
 }

@@ -10,8 +10,6 @@ use Rattle.pool.specs.Sound.{soundb}
 use Rattle.pool.specs.declared.Handle.{Handle}
 use Rattle.pool.specs.declared.Refusal.{Refusal}
 use Rattle.pool.specs.declared.Refusal.TheVariants.{Shape, Unsound}
-use Rattle.pool.specs.declared.Outcome.{Outcome}
-use Rattle.pool.specs.declared.Outcome.TheVariants.{Accepted, Refused}
 use Rattle.modify_entry.specs.declared.Edit.{Edit}
 use Rattle.modify_range.specs.Range.{Work, work, modify_range}
 use Rattle.modify_survey.specs.declared.Survey.{Survey}
@@ -19,6 +17,8 @@ use Rattle.modify_survey.specs.Survey.{survey_range}
 use Rattle.modify.specs.declared.Modified.{Modified}
 use Rattle.modify.specs.declared.Modified.TheVariants as modified
 use Rattle.modify_verify.specs.Verify.{asked_edit, verify_edit, verify_survey}
+use Rattle.std.specs.Prelude.{Err, Ok}
+use Rattle.pool.specs.Refuse.{Outcome}
 
 -- the answer, the state and the list
 pub record Modifying : Type 0 where
@@ -31,7 +31,7 @@ modifying a s l = record { answer = a; state = s; list = l }
 
 -- a refusal leaves the state and the list as they were
 abbrev pub refused : Refusal → St → List ℕ → Modifying
-refused r s l = modifying (modified.Refused r) s l
+refused r s l = modifying (Err r) s l
 
 -- "map, modify and compact answer with the tables in use afterwards, counted off the ledger. Live modify adds its count of numbers."
 unfoldable pub answer_of : Bool → Work → Modified
@@ -92,10 +92,10 @@ module _ (h : Handle) (e : Edit) (s : St) (list : List ℕ) where
     unfolding modify_sound
     by_survey = rw (sound, surveyed)
 
-    pub sound_refused : (r : Refusal) → x ≡ Refused r → refused r s list ≡ modify_sound h e s list
+    pub sound_refused : (r : Refusal) → x ≡ Err r → refused r s list ≡ modify_sound h e s list
     sound_refused r q = refused-first (λ r. refused r s list) x _ r q ∙ by_survey
 
-    pub sound_edited : x ≡ Accepted → edit_tables h e s list ≡ modify_sound h e s list
+    pub sound_edited : x ≡ Ok tt → edit_tables h e s list ≡ modify_sound h e s list
     sound_edited q = accepted_next (λ r. refused r s list) x _ q ∙ by_survey
 
 module _ (h : Handle) (start end set clear : ℕ) (live : Bool) (s : St) (list : List ℕ) where
@@ -109,9 +109,9 @@ module _ (h : Handle) (start end set clear : ℕ) (live : Bool) (s : St) (list :
     unfolding modify_call
     by_asked = rw (shape, is)
 
-    pub call-refused : (r : Refusal) → x ≡ Refused r → refused r s list ≡ modify_call h start end set clear live s list
+    pub call-refused : (r : Refusal) → x ≡ Err r → refused r s list ≡ modify_call h start end set clear live s list
     call-refused r q = refused-first (λ r. refused r s list) x _ r q ∙ by_asked
 
-    pub call-asked : x ≡ Accepted → modify_sound h (asked_edit start end set clear live) s list
+    pub call-asked : x ≡ Ok tt → modify_sound h (asked_edit start end set clear live) s list
         ≡ modify_call h start end set clear live s list
     call-asked q = accepted_next (λ r. refused r s list) x _ q ∙ by_asked

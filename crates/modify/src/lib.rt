@@ -2,7 +2,7 @@
 // tables.
 #![tactic(auto)]
 
-ghost use Rattle.std.specs.Prelude.{◌≡◌, ◌-◌, ◌≤◌, ◌^◌};
+ghost use Rattle.std.specs.Prelude.{◌≡◌, Ok, ◌-◌, ◌≤◌, ◌^◌};
 ghost use Rattle.pool.specs.State.{st};
 ghost use Rattle.pool.specs.Refuse.{Shaped};
 ghost use Rattle.modify.specs.Call.{modifying, edit_tables, modify_sound, modify_call};
@@ -10,7 +10,7 @@ ghost use Rattle.modify.specs.Call.{modifying, edit_tables, modify_sound, modify
 use address::VirtualAddress;
 use modify_entry::Edit;
 use modify_survey::Survey;
-use pool::{Handle, Outcome, Refusal};
+use pool::{Handle, Refusal};
 use region::MemoryRegion;
 
 // What modify answers: the tables in use afterwards, counted off the ledger, and, live, how many numbers it listed.
@@ -18,7 +18,6 @@ use region::MemoryRegion;
 pub enum Modified {
     Tables(usize),
     Live(usize, usize),
-    Refused(Refusal),
 }
 
 // The edit from the root down.
@@ -30,7 +29,7 @@ fn edit_tables(
     list: &mut [u64],
 ) -> Modified
     requires { Shaped handle (st words.old ledger.old) }
-    ensures { modifying result (st words.new ledger.new) list.new
+    ensures { modifying (Ok result) (st words.new ledger.new) list.new
         ≡ edit_tables handle edit (st words.old ledger.old) list.old }
 {
     let numbers = modify_range::modify_range(words, ledger, handle, 0, handle.level, edit, list, 0);
@@ -48,27 +47,23 @@ fn modify_sound(
     handle: Handle,
     edit: Edit,
     list: &mut [u64],
-) -> Modified
+) -> Result<Modified, Refusal>
     requires { Shaped handle (st words.old ledger.old) × (edit.region.end.0 - edit.region.start.0 ≤ 2 ^ 48) }
     ensures { modifying result (st words.new ledger.new) list.new
         ≡ modify_sound handle edit (st words.old ledger.old) list.old }
 {
     if !checker::is_sound(words, ledger, handle) {
-        return Modified::Refused(Refusal::Unsound);
+        return Err(Refusal::Unsound);
     }
     let free = (ledger.len() - pool_ledger::count_used(ledger)) as u64;
     let none = Survey {
         splits: 0,
         numbers: 0,
-        broken: false,
-        word: 0,
+        breach: None,
     };
     let found = modify_survey::survey_range(words, ledger, handle, 0, handle.level, edit, none);
-    let outcome = modify_verify::verify_survey(free, list.len() as u64, edit.live, found);
-    match outcome {
-        Outcome::Refused(refusal) => Modified::Refused(refusal),
-        Outcome::Accepted => edit_tables(words, ledger, handle, edit, list),
-    }
+    modify_verify::verify_survey(free, list.len() as u64, edit.live, found)?;
+    Ok(edit_tables(words, ledger, handle, edit, list))
 }
 
 // Sets and clears bits in the valid blocks and pages of the region; live, lists the page number of each whose word changed.
@@ -82,12 +77,12 @@ pub fn modify(
     clear: u64,
     live: bool,
     list: &mut [u64],
-) -> Modified
+) -> Result<Modified, Refusal>
     ensures { modifying result (st words.new ledger.new) list.new
         ≡ modify_call handle start.0 end.0 set clear live (st words.old ledger.old) list.old }
 {
     if !pool_handle::is_shaped(words, ledger, handle) {
-        return Modified::Refused(Refusal::Shape);
+        return Err(Refusal::Shape);
     }
     let asked = Edit {
         region: MemoryRegion::new(start.0, end.0),
@@ -95,9 +90,6 @@ pub fn modify(
         clear,
         live,
     };
-    let outcome = modify_verify::verify_edit(handle, end.0, asked);
-    match outcome {
-        Outcome::Refused(refusal) => Modified::Refused(refusal),
-        Outcome::Accepted => modify_sound(words, ledger, handle, asked, list),
-    }
+    modify_verify::verify_edit(handle, end.0, asked)?;
+    modify_sound(words, ledger, handle, asked, list)
 }

@@ -2,11 +2,9 @@
 #![tactic(auto)]
 
 ghost use Rattle.std.specs.Prelude.{◌≡◌, ◌+◌, ◌*◌, ◌≤◌, length};
-ghost use Rattle.region.specs.Region.{region};
 ghost use Rattle.modify_entry.specs.Word.{chunk_edit, edit_word};
 ghost use Rattle.modify_entry.specs.Own.{numbered, put_number, noted, own_range};
 
-use address::VirtualAddress;
 use entry::Kind;
 use region::MemoryRegion;
 
@@ -34,15 +32,10 @@ pub fn edit_word(level: usize, edit: Edit, word: u64) -> u64
 }
 
 // The same edit of one chunk.
-pub fn chunk_edit(edit: Edit, start: VirtualAddress, stop: VirtualAddress) -> Edit
-    ensures { result ≡ chunk_edit edit (region start.0 stop.0) }
+pub fn chunk_edit(edit: Edit, region: MemoryRegion) -> Edit
+    ensures { result ≡ chunk_edit edit region }
 {
-    Edit {
-        region: MemoryRegion { start, end: stop },
-        set: edit.set,
-        clear: edit.clear,
-        live: edit.live,
-    }
+    Edit { region, ..edit }
 }
 
 // Live, a number goes after the others in the list; answers with how many there are.
@@ -72,14 +65,10 @@ pub fn edit_own(
     ensures { noted words.new list.new result
         ≡ own_range k level edit (noted words.old list.old before) }
 {
-    let end = edit.region.end.0;
-    let mut at = edit.region.start.0;
     let mut count = before;
-    while at < end {
-        let stop = address_slot::chunk_end(level, at, end);
-        let i = address_slot::entry_index(level, at);
-        let number = address::tlbi_address(VirtualAddress(at));
-        at = stop;
+    for chunk in edit.region.split(level) {
+        let i = address_slot::entry_index(level, chunk.start.0);
+        let number = address::tlbi_address(chunk.start);
         let word = words[512 * k + i];
         let new = edit_word(level, edit, word);
         if new == word {

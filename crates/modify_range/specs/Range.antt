@@ -8,14 +8,13 @@ use Rattle.region.specs.declared.MemoryRegion.{MemoryRegion}
 use Rattle.pool.specs.State.{St, st, word_at}
 use Rattle.pool.specs.Number.{in_found}
 use Rattle.pool.specs.declared.Handle.{Handle}
-use Rattle.pool.specs.declared.Found.{Found}
-use Rattle.pool.specs.declared.Found.TheVariants.{At, Nothing}
 use Rattle.pool_table.specs.Table.{Taken, taken}
 use Rattle.map_rules.specs.Rules.{table_word}
 use Rattle.map_split.specs.Split.{below}
 use Rattle.modify_entry.specs.declared.Edit.{Edit}
 use Rattle.modify_entry.specs.Word.{chunk_edit}
 use Rattle.modify_entry.specs.Own.{Noted, noted, own_range}
+use Rattle.std.specs.Prelude.{None, Option, Some}
 
 -- the lent pool with the lent list
 pub record Work : Type 0 where
@@ -93,7 +92,7 @@ module _ (h : Handle) (k level : ℕ) (e : Edit) (c : MemoryRegion) (w : Work) {
   unfolding down_step down_chunk
   step-own q = rw (← index, q)
 
-  module _ (q : own level c (word_at w.state k i) ≡ false) {f : Found} {t : St} (found : taken f t ≡ below h k level i w.state) where
+  module _ (q : own level c (word_at w.state k i) ≡ false) {f : Option ℕ} {t : St} (found : taken f t ≡ below h k level i w.state) where
     gone-down : in_found (λ j. modify_range (3 - (level + 1)) h j (chunk_edit e c)) f (work t w.list w.count) ≡ down_step h k level e c w
     unfolding down_step down_chunk
     gone-down =
@@ -102,11 +101,11 @@ module _ (h : Handle) (k level : ℕ) (e : Edit) (c : MemoryRegion) (w : Work) {
         (λ (x : Taken). in_found (λ j. modify_range (3 - (level + 1)) h j (chunk_edit e c)) x.table
         (work x.state w.list w.count)) found)
 
-    pub step_none : f ≡ Nothing → work t w.list w.count ≡ down_step h k level e c w
+    pub step_none : f ≡ None → work t w.list w.count ≡ down_step h k level e c w
     unfolding in_found
     step_none z = rw (← gone-down, z)
 
-    pub step-into : (j : ℕ) → f ≡ At j
+    pub step-into : (j : ℕ) → f ≡ Some j
         → modify_range (3 - (level + 1)) h j (chunk_edit e c) (work t w.list w.count) ≡ down_step h k level e c w
     unfolding in_found
     step-into j z = rw (← gone-down, z)

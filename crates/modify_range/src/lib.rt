@@ -6,9 +6,8 @@ ghost use Rattle.pool.specs.State.{st};
 ghost use Rattle.pool.specs.Refuse.{Shaped};
 ghost use Rattle.modify_range.specs.Range.{own, work, modify_range};
 
-use address::VirtualAddress;
 use modify_entry::Edit;
-use pool::{Found, Handle};
+use pool::Handle;
 use region::MemoryRegion;
 
 // Whether a chunk's entry is one of the table's own: a whole entry that is no table.
@@ -40,19 +39,15 @@ pub fn modify_range(
     if address::LEAF_LEVEL <= level {
         return modify_entry::edit_own(words, k, level, edit, list, before);
     }
-    let end = edit.region.end.0;
-    let mut at = edit.region.start.0;
     let mut count = before;
-    while at < end {
-        let stop = address_slot::chunk_end(level, at, end);
-        let i = address_slot::entry_index(level, at);
-        let part = modify_entry::chunk_edit(edit, VirtualAddress(at), VirtualAddress(stop));
-        at = stop;
+    for chunk in edit.region.split(level) {
+        let i = address_slot::entry_index(level, chunk.start.0);
+        let part = modify_entry::chunk_edit(edit, chunk);
         if is_own(level, part.region, words[512 * k + i]) {
             continue;
         }
         let under = map_split::descend(words, ledger, handle, k, level, i);
-        let Found::At(j) = under else {
+        let Some(j) = under else {
             continue;
         };
         count = modify_range(words, ledger, handle, j, level + 1, part, list, count);

@@ -8,20 +8,17 @@ ghost use Rattle.modify_survey.specs.House.{house_rule, may_change};
 ghost use Rattle.modify_survey.specs.Survey.{splits_in, breach, survey_part, survey_whole, survey_entry, survey_range};
 ghost use Rattle.modify_survey.specs.Room.{Room};
 
-use address::VirtualAddress;
 use entry::{Kind, Sub};
 use modify_entry::Edit;
 use pool::Handle;
 use region::MemoryRegion;
 
-// What was found: the tables that the splits take, the numbers that a list would get, and whether the house rule is broken, with the first
-// word that does.
+// What was found: the tables that the splits take, the numbers that a list would get, and the first word that breaks the house rule.
 #[derive(Clone, Copy)]
 pub struct Survey {
     pub splits: u64,
     pub numbers: u64,
-    pub broken: bool,
-    pub word: u64,
+    pub breach: Option<u64>,
 }
 
 // Bits 0, 7, 10, 11, 51 and 53 to 58.
@@ -52,16 +49,8 @@ fn count_splits(level: usize, region: MemoryRegion) -> u64
     if region.is_block(level) {
         return 0;
     }
-    let end = region.end.0;
-    let mut at = region.start.0;
     let mut count = 1;
-    while at < end {
-        let stop = address_slot::chunk_end(level + 1, at, end);
-        let chunk = MemoryRegion {
-            start: VirtualAddress(at),
-            end: VirtualAddress(stop),
-        };
-        at = stop;
+    for chunk in region.split(level + 1) {
         count += count_splits(level + 1, chunk);
     }
     count
@@ -71,14 +60,9 @@ fn count_splits(level: usize, region: MemoryRegion) -> u64
 fn add_breach(found: Survey, word: u64) -> Survey
     ensures { result ≡ breach word found }
 {
-    if found.broken {
-        return found;
-    }
     Survey {
-        splits: found.splits,
-        numbers: found.numbers,
-        broken: true,
-        word,
+        breach: found.breach.or(Some(word)),
+        ..found
     }
 }
 
@@ -89,9 +73,7 @@ fn survey_part(level: usize, region: MemoryRegion, word: u64, seen: Survey) -> S
 {
     let more = Survey {
         splits: seen.splits + count_splits(level, region),
-        numbers: seen.numbers,
-        broken: seen.broken,
-        word: seen.word,
+        ..seen
     };
     let kind = entry::kind_of(level, word);
     let Kind::Block = kind else {
@@ -110,10 +92,8 @@ fn survey_whole(handle: Handle, level: usize, edit: Edit, word: u64, seen: Surve
         return seen;
     }
     let changed = Survey {
-        splits: seen.splits,
         numbers: seen.numbers + 1,
-        broken: seen.broken,
-        word: seen.word,
+        ..seen
     };
     if may_change(handle, word, new) {
         return changed;
@@ -146,14 +126,10 @@ pub fn survey_range(
     requires { (length words.now ≡ 512 * length ledger.now) × (k < length ledger.now) × (level ≤ 3) × Room edit.region before }
     ensures { result ≡ survey_range (3 - level) handle (st words.now ledger.now) k edit before }
 {
-    let end = edit.region.end.0;
-    let mut at = edit.region.start.0;
     let mut seen = before;
-    while at < end {
-        let stop = address_slot::chunk_end(level, at, end);
-        let i = address_slot::entry_index(level, at);
-        let part = modify_entry::chunk_edit(edit, VirtualAddress(at), VirtualAddress(stop));
-        at = stop;
+    for chunk in edit.region.split(level) {
+        let i = address_slot::entry_index(level, chunk.start.0);
+        let part = modify_entry::chunk_edit(edit, chunk);
         let word = words[512 * k + i];
         let kind = entry::subtable(handle.base, ledger.len(), level, word);
         let Sub::Table(j) = kind else {

@@ -15,11 +15,11 @@ use Rattle.pool.specs.Sound.{flag_set}
 use Rattle.pool.specs.declared.Handle.{Handle}
 use Rattle.pool.specs.declared.Refusal.{Refusal}
 use Rattle.pool.specs.declared.Refusal.TheVariants.{End, InvalidFlags, FlagSet, WantOfRoom, HouseRule, Short}
-use Rattle.pool.specs.declared.Outcome.{Outcome}
-use Rattle.pool.specs.declared.Outcome.TheVariants.{Accepted, Refused}
 use Rattle.region_verify.specs.Verify.{end_fits, verify, refused_never, verified_span, span-length}
 use Rattle.modify_entry.specs.declared.Edit.{Edit}
 use Rattle.modify_survey.specs.declared.Survey.{Survey}
+use Rattle.std.specs.Prelude.{Err, Ok}
+use Rattle.pool.specs.Refuse.{Outcome}
 
 -- the edit that a call asks for: "start is rounded down and end up to 4096"
 unfoldable pub asked_edit : ℕ → ℕ → ℕ → ℕ → Bool → Edit
@@ -38,22 +38,22 @@ settable m set clear = only m set && (not (eqb (set % 2) 1) && eqb (bit_and set 
 -- 3: bit 1, "set before clear"; 4: "a flag outside the set; modify: bit 0 to set, or a bit both set and cleared", "for a clash, set"
 unfoldable pub verify_bits : Handle → ℕ → ℕ → Outcome
 verify_bits h set clear =
-    cond (eqb (set / 2 % 2) 1) (Refused (InvalidFlags set))
-    (cond (eqb (clear / 2 % 2) 1) (Refused (InvalidFlags clear))
-    (cond (settable (flag_set h) set clear) (cond (only (flag_set h) clear) Accepted (Refused (FlagSet clear))) (Refused (FlagSet set))))
+    cond (eqb (set / 2 % 2) 1) (Err (InvalidFlags set))
+    (cond (eqb (clear / 2 % 2) 1) (Err (InvalidFlags clear))
+    (cond (settable (flag_set h) set clear) (cond (only (flag_set h) clear) (Ok tt) (Err (FlagSet clear))) (Err (FlagSet set))))
 
 -- 2: the end; 3, 4: the bits; 5, 6: the region
 unfoldable pub verify_edit : Handle → ℕ → Edit → Outcome
 verify_edit h end e =
-    cond (end_fits end) (first_refused Refused (verify_bits h e.set e.clear) (verify h e.region)) (Refused (End end))
+    cond (end_fits end) (first_refused Err (verify_bits h e.set e.clear) (verify h e.region)) (Err (End end))
 
 -- 9: "new tables needed exceed those free at entry"; live, 10: "house rule broken", 11: "list shorter than needed"
 unfoldable pub verify_survey : ℕ → ℕ → Bool → Survey → Outcome
 verify_survey free room live v =
-    cond (ltb free v.splits) (Refused (WantOfRoom v.splits free))
+    cond (ltb free v.splits) (Err (WantOfRoom v.splits free))
     (cond live
-    (cond v.broken (Refused (HouseRule v.word)) (cond (ltb room v.numbers) (Refused (Short v.numbers)) Accepted))
-    Accepted)
+    (cond v.broken (Err (HouseRule v.word)) (cond (ltb room v.numbers) (Err (Short v.numbers)) (Ok tt)))
+    (Ok tt))
 
 -- ---- laws: one for each way through the code
 
@@ -80,92 +80,92 @@ module _ (m set clear : ℕ) where
       go false b c e = absurd (true≢false (sym e))
 
 module _ (h : Handle) (set clear : ℕ) where
-  pub bits_set_invalid : set / 2 % 2 ≡ 1 → Refused (InvalidFlags set) ≡ verify_bits h set clear
+  pub bits_set_invalid : set / 2 % 2 ≡ 1 → Err (InvalidFlags set) ≡ verify_bits h set clear
   unfolding verify_bits
   bits_set_invalid e = rw (eq-eqb (set / 2 % 2) 1 e)
 
   module _ (one : set / 2 % 2 ≡ 1 → ⊥) where
-    pub bits_clear_invalid : clear / 2 % 2 ≡ 1 → Refused (InvalidFlags clear) ≡ verify_bits h set clear
+    pub bits_clear_invalid : clear / 2 % 2 ≡ 1 → Err (InvalidFlags clear) ≡ verify_bits h set clear
     unfolding verify_bits
     bits_clear_invalid e = rw (ne_eqb (set / 2 % 2) 1 one, eq-eqb (clear / 2 % 2) 1 e)
 
     module _ (two : clear / 2 % 2 ≡ 1 → ⊥) where
-      pub bits_unsettable : settable (flag_set h) set clear ≡ false → Refused (FlagSet set) ≡ verify_bits h set clear
+      pub bits_unsettable : settable (flag_set h) set clear ≡ false → Err (FlagSet set) ≡ verify_bits h set clear
       unfolding verify_bits
       bits_unsettable e = rw (ne_eqb (set / 2 % 2) 1 one, ne_eqb (clear / 2 % 2) 1 two, e)
 
       pub bits-settable : settable (flag_set h) set clear ≡ true
-          → cond (only (flag_set h) clear) Accepted (Refused (FlagSet clear)) ≡ verify_bits h set clear
+          → cond (only (flag_set h) clear) (Ok tt) (Err (FlagSet clear)) ≡ verify_bits h set clear
       unfolding verify_bits
       bits-settable e = rw (ne_eqb (set / 2 % 2) 1 one, ne_eqb (clear / 2 % 2) 1 two, e)
 
-      pub bits_set_outside : only (flag_set h) set ≡ false → Refused (FlagSet set) ≡ verify_bits h set clear
+      pub bits_set_outside : only (flag_set h) set ≡ false → Err (FlagSet set) ≡ verify_bits h set clear
       bits_set_outside e = bits_unsettable (sym (set_outside (flag_set h) set clear e))
 
       module _ (from : only (flag_set h) set ≡ true) where
-        pub bits-set-valid : set % 2 ≡ 1 → Refused (FlagSet set) ≡ verify_bits h set clear
+        pub bits-set-valid : set % 2 ≡ 1 → Err (FlagSet set) ≡ verify_bits h set clear
         bits-set-valid e = bits_unsettable (sym (set-valid (flag_set h) set clear from e))
 
         module _ (even : set % 2 ≡ 1 → ⊥) where
-          pub bits_clash : (bit_and set clear ≡ 0 → ⊥) → Refused (FlagSet set) ≡ verify_bits h set clear
+          pub bits_clash : (bit_and set clear ≡ 0 → ⊥) → Err (FlagSet set) ≡ verify_bits h set clear
           bits_clash n = bits_unsettable (sym (set_apart (flag_set h) set clear from even) ∙ ne_eqb (bit_and set clear) 0 n)
 
           module _ (apart : bit_and set clear ≡ 0) where
-            by_clear : (b : Bool) → only (flag_set h) clear ≡ b → cond b Accepted (Refused (FlagSet clear)) ≡ verify_bits h set clear
+            by_clear : (b : Bool) → only (flag_set h) clear ≡ b → cond b (Ok tt) (Err (FlagSet clear)) ≡ verify_bits h set clear
             by_clear b e =
-                ap (λ (x : Bool). cond x Accepted (Refused (FlagSet clear))) (sym e)
+                ap (λ (x : Bool). cond x (Ok tt) (Err (FlagSet clear))) (sym e)
                 ∙ bits-settable (sym (set_apart (flag_set h) set clear from even) ∙ eq-eqb (bit_and set clear) 0 apart)
 
-            pub bits_clear_outside : only (flag_set h) clear ≡ false → Refused (FlagSet clear) ≡ verify_bits h set clear
+            pub bits_clear_outside : only (flag_set h) clear ≡ false → Err (FlagSet clear) ≡ verify_bits h set clear
             bits_clear_outside e = by_clear false e
 
-            pub bits-accepted : only (flag_set h) clear ≡ true → Accepted ≡ verify_bits h set clear
+            pub bits-accepted : only (flag_set h) clear ≡ true → (Ok tt) ≡ verify_bits h set clear
             bits-accepted e = by_clear true e
 
 module _ (h : Handle) (end : ℕ) (e : Edit) where
-  pub edit_end : end_fits end ≡ false → Refused (End end) ≡ verify_edit h end e
+  pub edit_end : end_fits end ≡ false → Err (End end) ≡ verify_edit h end e
   unfolding verify_edit
   edit_end q = rw q
 
   module _ (ends : end_fits end ≡ true) {x : Outcome} (is : x ≡ verify_bits h e.set e.clear) where
-    by_bits : first_refused Refused x (verify h e.region) ≡ verify_edit h end e
+    by_bits : first_refused Err x (verify h e.region) ≡ verify_edit h end e
     unfolding verify_edit
     by_bits = rw (ends, is)
 
-    pub edit_bits : (r : Refusal) → x ≡ Refused r → x ≡ verify_edit h end e
-    edit_bits r q = q ∙ refused-first Refused x _ r q ∙ by_bits
+    pub edit_bits : (r : Refusal) → x ≡ Err r → x ≡ verify_edit h end e
+    edit_bits r q = q ∙ refused-first Err x _ r q ∙ by_bits
 
-    pub edit_region : x ≡ Accepted → verify h e.region ≡ verify_edit h end e
-    edit_region q = accepted_next Refused x _ q ∙ by_bits
+    pub edit_region : x ≡ Ok tt → verify h e.region ≡ verify_edit h end e
+    edit_region q = accepted_next Err x _ q ∙ by_bits
 
 module _ (free room : ℕ) (live : Bool) (v : Survey) where
-  pub survey_full : free < v.splits → Refused (WantOfRoom v.splits free) ≡ verify_survey free room live v
+  pub survey_full : free < v.splits → Err (WantOfRoom v.splits free) ≡ verify_survey free room live v
   unfolding verify_survey
   survey_full l = rw (lt-ltb free v.splits l)
 
   module _ (fits : v.splits ≤ free) where
-    pub survey_off : live ≡ false → Accepted ≡ verify_survey free room live v
+    pub survey_off : live ≡ false → (Ok tt) ≡ verify_survey free room live v
     unfolding verify_survey
     survey_off e = rw (le-ltb free v.splits fits, e)
 
     module _ (on : live ≡ true) where
-      pub survey_broken : v.broken ≡ true → Refused (HouseRule v.word) ≡ verify_survey free room live v
+      pub survey_broken : v.broken ≡ true → Err (HouseRule v.word) ≡ verify_survey free room live v
       unfolding verify_survey
       survey_broken e = rw (le-ltb free v.splits fits, on, e)
 
       module _ (kept : v.broken ≡ false) where
-        pub survey_short : room < v.numbers → Refused (Short v.numbers) ≡ verify_survey free room live v
+        pub survey_short : room < v.numbers → Err (Short v.numbers) ≡ verify_survey free room live v
         unfolding verify_survey
         survey_short l = rw (le-ltb free v.splits fits, on, kept, lt-ltb room v.numbers l)
 
-        pub survey_accepted : v.numbers ≤ room → Accepted ≡ verify_survey free room live v
+        pub survey_accepted : v.numbers ≤ room → (Ok tt) ≡ verify_survey free room live v
         unfolding verify_survey
         survey_accepted l = rw (le-ltb free v.splits fits, on, kept, le-ltb room v.numbers l)
 
 -- ---- a region that was verified is no longer than the largest span
 
 pub asked-span : (h : Handle) (start end set clear : ℕ) (live : Bool) → let e = asked_edit start end set clear live in
-    verify_edit h end e ≡ Accepted → e.region.end.0 - e.region.start.0 ≤ 2 ^ 48
+    verify_edit h end e ≡ Ok tt → e.region.end.0 - e.region.start.0 ≤ 2 ^ 48
 unfolding asked_edit rounded
 asked-span h start end set clear live ok =
     by_bool (end_fits end) (λ f. bits f (verify_bits h set clear) refl)
@@ -173,8 +173,8 @@ asked-span h start end set clear live ok =
   where
     bits : end_fits end ≡ true → (x : Outcome) → verify_bits h set clear ≡ x
         → (rounded start end).end.0 - (rounded start end).start.0 ≤ 2 ^ 48
-    bits f Accepted q =
+    bits f (Ok tt) q =
         span-length h.range h.level (rounded start end)
         (verified_span h (rounded start end) (edit_region h end (asked_edit start end set clear live) f (sym q) refl ∙ ok))
         (up-below end 4096)
-    bits f (Refused r) q = absurd (refused_never (edit_bits h end (asked_edit start end set clear live) f (sym q) r refl ∙ ok))
+    bits f (Err r) q = absurd (refused_never (edit_bits h end (asked_edit start end set clear live) f (sym q) r refl ∙ ok))

@@ -6,7 +6,7 @@ ghost use Rattle.modify_verify.specs.Verify.{settable, verify_bits, verify_edit,
 
 use modify_entry::Edit;
 use modify_survey::Survey;
-use pool::{Handle, Outcome, Refusal};
+use pool::{Handle, Refusal};
 
 // Whether these bits may be set: all from the flags, bit 0 not among them, none that is cleared too.
 #[tactic(auto, unfolding(crate::specs::Verify::settable))]
@@ -23,55 +23,52 @@ fn are_settable(flags: u64, set: u64, clear: u64) -> bool
 }
 
 // Refusals 3 and 4: the bits to set come before the bits to clear.
-fn verify_bits(handle: Handle, set: u64, clear: u64) -> Outcome
+fn verify_bits(handle: Handle, set: u64, clear: u64) -> Result<(), Refusal>
     ensures { result ≡ verify_bits handle set clear }
 {
     if set / 2 % 2 == 1 {
-        return Outcome::Refused(Refusal::InvalidFlags(set));
+        return Err(Refusal::InvalidFlags(set));
     }
     if clear / 2 % 2 == 1 {
-        return Outcome::Refused(Refusal::InvalidFlags(clear));
+        return Err(Refusal::InvalidFlags(clear));
     }
     let flags = pool_handle::flag_set(handle);
     if !are_settable(flags, set, clear) {
-        return Outcome::Refused(Refusal::FlagSet(set));
+        return Err(Refusal::FlagSet(set));
     }
     if !entry::are_from(clear, flags) {
-        return Outcome::Refused(Refusal::FlagSet(clear));
+        return Err(Refusal::FlagSet(clear));
     }
-    Outcome::Accepted
+    Ok(())
 }
 
 // Whether the edit can be asked for at all; `end` is the caller's, before it is rounded.
-pub fn verify_edit(handle: Handle, end: u64, edit: Edit) -> Outcome
+pub fn verify_edit(handle: Handle, end: u64, edit: Edit) -> Result<(), Refusal>
     ensures { result ≡ verify_edit handle end edit }
 {
     if !region_verify::end_fits(end) {
-        return Outcome::Refused(Refusal::End(end));
+        return Err(Refusal::End(end));
     }
-    let outcome = verify_bits(handle, edit.set, edit.clear);
-    let Outcome::Accepted = outcome else {
-        return outcome;
-    };
+    verify_bits(handle, edit.set, edit.clear)?;
     let region = edit.region;
     region_verify::verify_region(handle, region)
 }
 
 // Refusal 9, and those of a live edit: 10 and 11.
-pub fn verify_survey(free: u64, room: u64, live: bool, found: Survey) -> Outcome
+pub fn verify_survey(free: u64, room: u64, live: bool, found: Survey) -> Result<(), Refusal>
     ensures { result ≡ verify_survey free room live found }
 {
     if free < found.splits {
-        return Outcome::Refused(Refusal::WantOfRoom(found.splits, free));
+        return Err(Refusal::WantOfRoom(found.splits, free));
     }
     if !live {
-        return Outcome::Accepted;
+        return Ok(());
     }
-    if found.broken {
-        return Outcome::Refused(Refusal::HouseRule(found.word));
+    if let Some(word) = found.breach {
+        return Err(Refusal::HouseRule(word));
     }
     if room < found.numbers {
-        return Outcome::Refused(Refusal::Short(found.numbers));
+        return Err(Refusal::Short(found.numbers));
     }
-    Outcome::Accepted
+    Ok(())
 }

@@ -3,8 +3,7 @@
 use Rattle.std.specs.Prelude.{◌≡◌, refl, List, [], ◌∷◌, ℕ, zero, suc, ◌+◌, ◌*◌, ◌-◌, ◌/◌, ◌%◌, ◌≤◌, ◌<◌, length, get_or, drop}
 use Rattle.std.proofs.Common.{add-one, drop_of_length-le, drop-cons}
 use native.Mathlib.Omega.{arith}
-use Rattle.pool.specs.declared.Found.{Found}
-use Rattle.pool.specs.declared.Found.TheVariants.{At, Nothing}
+use Rattle.std.specs.Prelude.{None, Option, Some}
 
 -- a ledger number: 0 is free, the root holds 4 + level
 unfoldable pub root_number : ℕ → ℕ
@@ -53,24 +52,24 @@ number-whole x names = omega arith
 
 -- ---- the lowest free table: the first 0 of the ledger
 
-unfoldable pub first_from : ℕ → List ℕ → Found
-first_from i [] = Nothing
-first_from i (zero ∷ l) = At i
+unfoldable pub first_from : ℕ → List ℕ → Option ℕ
+first_from i [] = None
+first_from i (zero ∷ l) = Some i
 first_from i (suc x ∷ l) = first_from (suc i) l
 
-unfoldable pub lowest_free : List ℕ → Found
+unfoldable pub lowest_free : List ℕ → Option ℕ
 lowest_free l = first_from 0 l
 
 -- `rec` goes on in the table that was found; where none was found, nothing is done
-unfoldable pub in_found {ℓ} : {S : Type ℓ} → (ℕ → S → S) → Found → S → S
-in_found rec (At j) s = rec j s
-in_found rec Nothing s = s
+unfoldable pub in_found {ℓ} : {S : Type ℓ} → (ℕ → S → S) → Option ℕ → S → S
+in_found rec (Some j) s = rec j s
+in_found rec None s = s
 
-pub first_done : (l : List ℕ) (i : ℕ) → length l ≤ i → first_from i (drop i l) ≡ Nothing
+pub first_done : (l : List ℕ) (i : ℕ) → length l ≤ i → first_from i (drop i l) ≡ None
 unfolding first_from
 first_done l i h = rw (drop_of_length-le l h)
 
-pub first_hit : (l : List ℕ) (i : ℕ) → i < length l → get_or l i 0 ≡ 0 → first_from i (drop i l) ≡ At i
+pub first_hit : (l : List ℕ) (i : ℕ) → i < length l → get_or l i 0 ≡ 0 → first_from i (drop i l) ≡ Some i
 unfolding first_from
 first_hit l i h e = rw (drop-cons l i 0 h, e)
 
@@ -89,7 +88,7 @@ pub record LowestFree (l : List ℕ) (j : ℕ) : Type 0 where
   pub free : get_or l j 0 ≡ 0
   pub lower : (k : ℕ) → k < j → 0 < get_or l k 0
 
-first_lowest : (i : ℕ) (l : List ℕ) (j : ℕ) → first_from i l ≡ At j → (i ≤ j) × LowestFree l (j - i)
+first_lowest : (i : ℕ) (l : List ℕ) (j : ℕ) → first_from i l ≡ Some j → (i ≤ j) × LowestFree l (j - i)
 unfolding first_from
 first_lowest i [] j e = let z : ◌≡◌ {A = ℕ} 0 1 = cc in absurd (omega arith)
 first_lowest i (zero ∷ l) j e =
@@ -108,7 +107,7 @@ first_lowest i (suc x ∷ l) j e =
     below m h zero q = omega arith
     below m h (suc k) q = h k (omega arith)
 
-pub lowest_found : (l : List ℕ) (j : ℕ) → lowest_free l ≡ At j → LowestFree l j
+pub lowest_found : (l : List ℕ) (j : ℕ) → lowest_free l ≡ Some j → LowestFree l j
 unfolding lowest_free
 lowest_found l j e = let z : j - 0 ≡ j = omega arith in rw z at (first_lowest 0 l j e).1
 

@@ -9,8 +9,7 @@ use Rattle.pool.specs.declared.Handle.{Handle}
 use Rattle.pool.specs.declared.Refusal.{Refusal}
 use Rattle.pool.specs.declared.Refusal.TheVariants.{Shape, End, InvalidFlags, FlagSet, RegionBackwards, AddressRange, Frame, Unsound}
 use Rattle.pool.specs.declared.Refusal.TheVariants.{WantOfRoom, HouseRule, Short}
-use Rattle.pool.specs.declared.Outcome.{Outcome}
-use Rattle.pool.specs.declared.Outcome.TheVariants.{Accepted, Refused}
+use Rattle.std.specs.Prelude.{Result, Err, Ok}
 
 -- document 01, "The refusal slip": No.
 abbrev pub number : Refusal → ℕ
@@ -94,6 +93,14 @@ says-shaped h s p =
     (and_i (leb (h.base.0 + 4096 * n) (2 ^ 48)) (leb h.level 3) (le→leb (h.base.0 + 4096 * n) (2 ^ 48) p.ended)
     (le→leb h.level 3 p.level)))))
 
+-- the answer of a call that has nothing more to say than that it was done
+abbrev pub Outcome : Type 0
+Outcome = Result (Unit {0}) Refusal
+
+-- the answer of a call that changes tables: those in use afterwards, counted off the ledger
+abbrev pub Counted : Type 0
+Counted = Result ℕ Refusal
+
 -- an answer and the state that it leaves
 pub record Out (A : Type 0) : Type 0 where
   pub answer : A
@@ -104,20 +111,20 @@ out a s = record { answer = a; state = s }
 
 -- a refusal leaves the state as it was
 abbrev pub refuse : Refusal → St → Out Outcome
-refuse r s = out (Refused r) s
+refuse r s = out (Err r) s
 
 -- "Lowest number first" (document 01, "The refusal slip"): where what is asked is refused, `refused` makes the answer of the refusal; where
 -- it is accepted, what comes next is the answer
 unfoldable pub first_refused : {A : Type 0} → (Refusal → A) → Outcome → A → A
-first_refused refused Accepted next = next
-first_refused refused (Refused r) next = refused r
+first_refused refused (Ok tt) next = next
+first_refused refused (Err r) next = refused r
 
 module _ {A : Type 0} (refused : Refusal → A) (x : Outcome) (next : A) where
-  pub accepted_next : x ≡ Accepted → next ≡ first_refused refused x next
+  pub accepted_next : x ≡ Ok tt → next ≡ first_refused refused x next
   unfolding first_refused
   accepted_next e = ap (λ (y : Outcome). first_refused refused y next) (sym e)
 
-  pub refused-first : (r : Refusal) → x ≡ Refused r → refused r ≡ first_refused refused x next
+  pub refused-first : (r : Refusal) → x ≡ Err r → refused r ≡ first_refused refused x next
   unfolding first_refused
   refused-first r e = ap (λ (y : Outcome). first_refused refused y next) (sym e)
 

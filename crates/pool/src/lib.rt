@@ -34,24 +34,3 @@ pub enum Refusal {
     HouseRule(u64),
     Short(u64),
 }
-
-// The answer of a call that has nothing more to say than that it was done.
-#[derive(Clone, Copy)]
-pub enum Outcome {
-    Accepted,
-    Refused(Refusal),
-}
-
-// The answer of a call that changes tables: those in use afterwards, counted off the ledger.
-#[derive(Clone, Copy)]
-pub enum Counted {
-    Tables(usize),
-    Refused(Refusal),
-}
-
-// A table that was looked for.
-#[derive(Clone, Copy)]
-pub enum Found {
-    At(usize),
-    Nothing,
-}

@@ -4,10 +4,8 @@
 ghost use Rattle.std.specs.Prelude.{◌≡◌, ◌^◌, ◌<◌, length};
 ghost use Rattle.pool.specs.Number.{lowest_free, used};
 
-use pool::Found;
-
 // The lowest free table.
-pub fn lowest_free(ledger: &[u32]) -> Found
+pub fn lowest_free(ledger: &[u32]) -> Option<usize>
     ensures { result ≡ lowest_free ledger.now }
 {
     let n = ledger.len();
@@ -21,11 +19,7 @@ pub fn lowest_free(ledger: &[u32]) -> Found
         }
         i += 1;
     };
-    if at < n {
-        Found::At(at)
-    } else {
-        Found::Nothing
-    }
+    if at < n { Some(at) } else { None }
 }
 
 // The tables in use. A count as wide as the numbers lets a vector of numbers add to a vector of counts.
@@ -34,12 +28,10 @@ pub fn count_used(ledger: &[u32]) -> usize
     ensures { result ≡ used ledger.now }
 {
     let mut count: u32 = 0;
-    let mut i = 0;
-    while i < ledger.len() {
-        if ledger[i] != 0 {
+    for number in ledger {
+        if *number != 0 {
             count += 1;
         }
-        i += 1;
     }
     count as usize
 }

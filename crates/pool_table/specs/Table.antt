@@ -14,8 +14,7 @@ use Rattle.entry.specs.declared.Sub.TheVariants.{Table, Outside, Leaf}
 use Rattle.pool.specs.State.{St, st, tables, word_at}
 use Rattle.pool.specs.Number.{number_of, lowest_free}
 use Rattle.pool.specs.declared.Handle.{Handle}
-use Rattle.pool.specs.declared.Found.{Found}
-use Rattle.pool.specs.declared.Found.TheVariants.{At, Nothing}
+use Rattle.std.specs.Prelude.{None, Option, Some}
 
 -- table k with the words t
 unfoldable pub put_table : ℕ → List ℕ → List ℕ → List ℕ
@@ -41,15 +40,15 @@ take_at h p level i t j s =
 
 -- "a new table is always the lowest free number at that moment"
 pub record Taken : Type 0 where
-  pub table : Found
+  pub table : Option ℕ
   pub state : St
 
-abbrev pub taken : Found → St → Taken
+abbrev pub taken : (Option ℕ) → St → Taken
 taken f s = record { table = f; state = s }
 
-unfoldable pub take_found : Handle → ℕ → ℕ → ℕ → List ℕ → St → Found → Taken
-take_found h p level i t s (At j) = taken (At j) (take_at h p level i t j s)
-take_found h p level i t s Nothing = taken Nothing s
+unfoldable pub take_found : Handle → ℕ → ℕ → ℕ → List ℕ → St → Option ℕ → Taken
+take_found h p level i t s (Some j) = taken (Some j) (take_at h p level i t j s)
+take_found h p level i t s None = taken None s
 
 unfoldable pub take_table : Handle → ℕ → ℕ → ℕ → List ℕ → St → Taken
 take_table h p level i t s = take_found h p level i t s (lowest_free s.ledger)
@@ -76,13 +75,13 @@ pub clear_is : (k : ℕ) (s : St) → st (put_table k zeros s.words) (set s.ledg
 unfolding clear
 clear_is k s = refl
 
-pub take_none : (h : Handle) (p level i : ℕ) (t : List ℕ) (s : St) {f : Found} → f ≡ lowest_free s.ledger → f ≡ Nothing
-    → taken Nothing s ≡ take_table h p level i t s
+pub take_none : (h : Handle) (p level i : ℕ) (t : List ℕ) (s : St) {f : Option ℕ} → f ≡ lowest_free s.ledger → f ≡ None
+    → taken None s ≡ take_table h p level i t s
 unfolding take_table take_found
 take_none h p level i t s e q = ap (take_found h p level i t s) (sym q ∙ e)
 
-pub take_some : (h : Handle) (p level i : ℕ) (t : List ℕ) (s : St) {f : Found} (j : ℕ) → f ≡ lowest_free s.ledger → f ≡ At j
-    → taken (At j) (take_at h p level i t j s) ≡ take_table h p level i t s
+pub take_some : (h : Handle) (p level i : ℕ) (t : List ℕ) (s : St) {f : Option ℕ} (j : ℕ) → f ≡ lowest_free s.ledger → f ≡ Some j
+    → taken (Some j) (take_at h p level i t j s) ≡ take_table h p level i t s
 unfolding take_table take_found
 take_some h p level i t s j e q = ap (take_found h p level i t s) (sym q ∙ e)
 

@@ -15,7 +15,7 @@ pub fn clear_table(words: &mut [u64], ledger: &mut [u32], k: usize)
 {
     let a = 512 * k;
     let e = a + 512;
-    pool_zero::zero_words(&mut words[a..e]);
+    pool_zero::zero(&mut words[a..e]);
     ledger[k] = 0;
 }
 
@@ -29,10 +29,8 @@ pub fn free(words: &mut [u64], ledger: &mut [u32], handle: Handle, k: usize, lev
         clear_table(words, ledger, k);
         return;
     }
-    let mut i = 0;
-    while i < 512 {
+    for i in 0..512 {
         let word = words[512 * k + i];
-        i += 1;
         let kind = entry::subtable(handle.base, ledger.len(), level, word);
         let Sub::Table(j) = kind else {
             continue;

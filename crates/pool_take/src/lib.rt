@@ -6,21 +6,16 @@ ghost use Rattle.pool.specs.State.{st};
 ghost use Rattle.pool.specs.Refuse.{Shaped};
 ghost use Rattle.pool_table.specs.Table.{rising, taken, take_table};
 
-use pool::{Found, Handle};
+use pool::Handle;
 
 // A table's words, from the first on, each one step above the one before.
 fn fill(table: &mut [u64], first: u64, step: u64)
     requires { (length table.old ≡ 512) × (first + 511 * step < 2 ^ 64) }
     ensures { table.new ≡ rising 512 first step }
 {
-    let mut word = first;
-    let mut i = 0;
-    while i < 511 {
-        table[i] = word;
-        word += step;
-        i += 1;
+    for (i, entry) in table.iter_mut().enumerate() {
+        *entry = first + step * (i as u64);
     }
-    table[511] = word;
 }
 
 // The lowest free table for slot i of table p: filled, entered, and only then linked.
@@ -33,20 +28,17 @@ pub fn take_table(
     i: usize,
     first: u64,
     step: u64,
-) -> Found
+) -> Option<usize>
     requires { Shaped handle (st words.old ledger.old) × (level ≤ 3) × (p < length ledger.old) × (i < 512)
         × (first + 511 * step < 2 ^ 64) }
     ensures { taken result (st words.new ledger.new)
         ≡ take_table handle p level i (rising 512 first step) (st words.old ledger.old) }
 {
-    let free = pool_ledger::lowest_free(ledger);
-    let Found::At(j) = free else {
-        return Found::Nothing;
-    };
+    let j = pool_ledger::lowest_free(ledger)?;
     let a = 512 * j;
     let e = a + 512;
     fill(&mut words[a..e], first, step);
     ledger[j] = (4 + level + 8 * (512 * p + i + 1)) as u32;
     words[512 * p + i] = entry::link(handle.base, j);
-    Found::At(j)
+    Some(j)
 }

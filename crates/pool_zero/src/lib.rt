@@ -1,26 +1,35 @@
-// All words, and all ledger numbers, made 0.
+// All words, or all ledger numbers, made 0.
 #![tactic(auto)]
 
 ghost use Rattle.std.specs.Prelude.{◌≡◌, length, replicate};
 
-// All words 0.
-pub fn zero_words(words: &mut [u64])
-    ensures { words.new ≡ replicate (length words.old) 0 }
-{
-    let mut i = 0;
-    while i < words.len() {
-        words[i] = 0;
-        i += 1;
+// A number of the pool: a word, or a ledger number.
+pub trait Number: Copy {
+    ghost zero: { Self };
+
+    fn zero() -> Self
+        ensures { result ≡ zero };
+}
+
+impl Number for u64 {
+    ghost zero = { 0 };
+
+    fn zero() -> u64 {
+        0
     }
 }
 
-// All ledger numbers 0.
-pub fn zero_numbers(ledger: &mut [u32])
-    ensures { ledger.new ≡ replicate (length ledger.old) 0 }
-{
-    let mut i = 0;
-    while i < ledger.len() {
-        ledger[i] = 0;
-        i += 1;
+impl Number for u32 {
+    ghost zero = { 0 };
+
+    fn zero() -> u32 {
+        0
     }
+}
+
+// All numbers 0.
+pub fn zero<N: Number>(numbers: &mut [N])
+    ensures { numbers.new ≡ replicate (length numbers.old) N.zero }
+{
+    numbers.fill(N::zero());
 }

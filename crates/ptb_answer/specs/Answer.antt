@@ -2,16 +2,14 @@
 use Rattle.std.specs.Prelude.{List, [], ◌∷◌, ◌≡◌, refl, ℕ, set}
 use Rattle.pool.specs.Refuse.{number, carried}
 use Rattle.pool.specs.declared.Refusal.{Refusal}
-use Rattle.pool.specs.declared.Outcome.{Outcome}
-use Rattle.pool.specs.declared.Outcome.TheVariants.{Accepted, Refused}
-use Rattle.pool.specs.declared.Counted.{Counted}
-use Rattle.pool.specs.declared.Counted.TheVariants as counted
 use Rattle.look_up.specs.Call.{returned, values}
 use Rattle.look_up.specs.declared.Looked.{Looked}
-use Rattle.list.specs.declared.Listed.{Listed}
-use Rattle.list.specs.declared.Listed.TheVariants as listed
 use Rattle.modify.specs.declared.Modified.{Modified}
 use Rattle.modify.specs.declared.Modified.TheVariants as modified
+use Rattle.std.specs.Prelude.{Err, Ok}
+use Rattle.pool.specs.Refuse.{Counted}
+use Rattle.list.specs.Call.{Listed}
+use Rattle.pool.specs.Refuse.{Outcome}
 
 -- the number that is returned, and `answer` as the call leaves it
 pub record Slip : Type 0 where
@@ -37,13 +35,13 @@ told_refusal r old = slip (number r) (over_front (carried r) old)
 
 -- a call that has nothing more to say than that it was done
 unfoldable pub told : Outcome → List ℕ → Slip
-told Accepted old = accepted [] old
-told (Refused r) old = told_refusal r old
+told (Ok tt) old = accepted [] old
+told (Err r) old = told_refusal r old
 
 -- a call that counts the tables in use
 unfoldable pub told_counted : Counted → List ℕ → Slip
-told_counted (counted.Tables tables) old = accepted (tables ∷ []) old
-told_counted (counted.Refused r) old = told_refusal r old
+told_counted (Ok tables) old = accepted (tables ∷ []) old
+told_counted (Err r) old = told_refusal r old
 
 -- look up: the number and the values of its answer
 unfoldable pub told_looked : Looked → List ℕ → Slip
@@ -51,14 +49,14 @@ told_looked looked old = slip (returned looked) (over_front (values looked) old)
 
 -- list: the count of lines
 unfoldable pub told_listed : Listed → List ℕ → Slip
-told_listed (listed.Lines lines) old = accepted (lines ∷ []) old
-told_listed (listed.Refused r) old = told_refusal r old
+told_listed (Ok lines) old = accepted (lines ∷ []) old
+told_listed (Err r) old = told_refusal r old
 
 -- modify: the tables in use and, live, the count of numbers
 unfoldable pub told_modified : Modified → List ℕ → Slip
 told_modified (modified.Tables tables) old = accepted (tables ∷ []) old
 told_modified (modified.Live tables numbers) old = accepted (tables ∷ numbers ∷ []) old
-told_modified (modified.Refused r) old = told_refusal r old
+told_modified (Err r) old = told_refusal r old
 
 -- ---- laws: values stored one by one
 

@@ -9,19 +9,19 @@ use Rattle.make.specs.Call.{make_call, make_refused}
 use Rattle.image.specs.Call.{image_call, image_misshaped, Imaged, imaged}
 use Rattle.pool.specs.declared.Handle.{Handle}
 use Rattle.pool.specs.declared.Refusal.TheVariants.{Shape}
-use Rattle.pool.specs.declared.Outcome.{Outcome}
-use Rattle.pool.specs.declared.Counted.{Counted}
 use Rattle.checker.specs.Call.{check_call, check_misshaped}
 use Rattle.look_up.specs.Call.{look_up_call, look_misshaped}
 use Rattle.look_up.specs.declared.Looked.{Looked}
 use Rattle.list.specs.Call.{list_call, list_misshaped, Listing, listing}
-use Rattle.list.specs.declared.Listed.{Listed}
 use Rattle.map_spec.specs.Call as map
 use Rattle.compact_spec.specs.Call as compact
 use Rattle.modify.specs.Call as modify
 use Rattle.modify.specs.declared.Modified.{Modified}
 use Rattle.pool_handle.specs.Handle.{handle_of, no_range}
 use Rattle.ptb_answer.specs.Answer.{Slip, told_refusal, told, told_counted, told_looked, told_listed, told_modified}
+use Rattle.pool.specs.Refuse.{Counted}
+use Rattle.list.specs.Call.{Listed}
+use Rattle.pool.specs.Refuse.{Outcome}
 
 -- ---- make
 

@@ -1,17 +1,16 @@
 -- The chunks of a region at a level, as a list: ascending, each in one entry, together the region and nothing else. Leans on `Region`.
-use Rattle.std.specs.Prelude.{◌≡◌, refl, cond, List, [], ◌∷◌, ◌⊎◌, ℕ, zero, suc}
+use Rattle.std.specs.Prelude.{◌≡◌, refl, cond, Option, Some, None, ⊤, List, [], ◌∷◌, ◌⊎◌, ℕ, zero, suc}
 use Rattle.std.specs.Prelude.{◌+◌, ◌*◌, ◌-◌, ◌/◌, ◌%◌, ◌≤◌, ◌<◌, min, ltb, length, get_or}
-use Rattle.std.proofs.Common.{ap, ◌∙◌, inl, inr, mul-div_cancel, le-div_iff_mul-le, div-lt_iff_lt-mul, div-add-mod'}
+use Rattle.std.proofs.Common.{ap, sym, subst, ◌∙◌, inl, inr, mul-div_cancel, le-div_iff_mul-le, div-lt_iff_lt-mul, div-add-mod'}
 use Rattle.std.proofs.Common.{mod-lt, add-mul, suc-mul, mul-le-mul_left, mul-le-mul_right, arith, lt-ltb, le-ltb}
 use Rattle.std.proofs.Math.Nat.{div-eq_of_lt-le, mul-mod_left}
 use Rattle.laws.specs.Size.{size_at, size_pos, down, down_rest, multiple_is, next_multiple}
 use Rattle.laws.specs.Test.{le_or}
 use Rattle.region.specs.declared.MemoryRegion.{MemoryRegion}
 use Rattle.region.specs.declared.ChunkedIterator.{ChunkedIterator}
-use Rattle.region.specs.declared.NextChunk.{NextChunk}
-use Rattle.region.specs.declared.NextChunk.TheVariants.{Chunk, Done}
 use Rattle.address_slot.specs.Slot.{entry_last, chunk_end}
-use Rattle.region.specs.Region.{region_of, next_chunk, next_done, next_cut}
+use Rattle.region.specs.Region.{region_of, Next, next, next_chunk, next_done, next_cut}
+use Rattle.std.specs.Iterator.{MakesProgress, item_count}
 
 -- the entries of this level that the region meets
 unfoldable pub met : ℕ → ℕ → ℕ → ℕ
@@ -107,19 +106,29 @@ chunks-step level s e h =
 abbrev pub chunks_of : ChunkedIterator → List MemoryRegion
 chunks_of c = chunks c.level c.range.start.0 c.range.end.0
 
--- `next` takes the list apart: its answer is the list's head with the iterator of its tail
-abbrev pub Gives : NextChunk → List MemoryRegion → Type 0
-Gives (Chunk r c) l = l ≡ r ∷ chunks_of c
-Gives Done l = l ≡ []
+-- `next` takes the list apart: the head, with the iterator of the tail
+abbrev pub Gives : Option MemoryRegion → ChunkedIterator → List MemoryRegion → Type 0
+Gives (Some r) c l = l ≡ r ∷ chunks_of c
+Gives None c l = (l ≡ []) × (chunks_of c ≡ [])
 
-pub next_gives : (c : ChunkedIterator) → Gives (next_chunk c) (chunks_of c)
-next_gives c = go (le_or c.range.end.0 c.range.start.0)
-  where
-    go : (c.range.end.0 ≤ c.range.start.0) ⊎ (c.range.start.0 < c.range.end.0) → Gives (next_chunk c) (chunks_of c)
-    go (inl h) = rw (← next_done c h) (chunks_none c.level c.range.start.0 c.range.end.0 h)
-    go (inr h) =
-        rw (← next_cut c (chunk_end c.level c.range.start.0 c.range.end.0) h refl)
-        (chunks-step c.level c.range.start.0 c.range.end.0 h)
+module _ (c d : ChunkedIterator) {x : Option MemoryRegion} (is : next x d ≡ next_chunk c) where
+  pub next_gives : Gives x d (chunks_of c)
+  next_gives = subst (λ (n : Next). Gives n.chunk n.rest (chunks_of c)) (sym is) (go (le_or c.range.end.0 c.range.start.0))
+    where
+      go : (c.range.end.0 ≤ c.range.start.0) ⊎ (c.range.start.0 < c.range.end.0)
+          → let n = next_chunk c in Gives n.chunk n.rest (chunks_of c)
+      go (inl h) = let none = chunks_none c.level c.range.start.0 c.range.end.0 h in rw (← next_done c h) (none, none)
+      go (inr h) =
+          rw (← next_cut c (chunk_end c.level c.range.start.0 c.range.end.0) h refl)
+          (chunks-step c.level c.range.start.0 c.range.end.0 h)
+
+  -- a loop over the chunks ends
+  pub next_goes : MakesProgress (λ _. ⊤) (item_count chunks_of) c x d
+  next_goes = go x next_gives
+    where
+      go : (y : Option MemoryRegion) → Gives y d (chunks_of c) → MakesProgress (λ _. ⊤) (item_count chunks_of) c y d
+      go (Some r) e = let n = ap length e in record { on = λ _. (tt, tt, omega arith); keeps = tt; rests = λ _. tt }
+      go None e = record { on = λ _. tt; keeps = tt; rests = λ _. tt }
 
 -- ---- the chunks tile the region
 

@@ -1,13 +1,11 @@
 -- Regions and the next chunk, and a law for each way through the code.
-use Rattle.std.specs.Prelude.{◌≡◌, Bool, cond, ◌&&◌, ℕ, ◌%◌, ◌≤◌, ◌<◌, eqb, ltb}
+use Rattle.std.specs.Prelude.{◌≡◌, Option, Some, None, Bool, cond, ◌&&◌, ℕ, ◌%◌, ◌≤◌, ◌<◌, eqb, ltb}
 use Rattle.std.proofs.Common.{ap, lt-ltb, le-ltb}
 use Rattle.laws.specs.Size.{size_at, down}
 use Rattle.address.specs.Address.{align_up}
 use Rattle.address_slot.specs.Slot.{chunk_end}
 use Rattle.region.specs.declared.MemoryRegion.{MemoryRegion}
 use Rattle.region.specs.declared.ChunkedIterator.{ChunkedIterator}
-use Rattle.region.specs.declared.NextChunk.{NextChunk}
-use Rattle.region.specs.declared.NextChunk.TheVariants.{Chunk, Done}
 
 -- the addresses from s up to e
 abbrev pub region : ℕ → ℕ → MemoryRegion
@@ -25,20 +23,28 @@ rounded start end = region_of (down start 4096) (align_up end 4096)
 unfoldable pub whole : ℕ → MemoryRegion → Bool
 whole level r = eqb (r.start.0 % size_at level) 0 && eqb (r.end.0 % size_at level) 0
 
--- the chunk from s to m, and what remains up to e
-abbrev pub cut_at : ℕ → ℕ → ℕ → ℕ → NextChunk
-cut_at level s m e = Chunk (region_of s m) (record { range = region_of m e; level = level })
+-- a chunk, if there is one, and what remains
+pub record Next : Type 0 where
+  pub chunk : Option MemoryRegion
+  pub rest : ChunkedIterator
 
--- the next chunk of what remains
-unfoldable pub next_chunk : ChunkedIterator → NextChunk
+abbrev pub next : Option MemoryRegion → ChunkedIterator → Next
+next r c = record { chunk = r; rest = c }
+
+-- the chunk from s to m, and what remains up to e
+abbrev pub cut_at : ℕ → ℕ → ℕ → ℕ → Next
+cut_at level s m e = next (Some (region_of s m)) (record { range = region_of m e; level = level })
+
+-- the next chunk of what remains; none, and nothing changes, where nothing does
+unfoldable pub next_chunk : ChunkedIterator → Next
 next_chunk c =
     let s = c.range.start.0 in
     let e = c.range.end.0 in
-    cond (ltb s e) (cut_at c.level s (chunk_end c.level s e) e) Done
+    cond (ltb s e) (cut_at c.level s (chunk_end c.level s e) e) (next None c)
 
 -- ---- laws
 
-pub next_done : (c : ChunkedIterator) → c.range.end.0 ≤ c.range.start.0 → Done ≡ next_chunk c
+pub next_done : (c : ChunkedIterator) → c.range.end.0 ≤ c.range.start.0 → next None c ≡ next_chunk c
 unfolding next_chunk
 next_done c h = rw (le-ltb c.range.start.0 c.range.end.0 h)
 

@@ -2,7 +2,9 @@
 #![tactic(auto)]
 
 ghost use Rattle.std.specs.Prelude.{◌≡◌, ◌-◌};
-ghost use Rattle.region.specs.Region.{rounded, whole, next_chunk};
+ghost use Rattle.std.specs.Iterator.{item_count};
+ghost use Rattle.region.specs.Region.{rounded, whole, next, next_chunk};
+ghost use Rattle.region.specs.Chunks.{chunks_of};
 
 use address::VirtualAddress;
 
@@ -18,13 +20,6 @@ pub struct MemoryRegion {
 pub struct ChunkedIterator {
     pub range: MemoryRegion,
     pub level: usize,
-}
-
-// The next chunk with what remains after it.
-#[derive(Clone, Copy)]
-pub enum NextChunk {
-    Chunk(MemoryRegion, ChunkedIterator),
-    Done,
 }
 
 impl MemoryRegion {
@@ -63,30 +58,22 @@ impl MemoryRegion {
     }
 }
 
-impl ChunkedIterator {
+impl Iterator for ChunkedIterator {
+    type Item = MemoryRegion;
+
+    ghost next_gives = { λ before chunk after. next chunk after ≡ next_chunk before };
+
+    ghost remaining = { item_count chunks_of };
+
     // The chunk at the start: up to the end of its entry, or of the region.
-    pub fn next(self) -> NextChunk
-        ensures { result ≡ next_chunk self }
-    {
-        let start = self.range.start.0;
-        let end = self.range.end.0;
-        let level = self.level;
-        if end <= start {
-            return NextChunk::Done;
+    fn next(&mut self) -> Option<MemoryRegion> {
+        let start = self.range.start;
+        let end = self.range.end;
+        if end.0 <= start.0 {
+            return None;
         }
-        let stop = address_slot::chunk_end(level, start, end);
-        NextChunk::Chunk(
-            MemoryRegion {
-                start: VirtualAddress(start),
-                end: VirtualAddress(stop),
-            },
-            ChunkedIterator {
-                range: MemoryRegion {
-                    start: VirtualAddress(stop),
-                    end: VirtualAddress(end),
-                },
-                level,
-            },
-        )
+        let stop = VirtualAddress(address_slot::chunk_end(self.level, start.0, end.0));
+        self.range.start = stop;
+        Some(MemoryRegion { start, end: stop })
     }
 }

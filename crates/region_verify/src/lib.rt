@@ -4,8 +4,7 @@
 ghost use Rattle.std.specs.Prelude.{◌≡◌};
 ghost use Rattle.region_verify.specs.Verify.{end_fits, in_range, verify};
 
-use address::VirtualAddress;
-use pool::{Handle, Outcome, Refusal, VaRange};
+use pool::{Handle, Refusal, VaRange};
 use region::MemoryRegion;
 
 // Whether an end can be rounded and is no 0.
@@ -19,35 +18,35 @@ pub fn end_fits(end: u64) -> bool
 }
 
 // Whether the region lies in the root's span.
-fn in_range(range: VaRange, level: usize, region: MemoryRegion) -> Outcome
+fn in_range(range: VaRange, level: usize, region: MemoryRegion) -> Result<(), Refusal>
     ensures { result ≡ in_range range level region }
 {
     let span = 512 * address::granularity_at_level(level);
     match range {
         VaRange::Lower => {
             if 0x8000_0000_0000_0000 <= region.start.0 {
-                return Outcome::Refused(Refusal::AddressRange(VirtualAddress(region.start.0)));
+                return Err(Refusal::AddressRange(region.start));
             }
             if span < region.end.0 {
-                return Outcome::Refused(Refusal::AddressRange(VirtualAddress(region.end.0)));
+                return Err(Refusal::AddressRange(region.end));
             }
-            Outcome::Accepted
+            Ok(())
         }
         VaRange::Upper => {
             if region.start.0 <= 0xFFFF_FFFF_FFFF_FFFF - span {
-                return Outcome::Refused(Refusal::AddressRange(VirtualAddress(region.start.0)));
+                return Err(Refusal::AddressRange(region.start));
             }
-            Outcome::Accepted
+            Ok(())
         }
     }
 }
 
 // Whether a rounded region can be asked for at all.
-pub fn verify_region(handle: Handle, region: MemoryRegion) -> Outcome
+pub fn verify_region(handle: Handle, region: MemoryRegion) -> Result<(), Refusal>
     ensures { result ≡ verify handle region }
 {
     if region.end.0 < region.start.0 {
-        return Outcome::Refused(Refusal::RegionBackwards(region));
+        return Err(Refusal::RegionBackwards(region));
     }
     let range = handle.range;
     in_range(range, handle.level, region)

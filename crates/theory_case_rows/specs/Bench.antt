@@ -8,12 +8,11 @@ use Rattle.pool.specs.Refuse.{out}
 use Rattle.make.specs.Call.{make_call, fresh as freshly}
 use Rattle.pool.specs.declared.Handle.{Handle}
 use Rattle.pool.specs.declared.Refusal.TheVariants.{WantOfRoom}
-use Rattle.pool.specs.declared.Counted.{Counted}
-use Rattle.pool.specs.declared.Counted.TheVariants.{Tables, Refused}
-use Rattle.pool.specs.declared.Outcome.TheVariants.{Accepted}
 use Rattle.pool.specs.declared.VaRange.TheVariants.{Lower}
 use Rattle.map_spec.specs.Call.{map_call}
 use Rattle.theory_case_rows.specs.Computes.{checks, regions, takes, maps}
+use Rattle.std.specs.Prelude.{Err, Ok}
+use Rattle.pool.specs.Refuse.{Counted}
 
 unfoldable pub handle : ℕ → Handle
 handle level = record { base = record { 0 = 0x8000_0000 }; level = level; range = Lower }
@@ -24,7 +23,7 @@ fresh_row level n = st (replicate (512 * n) 0) (set (replicate n 0) 0 (root_numb
 
 -- make gives it of whatever words and numbers were lent: here all 9
 unfoldable pub Makes : ℕ → ℕ → Type 0
-Makes level n = make_call (handle level) (st (replicate (512 * n) 9) (replicate n 9)) ≡ out Accepted (fresh_row level n)
+Makes level n = make_call (handle level) (st (replicate (512 * n) 9) (replicate n 9)) ≡ out (Ok tt) (fresh_row level n)
 
 -- the word w in slot i of table k; the table t, with its number, as table k; all else as in s
 unfoldable pub word : ℕ → ℕ → ℕ → St → St
@@ -90,7 +89,7 @@ A =
       end = 0x4000_0000;
       frame = 0x4000_0000;
       flags = 0x401;
-      answer = Tables 1;
+      answer = Ok 1;
       after = pool_a;
     }
 
@@ -112,7 +111,7 @@ AA =
       end = 0x8000_0000;
       frame = 0x8000_0000;
       flags = 0x401;
-      answer = Tables 1;
+      answer = Ok 1;
       after = pool_aA;
     }
 
@@ -126,14 +125,14 @@ CD frame count after =
       end = 0x20_1000;
       frame = frame;
       flags = 0x401;
-      answer = Tables count;
+      answer = Ok count;
       after = after;
     }
 
 -- E, F: the whole GiB after B, without VALID and with A's map
 unfoldable pub EF : ℕ → ℕ → ℕ → St → Row
 EF frame flags count after =
-    record { level = 1; before = pool_b 8; start = 0; end = 0x4000_0000; frame = frame; flags = flags; answer = Tables count; after = after }
+    record { level = 1; before = pool_b 8; start = 0; end = 0x4000_0000; frame = frame; flags = flags; answer = Ok count; after = after }
 
 -- G: one page without VALID, by its frame
 unfoldable pub G : ℕ → ℕ → St → Row
@@ -145,12 +144,12 @@ G frame count after =
       end = 0x2000;
       frame = frame;
       flags = 0;
-      answer = Tables count;
+      answer = Ok count;
       after = after;
     }
 
 unfoldable pub H : Row
-H = record { level = 0; before = fresh_row 0 8; start = 0; end = 0x80_0000_0000; frame = 0; flags = 0x401; answer = Tables 2; after = pool_h }
+H = record { level = 0; before = fresh_row 0 8; start = 0; end = 0x80_0000_0000; frame = 0; flags = 0x401; answer = Ok 2; after = pool_h }
 
 -- the rows and their pools, written out
 unfoldable pub rows : Unit {0}
@@ -171,8 +170,8 @@ made = (refl, refl, refl, refl)
 abbrev pub Quick : Type 0
 Quick =
     RowHolds A
-    × RowHolds (B 8 (Tables 3) (pool_b 8)) × RowHolds (B 3 (Tables 3) (pool_b 3))
-    × RowHolds (B 2 (Refused (WantOfRoom 2 1)) (fresh_row 1 2))
+    × RowHolds (B 8 (Ok 3) (pool_b 8)) × RowHolds (B 3 (Ok 3) (pool_b 3))
+    × RowHolds (B 2 (Err (WantOfRoom 2 1)) (fresh_row 1 2))
     × RowHolds (CD 0x4020_0000 1 pool_a) × RowHolds (CD 0x5000_0000 3 pool_d)
     × RowHolds (G 0 3 pool_g) × RowHolds (G 0x1000 1 (fresh_row 1 8))
     × RowHolds AA

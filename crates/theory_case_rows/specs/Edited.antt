@@ -16,9 +16,10 @@ use Rattle.modify_survey.specs.Survey.{survey_range}
 use Rattle.modify_verify.specs.Verify.{asked_edit, settable, verify_bits, verify_edit, verify_survey}
 use Rattle.modify.specs.Call.{modifying, answer_of, edit_tables, modify_sound, modify_call}
 use Rattle.modify.specs.declared.Modified.{Modified}
-use Rattle.modify.specs.declared.Modified.TheVariants.{Tables, Live, Refused}
+use Rattle.modify.specs.declared.Modified.TheVariants.{Tables, Live}
 use Rattle.theory_case_rows.specs.Computes.{checks, regions, takes}
 use Rattle.theory_case_rows.specs.Bench.{handle, fresh_row, word, pool_a, pool_f, rows}
+use Rattle.std.specs.Prelude.{Err}
 
 -- bit 7 set after A: what is asked, and what document 01 says of it: the answer, every word and number, and the list
 unfoldable pub Sets : ℕ → ℕ → Bool → Modified → St → List ℕ → Type 0
@@ -30,7 +31,7 @@ WholeEdited = Sets 0 0x4000_0000 true (Live 1 1) (word 0 0 0x4000_0481 (fresh_ro
 
 -- live, on one page of it: refused 10 (0x4000_0401)
 abbrev pub PartEdited : Type 0
-PartEdited = Sets 0x1000 0x2000 true (Refused (HouseRule 0x4000_0401)) pool_a (7 ∷ 7 ∷ [])
+PartEdited = Sets 0x1000 0x2000 true (Err (HouseRule 0x4000_0401)) pool_a (7 ∷ 7 ∷ [])
 
 -- not live: table 2 word 1 is 0x4000_1483; the block of A is cut twice, as in F
 abbrev pub StillEdited : Type 0

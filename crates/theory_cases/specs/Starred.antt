@@ -1,18 +1,18 @@
 -- THE STARRED TABLE (document 01, "Bench cases"): every starred case, one theorem about the definitions.
 use Rattle.pool.specs.declared.Refusal.TheVariants.{WantOfRoom}
-use Rattle.pool.specs.declared.Counted.TheVariants.{Tables, Refused}
 use Rattle.theory_case_rows.specs.Bench.{fresh_row, Made, made, RowHolds, pool_a, pool_b, pool_d, pool_f, pool_g, A, B, CD, EF, G, H, quick}
 use Rattle.theory_case_rows.specs.Edited.{WholeEdited, PartEdited, StillEdited, case_I}
 use Rattle.theory_case_rows.specs.Listed.{J, case_J}
 use Rattle.theory_cases.specs.Compacted as compact
 use Rattle.theory_cases.specs.Long.{long}
+use Rattle.std.specs.Prelude.{Err, Ok}
 
 -- A to H of map, in the document's order
 abbrev pub StarredMaps : Type 0
 StarredMaps =
     RowHolds A
-    × RowHolds (B 8 (Tables 3) (pool_b 8)) × RowHolds (B 3 (Tables 3) (pool_b 3))
-    × RowHolds (B 2 (Refused (WantOfRoom 2 1)) (fresh_row 1 2))
+    × RowHolds (B 8 (Ok 3) (pool_b 8)) × RowHolds (B 3 (Ok 3) (pool_b 3))
+    × RowHolds (B 2 (Err (WantOfRoom 2 1)) (fresh_row 1 2))
     × RowHolds (CD 0x4020_0000 1 pool_a) × RowHolds (CD 0x5000_0000 3 pool_d)
     × RowHolds (EF 0 0 1 (fresh_row 1 8)) × RowHolds (EF 0x4000_0000 0x401 3 pool_f)
     × RowHolds (G 0 3 pool_g) × RowHolds (G 0x1000 1 (fresh_row 1 8))

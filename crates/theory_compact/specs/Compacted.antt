@@ -8,8 +8,6 @@ use Rattle.pool.specs.Number.{used}
 use Rattle.pool.specs.Refuse.{shaped, Shaped, says-shaped, Out, out}
 use Rattle.pool.specs.Sound.{soundb}
 use Rattle.pool.specs.declared.Handle.{Handle}
-use Rattle.pool.specs.declared.Counted.{Counted}
-use Rattle.pool.specs.declared.Counted.TheVariants.{Tables}
 use Rattle.theory_forest.specs.Tree.{Tree}
 use Rattle.theory_forest.specs.Walk.{walk_tree}
 use Rattle.theory_forest.specs.Compact.{compact_tree}
@@ -30,6 +28,8 @@ use Rattle.compact_spec.specs.Call.{compacted, compact_call, call-compacted}
 use Rattle.theory_compact.specs.Empty.{not_all_zero}
 use Rattle.theory_compact.specs.Run.{table_worked}
 use Rattle.theory_compact.specs.Tight.{NoneEmpty, tight_none, table_same}
+use Rattle.std.specs.Prelude.{Ok}
+use Rattle.pool.specs.Refuse.{Counted}
 
 -- a word of 0 shows the same at every level
 zero_shows : (va depth : ℕ) → shown (says va (reached_at (record { word = 0; depth = depth }))) ≡ hole 0
@@ -55,7 +55,7 @@ module _ {h : Handle} {s : St} (shape : Shaped h s) (P : SoundPool h s) where
   compact_of_tree = leaves.tree
 
   -- the call is accepted, and answers with the tables in use afterwards
-  pub compact_answers : compact_call h s ≡ out (Tables (used (compacted h s).ledger)) (compacted h s)
+  pub compact_answers : compact_call h s ≡ out (Ok (used (compacted h s).ledger)) (compacted h s)
   unfolding compacted
   compact_answers =
       sym (call-compacted h s (is_true (shaped h s) (says-shaped h s shape)) (is_true (soundb h s) (sound_decide shape P)) refl refl)
@@ -107,5 +107,5 @@ compact_again_answers {h} {s} shape P =
     let again = compact_again_changes_nothing shape P in
     ap (λ (o : Out Counted). compact_call h o.state) (compact_answers shape P)
     ∙ compact_answers (compact_keeps_shape shape P) (compact_keeps_sound shape P)
-    ∙ ap (λ (t : St). out (Tables (used t.ledger)) t) again
+    ∙ ap (λ (t : St). out (Ok (used t.ledger)) t) again
     ∙ sym (compact_answers shape P)

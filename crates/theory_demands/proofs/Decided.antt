@@ -4,14 +4,14 @@ use Rattle.std.proofs.Common.{sym, inl, inr, ⊎_elim, arith}
 use Rattle.laws.specs.Test.{eq_or, le_or}
 use Rattle.region.specs.declared.MemoryRegion.{MemoryRegion}
 use Rattle.pool.specs.declared.Refusal.TheVariants.{Frame}
-use Rattle.pool.specs.declared.Outcome.TheVariants.{Accepted, Refused}
 use Rattle.map_verify.specs.Verify.{frame_asked, frame_part, frame_past, frame_fits}
 use Rattle.theory_demands.specs.Slip.{BadFrame}
+use Rattle.std.specs.Prelude.{Err, Ok}
 
 -- 7
 pub frame_told : (frame : ℕ) (r : MemoryRegion) → let length = r.end.0 - r.start.0 in
-    ((frame_asked frame length ≡ Refused (Frame (record { 0 = frame }))) × BadFrame frame r)
-    ⊎ ((frame_asked frame length ≡ Accepted) × (¬ (BadFrame frame r)))
+    ((frame_asked frame length ≡ Err (Frame (record { 0 = frame }))) × BadFrame frame r)
+    ⊎ ((frame_asked frame length ≡ Ok tt) × (¬ (BadFrame frame r)))
 frame_told frame r =
     let length = r.end.0 - r.start.0 in
     ⊎_elim

@@ -18,8 +18,6 @@ use Rattle.pool.specs.declared.Handle.{Handle}
 use Rattle.pool.specs.declared.Refusal.{Refusal}
 use Rattle.pool.specs.declared.Refusal.TheVariants.{Shape, End, InvalidFlags, FlagSet, RegionBackwards, AddressRange, Unsound, WantOfRoom}
 use Rattle.pool.specs.declared.Refusal.TheVariants.{HouseRule, Short}
-use Rattle.pool.specs.declared.Outcome.{Outcome}
-use Rattle.pool.specs.declared.Outcome.TheVariants.{Accepted, Refused}
 use Rattle.region_verify.specs.Verify.{end_fits, verify}
 use Rattle.modify_entry.specs.declared.Edit.{Edit}
 use Rattle.modify_survey.specs.declared.Survey.{Survey}
@@ -39,15 +37,17 @@ use Rattle.theory_demands.specs.Slip.{ModifySlip}
 use Rattle.theory_demands.specs.Told.{NoneBelow, LowestGiven, number_range, shape_lowest, none_first, none_next}
 use Rattle.theory_demands.specs.Decided.{misshaped, well_shaped, not_misshaped, unsound, sound, RegionStands, region-told, end_told}
 use Rattle.theory_demands.specs.Decided.{set_told}
+use Rattle.std.specs.Prelude.{Err, Ok}
+use Rattle.pool.specs.Refuse.{Outcome}
 
 -- ---- 3 and 4, decided
 
 -- the bits to set and to clear are refused by 3, by 4, or by neither
 abbrev BitsTold : Handle → ℕ → ℕ → Type 0
 BitsTold h set clear =
-    ((f : ℕ) × (Refused (InvalidFlags f) ≡ verify_bits h set clear) × BadBit set clear f)
-    ⊎ (((f : ℕ) × (Refused (FlagSet f) ≡ verify_bits h set clear) × ((g : ℕ) → ¬ (BadBit set clear g)) × BadFlags h set clear f)
-    ⊎ ((Accepted ≡ verify_bits h set clear) × ((g : ℕ) → ¬ (BadBit set clear g)) × ((g : ℕ) → ¬ (BadFlags h set clear g))))
+    ((f : ℕ) × (Err (InvalidFlags f) ≡ verify_bits h set clear) × BadBit set clear f)
+    ⊎ (((f : ℕ) × (Err (FlagSet f) ≡ verify_bits h set clear) × ((g : ℕ) → ¬ (BadBit set clear g)) × BadFlags h set clear f)
+    ⊎ (((Ok tt) ≡ verify_bits h set clear) × ((g : ℕ) → ¬ (BadBit set clear g)) × ((g : ℕ) → ¬ (BadFlags h set clear g))))
 
 module _ (h : Handle) (set clear : ℕ) where
   no_bit : ¬ (HasBit1 set) → ¬ (HasBit1 clear) → (g : ℕ) → ¬ (BadBit set clear g)
@@ -105,7 +105,7 @@ module _ (h : Handle) (set clear : ℕ) where
 -- ---- the call
 
 -- an edit that is carried out is no refusal
-edited-not : (h : Handle) (x : Edit) (s : St) (list : List ℕ) (r : Refusal) → (edit_tables h x s list).answer ≢ modified.Refused r
+edited-not : (h : Handle) (x : Edit) (s : St) (list : List ℕ) (r : Refusal) → (edit_tables h x s list).answer ≢ Err r
 unfolding edit_tables answer_of
 edited-not h x s list r q = by_bool x.live
     (λ on. let z = rw on at q in let o : ◌≡◌ {A = ℕ} 0 1 = cc in omega arith)
@@ -133,11 +133,11 @@ module _ (h : Handle) (s : St) (start end set clear : ℕ) (live : Bool) (list :
   -- refused by the lowest, with pool and list as they were; or nothing is on the slip and it is no refusal
   abbrev Goal : Type 0
   Goal =
-      ((x : Refusal) × (Whole ≡ modifying (modified.Refused x) s list) × LowestGiven Here x)
-      ⊎ (((q : Refusal) → ¬ (Here q)) × ((x : Refusal) → Whole.answer ≢ modified.Refused x))
+      ((x : Refusal) × (Whole ≡ modifying (Err x) s list) × LowestGiven Here x)
+      ⊎ (((q : Refusal) → ¬ (Here q)) × ((x : Refusal) → Whole.answer ≢ Err x))
 
   module _ (fits : shaped h s ≡ true) where
-    refused_by : (x : Refusal) → Refused x ≡ verify_edit h end e → LowestGiven Here x → Goal
+    refused_by : (x : Refusal) → Err x ≡ verify_edit h end e → LowestGiven Here x → Goal
     refused_by x is lowest = inl (x, sym (call-refused h start end set clear live s list fits is x refl), lowest)
 
     one : NoneBelow Here 2
@@ -157,19 +157,19 @@ module _ (h : Handle) (s : St) (start end set clear : ℕ) (live : Bool) (list :
       unfolding ModifySlip
       three plain = none_next Here 3 two plain
 
-      bad_bit : ((f : ℕ) × (Refused (InvalidFlags f) ≡ verify_bits h set clear) × BadBit set clear f) → Goal
+      bad_bit : ((f : ℕ) × (Err (InvalidFlags f) ≡ verify_bits h set clear) × BadBit set clear f) → Goal
       unfolding ModifySlip asked_edit
       bad_bit x =
           refused_by (InvalidFlags x.0) (edit_bits h end e ends x.1 (InvalidFlags x.0) refl) (record { given = x.2; lower = two })
 
-      bad_flags : ((f : ℕ) × (Refused (FlagSet f) ≡ verify_bits h set clear) × ((g : ℕ) → ¬ (BadBit set clear g)) × BadFlags h set clear f)
+      bad_flags : ((f : ℕ) × (Err (FlagSet f) ≡ verify_bits h set clear) × ((g : ℕ) → ¬ (BadBit set clear g)) × BadFlags h set clear f)
           → Goal
       unfolding ModifySlip asked_edit
       bad_flags x =
           refused_by (FlagSet x.0) (edit_bits h end e ends x.1 (FlagSet x.0) refl) (record { given = x.3; lower = three x.2 })
 
       module _
-          (bits : (Accepted ≡ verify_bits h set clear) × ((g : ℕ) → ¬ (BadBit set clear g)) × ((g : ℕ) → ¬ (BadFlags h set clear g))) where
+          (bits : ((Ok tt) ≡ verify_bits h set clear) × ((g : ℕ) → ¬ (BadBit set clear g)) × ((g : ℕ) → ¬ (BadFlags h set clear g))) where
         four : NoneBelow Here 5
         unfolding ModifySlip
         four = none_next Here 4 (three bits.1) bits.2
@@ -182,17 +182,17 @@ module _ (h : Handle) (s : St) (start end set clear : ℕ) (live : Bool) (list :
         unfolding asked_edit
         region_is = edit_region h end e ends bits.0 refl
 
-        backwards : (verify h r ≡ Refused (RegionBackwards r)) × Backwards r → Goal
+        backwards : (verify h r ≡ Err (RegionBackwards r)) × Backwards r → Goal
         unfolding ModifySlip
         backwards x = refused_by (RegionBackwards r) (sym x.0 ∙ region_is) (record { given = (refl, x.1); lower = four })
 
-        beyond : ((a : VirtualAddress) × (verify h r ≡ Refused (AddressRange a)) × (¬ (Backwards r))
+        beyond : ((a : VirtualAddress) × (verify h r ≡ Err (AddressRange a)) × (¬ (Backwards r))
             × BeyondRange h.range h.level r a)
             → Goal
         unfolding ModifySlip
         beyond x = refused_by (AddressRange x.0) (sym x.1 ∙ region_is) (record { given = x.3; lower = five x.2 })
 
-        module _ (stands : (verify h r ≡ Accepted) × RegionStands h r) where
+        module _ (stands : (verify h r ≡ Ok tt) × RegionStands h r) where
           whole_is : modify_sound h e s list ≡ Whole
           whole_is = call-asked h start end set clear live s list fits region_is stands.0
 
@@ -234,12 +234,12 @@ module _ (h : Handle) (s : St) (start end set clear : ℕ) (live : Bool) (list :
             unfolding ModifySlip
             ten room keeps = none_next Here 10 (nine room) keeps
 
-            surveyed : {x : Outcome} → x ≡ verify_survey (free s.ledger) (length list) live v → (y : Refusal) → x ≡ Refused y
+            surveyed : {x : Outcome} → x ≡ verify_survey (free s.ledger) (length list) live v → (y : Refusal) → x ≡ Err y
                 → LowestGiven Here y → Goal
             unfolding asked_edit
             surveyed told y q lowest = inl (y, sym (sound_refused h e s list is refl refl told y q ∙ whole_is), lowest)
 
-            done : Accepted ≡ verify_survey (free s.ledger) (length list) live v → v.splits ≤ free s.ledger
+            done : (Ok tt) ≡ verify_survey (free s.ledger) (length list) live v → v.splits ≤ free s.ledger
                 → (live ≡ true → (v.broken ≡ false) × (v.numbers ≤ length list)) → Goal
             unfolding asked_edit ModifySlip
             done told room rest = inr (

@@ -16,8 +16,6 @@ use Rattle.pool.specs.declared.Handle.{Handle}
 use Rattle.pool.specs.declared.Refusal.{Refusal}
 use Rattle.pool.specs.declared.Refusal.TheVariants.{Shape, End, InvalidFlags, FlagSet, RegionBackwards, AddressRange, Frame, Unsound}
 use Rattle.pool.specs.declared.Refusal.TheVariants.{WantOfRoom}
-use Rattle.pool.specs.declared.Outcome.TheVariants.{Accepted, Refused}
-use Rattle.pool.specs.declared.Counted.TheVariants as counted
 use Rattle.region_verify.specs.Verify.{end_fits, verify}
 use Rattle.map_count_spec.specs.Needed.{needed}
 use Rattle.map_rules.specs.declared.Map.{Map}
@@ -31,6 +29,7 @@ use Rattle.theory_demands.specs.Decided.{misshaped, not_misshaped, unsound, soun
 use Rattle.theory_demands.specs.Decided.{set_told}
 use Rattle.theory_demands.proofs.Decided.{frame_told}
 use Rattle.theory_demands.specs.Refused.{answer-same}
+use Rattle.std.specs.Prelude.{Err, Ok}
 
 -- ---- map: 1 to 9
 
@@ -45,11 +44,11 @@ module _ (h : Handle) (s : St) (start end frame flags constraints : ℕ) where
   m = asked_map start end frame flags constraints
 
   abbrev MapGoal : Type 0
-  MapGoal = Told MapHere counted.Refused (map_call h start end frame flags constraints s).answer
+  MapGoal = Told MapHere Err (map_call h start end frame flags constraints s).answer
 
   -- refused for its arguments, whatever the refusal
   module _ (fits : shaped h s ≡ true) where
-    map-refused : (r : Refusal) → Refused r ≡ verify_map h end m → LowestGiven MapHere r → MapGoal
+    map-refused : (r : Refusal) → Err r ≡ verify_map h end m → LowestGiven MapHere r → MapGoal
     map-refused r e lowest = inl (r, sym (answer-same (call-refused h start end frame flags constraints s fits e r refl)), lowest)
 
     map-one : NoneBelow MapHere 2
@@ -87,7 +86,7 @@ module _ (h : Handle) (s : St) (start end frame flags constraints : ℕ) where
           unfolding MapSlip
           map_five forwards = none_next MapHere 5 map_four (λ r g. forwards (rw (← g.0) g.1))
 
-          map_backwards : (verify h (rounded start end) ≡ Refused (RegionBackwards (rounded start end))) × Backwards (rounded start end)
+          map_backwards : (verify h (rounded start end) ≡ Err (RegionBackwards (rounded start end))) × Backwards (rounded start end)
               → MapGoal
           unfolding MapSlip asked_map
           map_backwards x =
@@ -95,7 +94,7 @@ module _ (h : Handle) (s : St) (start end frame flags constraints : ℕ) where
               (ask_region h end m ends plain from.0 (sym x.0) (RegionBackwards (rounded start end)) refl)
               (record { given = (refl, x.1); lower = map_four })
 
-          map_beyond : ((a : VirtualAddress) × (verify h (rounded start end) ≡ Refused (AddressRange a))
+          map_beyond : ((a : VirtualAddress) × (verify h (rounded start end) ≡ Err (AddressRange a))
               × (¬ (Backwards (rounded start end)))
               × BeyondRange h.range h.level (rounded start end) a) → MapGoal
           unfolding MapSlip asked_map
@@ -103,7 +102,7 @@ module _ (h : Handle) (s : St) (start end frame flags constraints : ℕ) where
               map-refused (AddressRange x.0) (ask_region h end m ends plain from.0 (sym x.1) (AddressRange x.0) refl)
               (record { given = x.3; lower = map_five x.2 })
 
-          module _ (stands : (verify h (rounded start end) ≡ Accepted) × RegionStands h (rounded start end)) where
+          module _ (stands : (verify h (rounded start end) ≡ Ok tt) × RegionStands h (rounded start end)) where
             framed : frame_asked frame ((rounded start end).end.0 - (rounded start end).start.0) ≡ verify_map h end m
             unfolding asked_map
             framed = ask_frame h end m ends plain from.0 (sym stands.0) refl
@@ -113,7 +112,7 @@ module _ (h : Handle) (s : St) (start end frame flags constraints : ℕ) where
             map_six = none_next MapHere 6 (map_five stands.1.forwards) stands.1.within
 
             map_frame : (frame_asked frame ((rounded start end).end.0 - (rounded start end).start.0)
-                ≡ Refused (Frame (record { 0 = frame })))
+                ≡ Err (Frame (record { 0 = frame })))
                 × BadFrame frame (rounded start end)
                 → MapGoal
             unfolding MapSlip
@@ -121,7 +120,7 @@ module _ (h : Handle) (s : St) (start end frame flags constraints : ℕ) where
                 map-refused (Frame (record { 0 = frame })) (sym x.0 ∙ framed) (record { given = (refl, x.1); lower = map_six })
 
             module _
-                (well : (frame_asked frame ((rounded start end).end.0 - (rounded start end).start.0) ≡ Accepted)
+                (well : (frame_asked frame ((rounded start end).end.0 - (rounded start end).start.0) ≡ Ok tt)
                 × (¬ (BadFrame frame (rounded start end)))) where
               map_asked_lem : map_sound h m s ≡ map_call h start end frame flags constraints s
               map_asked_lem = call-asked h start end frame flags constraints s fits framed well.0

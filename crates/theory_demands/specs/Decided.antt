@@ -16,13 +16,13 @@ use Rattle.pool.specs.declared.VaRange.{VaRange}
 use Rattle.pool.specs.declared.VaRange.TheVariants.{Lower, Upper}
 use Rattle.pool.specs.declared.Refusal.{Refusal}
 use Rattle.pool.specs.declared.Refusal.TheVariants.{RegionBackwards, AddressRange}
-use Rattle.pool.specs.declared.Outcome.TheVariants.{Accepted, Refused}
 use Rattle.theory_sound.specs.Clauses.{SoundPool}
 use Rattle.theory_sound.proofs.Decide.{sound_exactly}
 use Rattle.region_verify.specs.Verify.{end_fits, in_range, verify, refused_never, lower_start, lower_end, lower_in, upper_start, upper_in}
 use Rattle.region_verify.specs.Verify.{verify_backwards, verify_forwards}
 use Rattle.look_up.specs.Call.{spanned}
 use Rattle.theory_demands.specs.Slip.{Misshaped, BadEnd, OutsideSet, Backwards, BeyondRange, BeyondSpan}
+use Rattle.std.specs.Prelude.{Err, Ok}
 
 -- 1
 pub misshaped : (h : Handle) (s : St) → shaped h s ≡ false → Misshaped h s
@@ -63,14 +63,14 @@ module _ (h : Handle) (s : St) (fits : shaped h s ≡ true) where
 
 -- 5, 6
 pub range_told : (range : VaRange) (level : ℕ) (r : MemoryRegion)
-    → ((a : VirtualAddress) × (in_range range level r ≡ Refused (AddressRange a)) × BeyondRange range level r a)
-    ⊎ ((in_range range level r ≡ Accepted) × ((a : VirtualAddress) → ¬ (BeyondRange range level r a)))
+    → ((a : VirtualAddress) × (in_range range level r ≡ Err (AddressRange a)) × BeyondRange range level r a)
+    ⊎ ((in_range range level r ≡ Ok tt) × ((a : VirtualAddress) → ¬ (BeyondRange range level r a)))
 unfolding span
 range_told Lower level r = go (le_or (2 ^ 63) r.start.0) (le_or r.end.0 (span level))
   where
     go : (2 ^ 63 ≤ r.start.0) ⊎ (r.start.0 < 2 ^ 63) → (r.end.0 ≤ span level) ⊎ (span level < r.end.0)
-        → ((a : VirtualAddress) × (in_range Lower level r ≡ Refused (AddressRange a)) × BeyondRange Lower level r a)
-        ⊎ ((in_range Lower level r ≡ Accepted) × ((a : VirtualAddress) → ¬ (BeyondRange Lower level r a)))
+        → ((a : VirtualAddress) × (in_range Lower level r ≡ Err (AddressRange a)) × BeyondRange Lower level r a)
+        ⊎ ((in_range Lower level r ≡ Ok tt) × ((a : VirtualAddress) → ¬ (BeyondRange Lower level r a)))
     go (inl l) m = inl (r.start, sym (lower_start Lower level r refl refl l), inl (l, refl))
     go (inr l) (inr m) = inl (r.end, sym (lower_end Lower level r refl refl l m), inr (l, m, refl))
     go (inr l) (inl m) =
@@ -78,8 +78,8 @@ range_told Lower level r = go (le_or (2 ^ 63) r.start.0) (le_or r.end.0 (span le
 range_told Upper level r = go (le_or (2 ^ 64 - span level) r.start.0)
   where
     go : (2 ^ 64 - span level ≤ r.start.0) ⊎ (r.start.0 < 2 ^ 64 - span level)
-        → ((a : VirtualAddress) × (in_range Upper level r ≡ Refused (AddressRange a)) × BeyondRange Upper level r a)
-        ⊎ ((in_range Upper level r ≡ Accepted) × ((a : VirtualAddress) → ¬ (BeyondRange Upper level r a)))
+        → ((a : VirtualAddress) × (in_range Upper level r ≡ Err (AddressRange a)) × BeyondRange Upper level r a)
+        ⊎ ((in_range Upper level r ≡ Ok tt) × ((a : VirtualAddress) → ¬ (BeyondRange Upper level r a)))
     go (inl l) =
         let z = span_high level in
         inr (sym (upper_in Upper level r refl refl (omega arith)), λ a x. ⊎_elim (λ p. omega arith) (λ p. omega arith) x.0)
@@ -92,9 +92,9 @@ pub record RegionStands (h : Handle) (r : MemoryRegion) : Type 0 where
 -- `verify_region` is refused by 5, by 6, or by neither
 abbrev pub RegionTold : Handle → MemoryRegion → Type 0
 RegionTold h r =
-    ((verify h r ≡ Refused (RegionBackwards r)) × Backwards r)
-    ⊎ (((a : VirtualAddress) × (verify h r ≡ Refused (AddressRange a)) × (¬ (Backwards r)) × BeyondRange h.range h.level r a)
-    ⊎ ((verify h r ≡ Accepted) × RegionStands h r))
+    ((verify h r ≡ Err (RegionBackwards r)) × Backwards r)
+    ⊎ (((a : VirtualAddress) × (verify h r ≡ Err (AddressRange a)) × (¬ (Backwards r)) × BeyondRange h.range h.level r a)
+    ⊎ ((verify h r ≡ Ok tt) × RegionStands h r))
 
 pub region-told : (h : Handle) (r : MemoryRegion) → RegionTold h r
 region-told h r = ⊎_elim ahead (λ l. inl (sym (verify_backwards h r l), l)) (le_or r.start.0 r.end.0)
@@ -106,7 +106,7 @@ region-told h r = ⊎_elim ahead (λ l. inl (sym (verify_backwards h r l), l)) (
         (range_told h.range h.level r))
 
 -- no refusal is an acceptance
-pub accepted-not : (r : Refusal) → Accepted ≢ Refused r
+pub accepted-not : (r : Refusal) → (Ok tt) ≢ Err r
 accepted-not r e = refused_never (sym e)
 
 -- 2

@@ -8,8 +8,6 @@ use Rattle.make.specs.Call.{make_call}
 use Rattle.image.specs.Call.{image_call}
 use Rattle.pool.specs.declared.Handle.{Handle}
 use Rattle.pool.specs.declared.Refusal.{Refusal}
-use Rattle.pool.specs.declared.Outcome.TheVariants as outcome
-use Rattle.pool.specs.declared.Counted.TheVariants as counted
 use Rattle.theory_sound.specs.Clauses.{InUse}
 use Rattle.theory_sound.specs.Hanging.{Follows, OneSlot, Leads}
 use Rattle.theory_sound.proofs.Hanging.{reach, one-path, refer_once, root_unreferred, free_unreferred}
@@ -19,7 +17,6 @@ use Rattle.look_up.specs.Call.{look_up_call}
 use Rattle.look_up.specs.declared.Looked.TheVariants as looked
 use Rattle.theory_walk.specs.AsBefore.{walk_of, mapped, shown}
 use Rattle.list.specs.Call.{list_call}
-use Rattle.list.specs.declared.Listed.TheVariants as listed
 use Rattle.theory_map.specs.Terms.{MapArguments, Maps, Valid, InMapRegion, frame_for, RegionsApart, InTurn, none, next, InSpan}
 use Rattle.theory_map.specs.Call.{call-leaves}
 use Rattle.theory_map.specs.Mapped.{map_keeps_sound}
@@ -27,38 +24,39 @@ use Rattle.theory_map.proofs.Mapped.{map_region_walks, map_elsewhere_as_before}
 use Rattle.theory_demands.specs.Slip.{MakeSlip, CheckSlip, LookUpSlip, ImageSlip, ListSlip}
 use Rattle.theory_demands.specs.Told.{LowestGiven, exactly}
 use Rattle.theory_demands.specs.Refused.{make_told, check_told, compact_told, look_up_told, image_told, list_told}
+use Rattle.std.specs.Prelude.{Err}
 
 -- ---- DEMAND 1: "it refuses by number, in a fixed order": refused n exactly when n is the lowest number on the call's slip
 
 -- (`map-told` and its like say more: what is carried, and that nothing on the slip means no refusal.)
 
 pub make_refused_exactly : (h : Handle) (s : St) (n : ℕ)
-    → ((r : Refusal) × ((make_call h s).answer ≡ outcome.Refused r) × (number r ≡ n))
+    → ((r : Refusal) × ((make_call h s).answer ≡ Err r) × (number r ≡ n))
     ↔ ((r : Refusal) × LowestGiven (MakeSlip h s) r × (number r ≡ n))
 make_refused_exactly h s n = exactly (make_told h s) (λ r q e. cc e) n
 
 pub check_refused_exactly : (h : Handle) (s : St) (n : ℕ)
-    → ((r : Refusal) × (check_call h s ≡ outcome.Refused r) × (number r ≡ n))
+    → ((r : Refusal) × (check_call h s ≡ Err r) × (number r ≡ n))
     ↔ ((r : Refusal) × LowestGiven (CheckSlip h s) r × (number r ≡ n))
 check_refused_exactly h s n = exactly (check_told h s) (λ r q e. cc e) n
 
 pub compact_refused_exactly : (h : Handle) (s : St) (n : ℕ)
-    → ((r : Refusal) × ((compact_call h s).answer ≡ counted.Refused r) × (number r ≡ n))
+    → ((r : Refusal) × ((compact_call h s).answer ≡ Err r) × (number r ≡ n))
     ↔ ((r : Refusal) × LowestGiven (CheckSlip h s) r × (number r ≡ n))
 compact_refused_exactly h s n = exactly (compact_told h s) (λ r q e. cc e) n
 
 pub look_up_refused_exactly : (h : Handle) (s : St) (va n : ℕ)
-    → ((r : Refusal) × (look_up_call h s va ≡ looked.Refused r) × (number r ≡ n))
+    → ((r : Refusal) × (look_up_call h s va ≡ Err r) × (number r ≡ n))
     ↔ ((r : Refusal) × LowestGiven (LookUpSlip h s va) r × (number r ≡ n))
 look_up_refused_exactly h s va n = exactly (look_up_told h s va) (λ r q e. cc e) n
 
 pub image_refused_exactly : (h : Handle) (s : St) (k : ℕ) (page : List ℕ) (n : ℕ)
-    → ((r : Refusal) × ((image_call h s k page).answer ≡ outcome.Refused r) × (number r ≡ n))
+    → ((r : Refusal) × ((image_call h s k page).answer ≡ Err r) × (number r ≡ n))
     ↔ ((r : Refusal) × LowestGiven (ImageSlip h s k page) r × (number r ≡ n))
 image_refused_exactly h s k page n = exactly (image_told h s k page) (λ r q e. cc e) n
 
 pub list_refused_exactly : (h : Handle) (s : St) (start end : ℕ) (list : List ℕ) (n : ℕ)
-    → ((r : Refusal) × ((list_call h s start end list).answer ≡ listed.Refused r) × (number r ≡ n))
+    → ((r : Refusal) × ((list_call h s start end list).answer ≡ Err r) × (number r ≡ n))
     ↔ ((r : Refusal) × LowestGiven (ListSlip h s start end list) r × (number r ≡ n))
 list_refused_exactly h s start end list n = exactly (list_told h s start end list) (λ r q e. cc e) n
 

@@ -6,8 +6,6 @@ use Rattle.pool.specs.Number.{used}
 use Rattle.pool.specs.Refuse.{shaped, Out, out}
 use Rattle.make.specs.Call.{make_call, make_accepted}
 use Rattle.pool.specs.declared.Handle.{Handle}
-use Rattle.pool.specs.declared.Outcome.{Outcome}
-use Rattle.pool.specs.declared.Counted.TheVariants.{Tables}
 use Rattle.theory_sound.specs.Clauses.{InUse, SoundPool}
 use Rattle.theory_sound.proofs.Made.{made_sound}
 use Rattle.look_up.specs.Call.{answer, spanned, look_up_call, look_walks}
@@ -22,6 +20,8 @@ use Rattle.theory_modify.proofs.Modified.{modify_keeps_sound, modify_valid_pages
 use Rattle.theory_modify.proofs.Modified.{modify_elsewhere_as_before, modify_tables_in_use}
 use Rattle.theory_modify.proofs.Modified.{modify_list_untouched, modify_list_exactly}
 use Rattle.theory_demands.specs.Decided.{well_shaped}
+use Rattle.std.specs.Prelude.{Ok}
+use Rattle.pool.specs.Refuse.{Outcome}
 
 -- ---- make: "zeroes all words and the ledger, then enters the root"; the pool is sound
 
@@ -39,7 +39,7 @@ look_up_is_the_walk h s va fits spans = sym (look_walks h s va fits spans)
 
 pub record Compacts (h : Handle) (s : St) : Type 0 where
   -- accepted, and it answers the tables in use afterwards;
-  pub answers : compact_call h s ≡ out (Tables (used (compacted h s).ledger)) (compacted h s)
+  pub answers : compact_call h s ≡ out (Ok (used (compacted h s).ledger)) (compacted h s)
   pub sound : SoundPool h (compacted h s)
   -- every address walks to the same frame and flags;
   pub walks : (va : ℕ) → shown (walk_of h (compacted h s) va) ≡ shown (walk_of h s va)

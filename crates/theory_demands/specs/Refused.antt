@@ -16,10 +16,6 @@ use Rattle.pool.specs.declared.Handle.{Handle}
 use Rattle.pool.specs.declared.Refusal.{Refusal}
 use Rattle.pool.specs.declared.Refusal.TheVariants.{Shape, End, RegionBackwards, AddressRange, Unsound}
 use Rattle.pool.specs.declared.Refusal.TheVariants.{Short}
-use Rattle.pool.specs.declared.Outcome.{Outcome}
-use Rattle.pool.specs.declared.Outcome.TheVariants.{Accepted, Refused}
-use Rattle.pool.specs.declared.Counted.{Counted}
-use Rattle.pool.specs.declared.Counted.TheVariants as counted
 use Rattle.theory_sound.specs.Clauses.{SoundPool}
 use Rattle.checker.specs.Call.{check_call, check_misshaped, check_unsound, check_sound}
 use Rattle.compact_spec.specs.Call.{compact_call, call_misshaped as compact-misshaped, call_unsound as compact-unsound, call-compacted}
@@ -32,17 +28,19 @@ use Rattle.list.specs.Call.{Listing, verify_ends, list_lines, list_call}
 use Rattle.list.specs.Call.{list_misshaped, list_region, list_unsound, list_sound_lem, ends_past}
 use Rattle.list.specs.Call.{ends_fit, list_short}
 use Rattle.list.specs.Call.{list_written}
-use Rattle.list.specs.declared.Listed.{Listed}
-use Rattle.list.specs.declared.Listed.TheVariants as listed
 use Rattle.theory_demands.specs.Slip.{Misshaped, BadEnd, Backwards, BeyondRange, BeyondSpan, MakeSlip}
 use Rattle.theory_demands.specs.Slip.{CheckSlip, LookUpSlip, ImageSlip, ListSlip}
 use Rattle.theory_demands.specs.Told.{NoneBelow, Told, none_below, number_range, shape_lowest, none_first, none_next}
 use Rattle.theory_demands.specs.Decided.{misshaped, not_misshaped, unsound, sound, RegionStands, region-told, accepted-not, end_told}
 use Rattle.theory_demands.specs.Decided.{span-told}
+use Rattle.std.specs.Prelude.{Err, Ok}
+use Rattle.pool.specs.Refuse.{Counted}
+use Rattle.list.specs.Call.{Listed}
+use Rattle.pool.specs.Refuse.{Outcome}
 
 -- ---- make: 1
 
-pub make_told : (h : Handle) (s : St) → Told (MakeSlip h s) Refused (make_call h s).answer
+pub make_told : (h : Handle) (s : St) → Told (MakeSlip h s) Err (make_call h s).answer
 unfolding MakeSlip
 make_told h s = by_bool (shaped h s)
     (λ fits. inr (none (not_misshaped h s fits), λ r e. accepted-not r (ap (λ (x : Out Outcome). x.answer) (make_accepted h s fits) ∙ e)))
@@ -65,7 +63,7 @@ check_below h s n one eight =
     (λ l k f g. g)
     (λ l w g. g) (λ l k g. g)
 
-pub check_told : (h : Handle) (s : St) → Told (CheckSlip h s) Refused (check_call h s)
+pub check_told : (h : Handle) (s : St) → Told (CheckSlip h s) Err (check_call h s)
 unfolding CheckSlip
 check_told h s = by_bool (shaped h s)
     (λ fits. by_bool (soundb h s)
@@ -87,7 +85,7 @@ check_told h s = by_bool (shaped h s)
 pub answer-same : {x y : Out Counted} → x ≡ y → x.answer ≡ y.answer
 answer-same e = ap (λ (x : Out Counted). x.answer) e
 
-pub compact_told : (h : Handle) (s : St) → Told (CheckSlip h s) counted.Refused (compact_call h s).answer
+pub compact_told : (h : Handle) (s : St) → Told (CheckSlip h s) Err (compact_call h s).answer
 unfolding CheckSlip
 compact_told h s = by_bool (shaped h s)
     (λ fits. by_bool (soundb h s)
@@ -107,7 +105,7 @@ compact_told h s = by_bool (shaped h s)
 
 -- ---- page image: 1, 11
 
-pub image_told : (h : Handle) (s : St) (k : ℕ) (page : List ℕ) → Told (ImageSlip h s k page) Refused (image_call h s k page).answer
+pub image_told : (h : Handle) (s : St) (k : ℕ) (page : List ℕ) → Told (ImageSlip h s k page) Err (image_call h s k page).answer
 unfolding ImageSlip
 image_told h s k page = by_bool (shaped h s)
     (λ fits. ⊎_elim
@@ -145,7 +143,7 @@ image_told h s k page = by_bool (shaped h s)
 
 -- a walk is refused exactly where it leads away
 answer-told : (w : Walked)
-    → ((w ≡ outside) × (answer w ≡ looked.Refused Unsound)) ⊎ ((w ≢ outside) × ((r : Refusal) → answer w ≢ looked.Refused r))
+    → ((w ≡ outside) × (answer w ≡ Err Unsound)) ⊎ ((w ≢ outside) × ((r : Refusal) → answer w ≢ Err r))
 unfolding answer
 answer-told (hole level flags) =
     inr ((λ e. let z : ◌≡◌ {A = ℕ} 0 1 = cc in omega arith), λ r e. let z : ◌≡◌ {A = ℕ} 0 1 = cc in omega arith)
@@ -155,7 +153,7 @@ answer-told (one_page level flags frame) =
     inr ((λ e. let z : ◌≡◌ {A = ℕ} 0 1 = cc in omega arith), λ r e. let z : ◌≡◌ {A = ℕ} 0 1 = cc in omega arith)
 answer-told outside = inl (refl, refl)
 
-pub look_up_told : (h : Handle) (s : St) (va : ℕ) → Told (LookUpSlip h s va) looked.Refused (look_up_call h s va)
+pub look_up_told : (h : Handle) (s : St) (va : ℕ) → Told (LookUpSlip h s va) Err (look_up_call h s va)
 unfolding LookUpSlip
 look_up_told h s va = by_bool (shaped h s)
     (λ fits. ⊎_elim
@@ -207,7 +205,7 @@ module _ (h : Handle) (s : St) (start end : ℕ) (list : List ℕ) where
   list_answer e = ap (λ (x : Listing). x.answer) e
 
   abbrev ListGoal : Type 0
-  ListGoal = Told ListHere listed.Refused (list_call h s start end list).answer
+  ListGoal = Told ListHere Err (list_call h s start end list).answer
 
   module _ (fits : shaped h s ≡ true) where
     list_one : NoneBelow ListHere 2
@@ -232,7 +230,7 @@ module _ (h : Handle) (s : St) (start end : ℕ) (list : List ℕ) where
       unfolding ListSlip
       list_five forwards = none_next ListHere 5 list_four (λ r g. forwards (rw (← g.0) g.1))
 
-      list_backwards : (verify h (rounded start end) ≡ Refused (RegionBackwards (rounded start end))) × Backwards (rounded start end)
+      list_backwards : (verify h (rounded start end) ≡ Err (RegionBackwards (rounded start end))) × Backwards (rounded start end)
           → ListGoal
       unfolding ListSlip
       list_backwards x = inl (
@@ -243,7 +241,7 @@ module _ (h : Handle) (s : St) (start end : ℕ) (list : List ℕ) where
         record { given = (refl, x.1); lower = list_four },
       )
 
-      list_beyond : ((a : VirtualAddress) × (verify h (rounded start end) ≡ Refused (AddressRange a)) × (¬ (Backwards (rounded start end)))
+      list_beyond : ((a : VirtualAddress) × (verify h (rounded start end) ≡ Err (AddressRange a)) × (¬ (Backwards (rounded start end)))
           × BeyondRange h.range h.level (rounded start end) a) → ListGoal
       unfolding ListSlip
       list_beyond x = inl (
@@ -252,8 +250,8 @@ module _ (h : Handle) (s : St) (start end : ℕ) (list : List ℕ) where
         record { given = x.3; lower = list_five x.2 },
       )
 
-      module _ (stands : (verify h (rounded start end) ≡ Accepted) × RegionStands h (rounded start end)) where
-        region_ok : Accepted ≡ verify_ends h start end
+      module _ (stands : (verify h (rounded start end) ≡ Ok tt) × RegionStands h (rounded start end)) where
+        region_ok : (Ok tt) ≡ verify_ends h start end
         region_ok = sym stands.0 ∙ ends_fit h start end ends refl
 
         list_seven : NoneBelow ListHere 8
@@ -291,7 +289,7 @@ module _ (h : Handle) (s : St) (start end : ℕ) (list : List ℕ) where
           unfolding ListSlip
           list_done room = inr (
             (λ q. none_next ListHere 11 list_ten (λ k g. omega (arith, g.0, g.1)) q (number_range q).1),
-            λ r e. let z : ◌≡◌ {A = Listed} (listed.Lines (length (lines_of h s (rounded start end)))) (listed.Refused r) =
+            λ r e. let z : ◌≡◌ {A = Listed} (Ok (length (lines_of h s (rounded start end)))) (Err r) =
                 list_answer (list_written (lines_of h s (rounded start end)) list room ∙ list_is) ∙ e in let o : ◌≡◌ {A = ℕ} 0 1 =
                 cc in omega arith,
           )

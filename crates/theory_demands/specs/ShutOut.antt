@@ -8,10 +8,10 @@ use Rattle.pool.specs.Refuse.{Out, out}
 use Rattle.pool.specs.declared.Handle.{Handle}
 use Rattle.pool.specs.declared.Refusal.{Refusal}
 use Rattle.pool.specs.declared.Refusal.TheVariants.{WantOfRoom}
-use Rattle.pool.specs.declared.Counted.{Counted}
-use Rattle.pool.specs.declared.Counted.TheVariants.{Tables, Refused}
 use Rattle.theory_map.specs.Terms.{MapArguments, map_answer}
 use Rattle.theory_case_rows.specs.Bench.{handle, fresh_row, word, pool_a, pool_b, RowHolds, A, B, quick}
+use Rattle.std.specs.Prelude.{Err, Ok}
+use Rattle.pool.specs.Refuse.{Counted}
 
 -- case A's call, and case B's
 abbrev call_a : MapArguments
@@ -20,15 +20,15 @@ call_a = record { start = 0; end = 0x4000_0000; frame = 0x4000_0000; flags = 0x4
 abbrev call_b : MapArguments
 call_b = record { start = 0x1000; end = 0x3000; frame = 0x9000; flags = 0x401; constraints = 0 }
 
-case_A : map_answer (handle 1) call_a (fresh_row 1 8) ≡ out (Tables 1) pool_a
+case_A : map_answer (handle 1) call_a (fresh_row 1 8) ≡ out (Ok 1) pool_a
 unfolding RowHolds A
 case_A = quick.0
 
-case_B : map_answer (handle 1) call_b (fresh_row 1 8) ≡ out (Tables 3) (pool_b 8)
+case_B : map_answer (handle 1) call_b (fresh_row 1 8) ≡ out (Ok 3) (pool_b 8)
 unfolding RowHolds B
 case_B = quick.1
 
-case_B_2 : map_answer (handle 1) call_b (fresh_row 1 2) ≡ out (Refused (WantOfRoom 2 1)) (fresh_row 1 2)
+case_B_2 : map_answer (handle 1) call_b (fresh_row 1 2) ≡ out (Err (WantOfRoom 2 1)) (fresh_row 1 2)
 unfolding RowHolds B
 case_B_2 = quick.3
 
@@ -43,25 +43,25 @@ module _ (f : Handle → MapArguments → St → Out Counted) (meets : (h : Hand
   answers h c s e = ap (λ (x : Out Counted). x.answer) (meets h c s ∙ e)
 
   -- such a function does not refuse everything
-  pub not_all_refused : ¬ ((h : Handle) (c : MapArguments) (s : St) → (r : Refusal) × ((f h c s).answer ≡ Refused r))
+  pub not_all_refused : ¬ ((h : Handle) (c : MapArguments) (s : St) → (r : Refusal) × ((f h c s).answer ≡ Err r))
   not_all_refused all =
       let r = all (handle 1) call_a (fresh_row 1 8) in
-      let z : Tables 1 ≡ Refused r.0 = sym (answers (handle 1) call_a (fresh_row 1 8) case_A) ∙ r.1 in
+      let z : Ok 1 ≡ Err r.0 = sym (answers (handle 1) call_a (fresh_row 1 8) case_A) ∙ r.1 in
       let o : ◌≡◌ {A = ℕ} 0 1 = cc in
       omega arith
 
   -- such a function does not accept everything
-  pub not_all_accepted : ¬ ((h : Handle) (c : MapArguments) (s : St) → (n : ℕ) × ((f h c s).answer ≡ Tables n))
+  pub not_all_accepted : ¬ ((h : Handle) (c : MapArguments) (s : St) → (n : ℕ) × ((f h c s).answer ≡ Ok n))
   not_all_accepted all =
       let n = all (handle 1) call_b (fresh_row 1 2) in
-      let z : Refused (WantOfRoom 2 1) ≡ Tables n.0 = sym (answers (handle 1) call_b (fresh_row 1 2) case_B_2) ∙ n.1 in
+      let z : Err (WantOfRoom 2 1) ≡ Ok n.0 = sym (answers (handle 1) call_b (fresh_row 1 2) case_B_2) ∙ n.1 in
       let o : ◌≡◌ {A = ℕ} 0 1 = cc in
       omega arith
 
   -- such a function does not give one constant answer
   pub not_constant : (a : Counted) → ¬ ((h : Handle) (c : MapArguments) (s : St) → (f h c s).answer ≡ a)
   not_constant a all =
-      let z : Tables 1 ≡ Tables 3 =
+      let z : Ok 1 ≡ Ok 3 =
       sym (answers (handle 1) call_a (fresh_row 1 8) case_A) ∙ all (handle 1) call_a (fresh_row 1 8)
       ∙ sym (all (handle 1) call_b (fresh_row 1 8))
       ∙ answers (handle 1) call_b (fresh_row 1 8) case_B in

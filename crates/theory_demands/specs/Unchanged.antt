@@ -14,16 +14,10 @@ use Rattle.make.specs.Call.{make_call, make_refused, make_accepted}
 use Rattle.image.specs.Call.{Imaged, imaged, image_call, image_misshaped, image_no_table, image_short, image_written}
 use Rattle.pool.specs.declared.Handle.{Handle}
 use Rattle.pool.specs.declared.Refusal.{Refusal}
-use Rattle.pool.specs.declared.Outcome.{Outcome}
-use Rattle.pool.specs.declared.Outcome.TheVariants.{Accepted, Refused}
-use Rattle.pool.specs.declared.Counted.{Counted}
-use Rattle.pool.specs.declared.Counted.TheVariants as counted
 use Rattle.compact_spec.specs.Call.{compact_call, call_misshaped as compact-misshaped, call_unsound as compact-unsound, call-compacted}
 use Rattle.list_lines.specs.Lines.{lines_of}
 use Rattle.list.specs.Call.{Listing, listing, verify_ends, list_lines, list_call, list_misshaped, list_region, list_unsound, list_sound_lem}
 use Rattle.list.specs.Call.{list_short, list_written}
-use Rattle.list.specs.declared.Listed.{Listed}
-use Rattle.list.specs.declared.Listed.TheVariants as listed
 use Rattle.map_count_spec.specs.Needed.{needed}
 use Rattle.map_rules.specs.declared.Map.{Map}
 use Rattle.modify.specs.declared.Modified.{Modified}
@@ -32,6 +26,10 @@ use Rattle.map_verify.specs.Verify.{asked_map, verify_map}
 use Rattle.map_spec.specs.Call.{put_down, map_sound, map_call, sound_not}
 use Rattle.map_spec.specs.Call.{sound_full, sound_mapped, call_misshaped, call-refused, call-asked}
 use Rattle.theory_demands.specs.Decided.{accepted-not}
+use Rattle.std.specs.Prelude.{Err, Ok}
+use Rattle.pool.specs.Refuse.{Counted}
+use Rattle.list.specs.Call.{Listed}
+use Rattle.pool.specs.Refuse.{Outcome}
 
 -- ---- NO SECOND ANSWER: what meets a contract is what its definition gives, answer and all that was lent together
 
@@ -64,12 +62,12 @@ stays : {B : Type 0} {x : Out B} {s : St} {a b : B} → out a s ≡ x → x.answ
 stays {B} {x} {s} e q = sym e ∙ ap (λ (a : B). out a s) (ap (λ (y : Out B). y.answer) e ∙ q)
 
 module _ (h : Handle) (s : St) {r : Refusal} where
-  pub make_leaves : (make_call h s).answer ≡ Refused r → make_call h s ≡ out (Refused r) s
+  pub make_leaves : (make_call h s).answer ≡ Err r → make_call h s ≡ out (Err r) s
   make_leaves q = by_bool (shaped h s)
       (λ fits. absurd (accepted-not r (ap (λ (x : Out Outcome). x.answer) (make_accepted h s fits) ∙ q)))
       (λ fails. stays (make_refused h s fails) q)
 
-  pub compact_leaves : (compact_call h s).answer ≡ counted.Refused r → compact_call h s ≡ out (counted.Refused r) s
+  pub compact_leaves : (compact_call h s).answer ≡ Err r → compact_call h s ≡ out (Err r) s
   compact_leaves q = by_bool (shaped h s)
       (λ fits. by_bool (soundb h s)
       (λ is. absurd
@@ -79,10 +77,10 @@ module _ (h : Handle) (s : St) {r : Refusal} where
       (λ fails. stays (compact-misshaped h s fails) q)
 
 module _ (h : Handle) (s : St) (k : ℕ) (page : List ℕ) {r : Refusal} where
-  page_stays : {x : Imaged} {a : Outcome} → imaged a page ≡ x → x.answer ≡ Refused r → x ≡ imaged (Refused r) page
+  page_stays : {x : Imaged} {a : Outcome} → imaged a page ≡ x → x.answer ≡ Err r → x ≡ imaged (Err r) page
   page_stays e q = sym e ∙ ap (λ (a : Outcome). imaged a page) (ap (λ (y : Imaged). y.answer) e ∙ q)
 
-  pub image_leaves : (image_call h s k page).answer ≡ Refused r → image_call h s k page ≡ imaged (Refused r) page
+  pub image_leaves : (image_call h s k page).answer ≡ Err r → image_call h s k page ≡ imaged (Err r) page
   image_leaves q = by_bool (shaped h s)
       (λ fits. ⊎_elim
       (λ past. page_stays (image_no_table h s k page fits past) q)
@@ -94,15 +92,15 @@ module _ (h : Handle) (s : St) (k : ℕ) (page : List ℕ) {r : Refusal} where
       (λ fails. page_stays (image_misshaped h s k page fails) q)
 
 module _ (h : Handle) (s : St) (start end : ℕ) (list : List ℕ) {r : Refusal}
-    (q : (list_call h s start end list).answer ≡ listed.Refused r) where
-  list_stays : {a : Listed} → listing a list ≡ list_call h s start end list → list_call h s start end list ≡ listing (listed.Refused r) list
+    (q : (list_call h s start end list).answer ≡ Err r) where
+  list_stays : {a : Listed} → listing a list ≡ list_call h s start end list → list_call h s start end list ≡ listing (Err r) list
   list_stays e = sym e ∙ ap (λ (a : Listed). listing a list) (ap (λ (y : Listing). y.answer) e ∙ q)
 
   list_asked : shaped h s ≡ true → (x : Outcome) → x ≡ verify_ends h start end
-      → list_call h s start end list ≡ listing (listed.Refused r) list
+      → list_call h s start end list ≡ listing (Err r) list
   unfolding lines_of
-  list_asked fits (Refused x) e = list_stays (list_region h s start end list fits e x refl)
-  list_asked fits Accepted e = by_bool (soundb h s)
+  list_asked fits (Err x) e = list_stays (list_region h s start end list fits e x refl)
+  list_asked fits (Ok tt) e = by_bool (soundb h s)
       (λ is.
       let lines = lines_of h s (rounded start end) in
       let whole : list_lines lines list ≡ list_call h s start end list = list_sound_lem h s start end list fits e refl is refl in
@@ -114,21 +112,21 @@ module _ (h : Handle) (s : St) (start end : ℕ) (list : List ℕ) {r : Refusal}
       (le_or (4 * length lines) (length list)))
       (λ un. list_stays (list_unsound h s start end list fits e refl un))
 
-  pub list_leaves : list_call h s start end list ≡ listing (listed.Refused r) list
+  pub list_leaves : list_call h s start end list ≡ listing (Err r) list
   list_leaves =
       by_bool (shaped h s) (λ fits. list_asked fits (verify_ends h start end) refl)
       (λ fails. list_stays (list_misshaped h s start end list fails))
 
 module _ (h : Handle) (s : St) (start end frame flags constraints : ℕ) {r : Refusal}
-    (q : (map_call h start end frame flags constraints s).answer ≡ counted.Refused r) where
+    (q : (map_call h start end frame flags constraints s).answer ≡ Err r) where
   abbrev m : Map
   m = asked_map start end frame flags constraints
 
   map_asked_lem : shaped h s ≡ true → (x : Outcome) → x ≡ verify_map h end m
-      → map_call h start end frame flags constraints s ≡ out (counted.Refused r) s
+      → map_call h start end frame flags constraints s ≡ out (Err r) s
   unfolding put_down
-  map_asked_lem fits (Refused x) e = stays (call-refused h start end frame flags constraints s fits e x refl) q
-  map_asked_lem fits Accepted e =
+  map_asked_lem fits (Err x) e = stays (call-refused h start end frame flags constraints s fits e x refl) q
+  map_asked_lem fits (Ok tt) e =
       let whole : map_sound h m s ≡ map_call h start end frame flags constraints s =
       call-asked h start end frame flags constraints s fits e refl in
       by_bool (soundb h s)
@@ -140,7 +138,7 @@ module _ (h : Handle) (s : St) (start end frame flags constraints : ℕ) {r : Re
       (le_or (needed (3 - h.level) h s 0 m) (free s.ledger)))
       (λ un. stays (sound_not h m s un ∙ whole) q)
 
-  pub map-leaves : map_call h start end frame flags constraints s ≡ out (counted.Refused r) s
+  pub map-leaves : map_call h start end frame flags constraints s ≡ out (Err r) s
   map-leaves =
       by_bool (shaped h s) (λ fits. map_asked_lem fits (verify_map h end m) refl)
       (λ fails. stays (call_misshaped h start end frame flags constraints s fails) q)

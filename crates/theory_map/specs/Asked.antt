@@ -19,8 +19,6 @@ use Rattle.pool.specs.State.{St}
 use Rattle.pool.specs.Refuse.{number, first_refused, shaped, Shaped, shaped-says}
 use Rattle.pool.specs.declared.Refusal.{Refusal}
 use Rattle.pool.specs.declared.Refusal.TheVariants.{Shape, Unsound, End, InvalidFlags, FlagSet, RegionBackwards, AddressRange, Frame}
-use Rattle.pool.specs.declared.Outcome.{Outcome}
-use Rattle.pool.specs.declared.Outcome.TheVariants.{Accepted, Refused}
 use Rattle.region_verify.specs.Verify.{end_fits, in_range, verify, verified_forwards, RegionInSpan, verified_span}
 use Rattle.map_rules.specs.declared.Map.{Map}
 use Rattle.map_rules.specs.Fit.{Fit}
@@ -34,6 +32,8 @@ use Rattle.theory_map.specs.Terms.{root_of}
 use Rattle.theory_map.specs.Leaf.{set_below}
 use Rattle.theory_map.specs.Stand.{Allowed}
 use Rattle.theory_map.specs.Pieces.{Area}
+use Rattle.std.specs.Prelude.{Err, Ok}
+use Rattle.pool.specs.Refuse.{Outcome}
 
 -- ---- a region that refusal 6 leaves lies in the root's span
 
@@ -57,7 +57,7 @@ unfolding align_up
 aligned_below a = by_bool (ltb (up a 4096) (2 ^ 64)) (λ e. rw e (ltb-true (up a 4096) (2 ^ 64) e)) (λ e. rw e (omega arith))
 
 -- a region that is rounded and verified, with its frame, in the root's table
-pub pages_inside : (h : Handle) (start end frame : ℕ) → h.level ≤ 3 → verify h (rounded start end) ≡ Accepted → frame % 4096 ≡ 0
+pub pages_inside : (h : Handle) (start end frame : ℕ) → h.level ≤ 3 → verify h (rounded start end) ≡ Ok tt → frame % 4096 ≡ 0
     → let depth = 3 - h.level in let r = rounded start end in
     Inside (first (suc depth) (root_of h.range depth)) (pages_in (suc depth)) r.start.0 r.end.0 frame
 unfolding rounded size_at
@@ -85,7 +85,7 @@ module _ (h : Handle) (start end frame flags constraints : ℕ) where
   abbrev m : Map
   m = asked_map start end frame flags constraints
 
-  module _ (ok : verify_map h end m ≡ Accepted) where
+  module _ (ok : verify_map h end m ≡ Ok tt) where
     pub asked_allowed : Allowed h m.flags
     asked_allowed = let p = passes h end m ok in flags_allowed h m.flags p.from p.plain
 
@@ -103,48 +103,48 @@ module _ (h : Handle) (start end frame flags constraints : ℕ) where
 -- ---- refusals 2 to 7 are none of the later ones
 
 abbrev pub Early : Outcome → Type 0
-Early Accepted = Unit {0}
-Early (Refused r) = number r < 8
+Early (Ok tt) = Unit {0}
+Early (Err r) = number r < 8
 
 pub cond_early : (b : Bool) (x y : Outcome) → Early x → Early y → Early (cond b x y)
 cond_early true x y a e = a
 cond_early false x y a e = e
 
-pub first_early : (x y : Outcome) → Early x → Early y → Early (first_refused Refused x y)
+pub first_early : (x y : Outcome) → Early x → Early y → Early (first_refused Err x y)
 unfolding first_refused
-first_early Accepted y a e = e
-first_early (Refused r) y a e = a
+first_early (Ok tt) y a e = e
+first_early (Err r) y a e = a
 
 range_early : (range : VaRange) (level : ℕ) (r : MemoryRegion) → Early (in_range range level r)
 unfolding in_range
 range_early Lower level r =
     let ends : Bool = ltb (span level) r.end.0 in
-    cond_early (leb (2 ^ 63) r.start.0) (Refused (AddressRange r.start)) (cond ends (Refused (AddressRange r.end)) Accepted)
+    cond_early (leb (2 ^ 63) r.start.0) (Err (AddressRange r.start)) (cond ends (Err (AddressRange r.end)) (Ok tt))
     (lit< tt)
-    (cond_early ends (Refused (AddressRange r.end)) Accepted (lit< tt) tt)
+    (cond_early ends (Err (AddressRange r.end)) (Ok tt) (lit< tt) tt)
 range_early Upper level r =
-    cond_early (ltb r.start.0 (2 ^ 63) || ltb r.start.0 (2 ^ 64 - span level)) (Refused (AddressRange r.start)) Accepted
+    cond_early (ltb r.start.0 (2 ^ 63) || ltb r.start.0 (2 ^ 64 - span level)) (Err (AddressRange r.start)) (Ok tt)
     (lit< tt) tt
 
 pub verify_early : (h : Handle) (r : MemoryRegion) → Early (verify h r)
 unfolding verify
 verify_early h r =
-    cond_early (ltb r.end.0 r.start.0) (Refused (RegionBackwards r)) (in_range h.range h.level r) (lit< tt)
+    cond_early (ltb r.end.0 r.start.0) (Err (RegionBackwards r)) (in_range h.range h.level r) (lit< tt)
     (range_early h.range h.level r)
 
 frame_early : (frame length : ℕ) → Early (frame_asked frame length)
 unfolding frame_asked
 frame_early frame length =
-    cond_early (eqb (frame % 4096) 0 && leb (frame + length) (2 ^ 48)) Accepted (Refused (Frame (record { 0 = frame }))) tt (lit< tt)
+    cond_early (eqb (frame % 4096) 0 && leb (frame + length) (2 ^ 48)) (Ok tt) (Err (Frame (record { 0 = frame }))) tt (lit< tt)
 
 pub asked_early : (h : Handle) (end : ℕ) (m : Map) → Early (verify_map h end m)
 unfolding verify_map
 asked_early h end m =
-    let last : Outcome = first_refused Refused (verify h m.region) (frame_asked m.frame.0 (m.region.end.0 - m.region.start.0)) in
-    let flags : Outcome = cond (only (flag_set h) m.flags) last (Refused (FlagSet m.flags)) in
-    cond_early (end_fits end) (cond (eqb (m.flags / 2 % 2) 1) (Refused (InvalidFlags m.flags)) flags) (Refused (End end))
-    (cond_early (eqb (m.flags / 2 % 2) 1) (Refused (InvalidFlags m.flags)) flags (lit< tt)
-    (cond_early (only (flag_set h) m.flags) last (Refused (FlagSet m.flags))
+    let last : Outcome = first_refused Err (verify h m.region) (frame_asked m.frame.0 (m.region.end.0 - m.region.start.0)) in
+    let flags : Outcome = cond (only (flag_set h) m.flags) last (Err (FlagSet m.flags)) in
+    cond_early (end_fits end) (cond (eqb (m.flags / 2 % 2) 1) (Err (InvalidFlags m.flags)) flags) (Err (End end))
+    (cond_early (eqb (m.flags / 2 % 2) 1) (Err (InvalidFlags m.flags)) flags (lit< tt)
+    (cond_early (only (flag_set h) m.flags) last (Err (FlagSet m.flags))
     (first_early (verify h m.region) (frame_asked m.frame.0 (m.region.end.0 - m.region.start.0)) (verify_early h m.region)
     (frame_early m.frame.0 (m.region.end.0 - m.region.start.0)))
     (lit< tt)))
@@ -155,21 +155,21 @@ asked_early h end m =
 -- `refused` is the call's answer for a refusal, `verdict` what refusals 2 to 7 say
 pub record Answers (h : Handle) (s : St) {X : Type 0} (refused : Refusal → X) (verdict : Outcome) (answer : X) : Type 0 where
   pub misshaped : shaped h s ≡ false → refused Shape ≡ answer
-  pub stopped : shaped h s ≡ true → (r : Refusal) → verdict ≡ Refused r → refused r ≡ answer
-  pub unsound : shaped h s ≡ true → verdict ≡ Accepted → soundb h s ≡ false → refused Unsound ≡ answer
+  pub stopped : shaped h s ≡ true → (r : Refusal) → verdict ≡ Err r → refused r ≡ answer
+  pub unsound : shaped h s ≡ true → verdict ≡ Ok tt → soundb h s ≡ false → refused Unsound ≡ answer
   pub early : Early verdict
 
 -- what is answered otherwise than by refusals 1 to 8 was left by them
 pub left_by : {h : Handle} {s : St} {X : Type 0} {refused : Refusal → X} {verdict : Outcome} {answer : X}
     → Answers h s refused verdict answer → ((r : Refusal) → number r < 9 → refused r ≡ answer → ⊥)
-    → Shaped h s × (verdict ≡ Accepted) × SoundPool h s
+    → Shaped h s × (verdict ≡ Ok tt) × SoundPool h s
 left_by {h} {s} {refused = refused} {verdict = verdict} {answer = answer} answers later =
     by_bool (shaped h s) (λ e. asks e verdict refl answers.early) (λ e. absurd (later Shape (lit< tt) (answers.misshaped e)))
   where
-    asks : shaped h s ≡ true → (y : Outcome) → verdict ≡ y → Early y → Shaped h s × (verdict ≡ Accepted) × SoundPool h s
-    asks e Accepted ok early =
+    asks : shaped h s ≡ true → (y : Outcome) → verdict ≡ y → Early y → Shaped h s × (verdict ≡ Ok tt) × SoundPool h s
+    asks e (Ok tt) ok early =
         let shape = shaped-says h s (rw e tt) in
         by_bool (soundb h s)
         (λ sound. (shape, ok, decide_sound shape (rw sound tt)))
         (λ unsound. absurd (later Unsound (lit< tt) (answers.unsound e ok unsound)))
-    asks e (Refused r) q early = absurd (later r (omega arith) (answers.stopped e r q))
+    asks e (Err r) q early = absurd (later r (omega arith) (answers.stopped e r q))

@@ -10,9 +10,6 @@ use Rattle.pool.specs.Sound.{soundb}
 use Rattle.pool.specs.declared.Handle.{Handle}
 use Rattle.pool.specs.declared.Refusal.{Refusal}
 use Rattle.pool.specs.declared.Refusal.TheVariants.{WantOfRoom}
-use Rattle.pool.specs.declared.Outcome.TheVariants.{Refused}
-use Rattle.pool.specs.declared.Counted.{Counted}
-use Rattle.pool.specs.declared.Counted.TheVariants as counted
 use Rattle.map_rules.specs.declared.Map.{Map}
 use Rattle.map_count_spec.specs.Needed.{needed}
 use Rattle.map_put.specs.Put.{map_range}
@@ -35,6 +32,8 @@ use Rattle.theory_map.specs.Pieces.{done_table, takes_table, Area}
 use Rattle.theory_map.specs.Range.{range_works}
 use Rattle.theory_map.specs.Need.{needed_is}
 use Rattle.theory_map.specs.Asked.{asked_allowed, asked_area, asked_early, left_by}
+use Rattle.std.specs.Prelude.{Err, Ok}
+use Rattle.pool.specs.Refuse.{Counted}
 
 -- the state that an accepted call leaves
 abbrev pub state_after : Handle → MapArguments → St → St
@@ -89,7 +88,7 @@ module _ {h : Handle} {c : MapArguments} {s : St} (passed : MapPassed h c s) whe
 -- ---- what the call answers
 
 -- no refusal is an acceptance
-not-tables : {r : Refusal} {s s' : St} {n : ℕ} {x : Out Counted} → refused r s ≡ x → x ≡ out (counted.Tables n) s' → ⊥
+not-tables : {r : Refusal} {s s' : St} {n : ℕ} {x : Out Counted} → refused r s ≡ x → x ≡ out (Ok n) s' → ⊥
 not-tables e q = let p = ap (λ (y : Out Counted). y.answer) (e ∙ q) in let z : ◌≡◌ {A = ℕ} 0 1 = cc in omega arith
 
 module _ {h : Handle} {c : MapArguments} {s : St} (passed : MapPassed h c s) where
@@ -107,7 +106,7 @@ module _ {h : Handle} {c : MapArguments} {s : St} (passed : MapPassed h c s) whe
 
   -- accepted
   pub call-maps : made_by h c s ≤ free s.ledger
-      → map_answer h c s ≡ out (counted.Tables (used (state_after h c s).ledger)) (state_after h c s)
+      → map_answer h c s ≡ out (Ok (used (state_after h c s).ledger)) (state_after h c s)
   call-maps room =
       sym (put_down_lem h (map_asked c) s refl refl ∙ sound_mapped h (map_asked c) s sound_is (sym (needed-made passed)) refl room
       ∙ asked_is)
@@ -130,11 +129,11 @@ passed_by h c s {x} is later =
 
 -- ---- refused 9
 
-answer_of_lem : {r : Refusal} {s s' : St} {y : Counted} → refused r s ≡ out y s' → counted.Refused r ≡ y
+answer_of_lem : {r : Refusal} {s s' : St} {y : Counted} → refused r s ≡ out y s' → Err r ≡ y
 answer_of_lem e = ap (λ (x : Out Counted). x.answer) e
 
 module _ (h : Handle) (c : MapArguments) (s : St) {a b : ℕ} {s' : St}
-    (is : map_answer h c s ≡ out (counted.Refused (WantOfRoom a b)) s') where
+    (is : map_answer h c s ≡ out (Err (WantOfRoom a b)) s') where
   pub full_passed : MapPassed h c s
   full_passed = passed_by h c s is (λ r early e.
       let same : r ≡ WantOfRoom a b = let p = answer_of_lem e in cc in
@@ -169,7 +168,7 @@ module _ {h : Handle} {c : MapArguments} {s s' : St} {n : ℕ} (maps : Maps h c 
 
   pub call-count : n ≡ used s'.ledger
   call-count =
-      let p : counted.Tables n ≡ counted.Tables (used (state_after h c s).ledger) =
+      let p : Ok n ≡ Ok (used (state_after h c s).ledger) =
       ap (λ (x : Out Counted). x.answer) (sym maps.answers ∙ call-maps call_passed call_room) in
       let e : n ≡ used (state_after h c s).ledger = cc in
       e ∙ ap (λ (x : St). used x.ledger) (sym call_state)

@@ -8,7 +8,6 @@ use Rattle.address_slot.specs.Slot.{entry_index}
 use Rattle.pool.specs.State.{St, tables, word_at, store_at}
 use Rattle.pool.specs.Number.{free}
 use Rattle.pool.specs.declared.Handle.{Handle}
-use Rattle.pool.specs.declared.Found.TheVariants.{At}
 use Rattle.pool_table.specs.Table.{taken, free_tree}
 use Rattle.map_rules.specs.declared.Map.{Map}
 use Rattle.map_rules.specs.declared.Rule.TheVariants.{Down}
@@ -36,6 +35,7 @@ use Rattle.theory_map.specs.Moves.{StepWithin, WorkedWithin, kept, stored, dropp
 use Rattle.theory_map.specs.Down.{opens}
 use Rattle.theory_map.specs.Pieces.{done_to, takes, done_table, takes_table, done_keep, done_write, done_down, takes-down, Area}
 use Rattle.theory_map.specs.Pieces.{piece_area}
+use Rattle.std.specs.Prelude.{Some}
 
 -- what opening a leaf or a table takes
 pub takes-split : (m : Map) (depth w : ℕ) → says_of m (suc depth) (leaf w) ≡ goDown
@@ -117,7 +117,7 @@ module _ {h : Handle} (placed : Placed h) where
     last = omega (arith, R.low)
 
     -- on in table c of the state t
-    goes_in : {c : ℕ} {t : St} → rule_of l m x ≡ Down → taken (At c) t ≡ below h k l j s → map_range depth h c m t ≡ map_step h k l m s
+    goes_in : {c : ℕ} {t : St} → rule_of l m x ≡ Down → taken (Some c) t ≡ below h k l j s → map_range depth h c m t ≡ map_step h k l m s
     goes_in {c} {t} r found = ap (λ (d : ℕ). map_range d h c m t) (sym last) ∙ chunk-into h k l m s refl refl r found c refl high
 
     -- ---- down, after a split if there is no table

@@ -5,7 +5,6 @@ use Rattle.std.proofs.Common.{sym, ap, subst, ◌∙◌, arith}
 use Rattle.pool.specs.State.{St, word_at}
 use Rattle.pool.specs.Number.{lowest_free, free}
 use Rattle.pool.specs.declared.Handle.{Handle}
-use Rattle.pool.specs.declared.Found.TheVariants.{At}
 use Rattle.pool_table.specs.Table.{taken}
 use Rattle.map_rules.specs.Rules.{fill_of}
 use Rattle.map_split.specs.Split.{below, split_is, below-table, below_split}
@@ -19,6 +18,7 @@ use Rattle.theory_sound.specs.Slot.{slot_shows, SlotHolds, holds_table, holds_le
 use Rattle.theory_sound.proofs.Slot.{holds}
 use Rattle.theory_tree.specs.Visit.{opened, splits, fill_tree}
 use Rattle.theory_map.specs.Moves.{StepWithin, WorkedWithin, entered, after, taken_ready, taken_shows, split}
+use Rattle.std.specs.Prelude.{Some}
 
 splits_leaf : (depth w : ℕ) → (splits (leaf w) ≡ 1) × (opened depth (leaf w) ≡ fill_tree depth w)
 unfolding splits opened
@@ -33,7 +33,7 @@ module _ {h : Handle} (placed : Placed h) where
   pub record Opens (s : St) (depth k i : ℕ) : Type 0 where
     pub table : ℕ
     pub state : St
-    pub found : taken (At table) state ≡ below h k (3 - suc depth) i s
+    pub found : taken (Some table) state ≡ below h k (3 - suc depth) i s
     pub ready : Ready h state depth table
     pub shows : tree_from h state depth table ≡ opened depth (slot_shows h s (suc depth) k i)
     pub room : free s.ledger ≡ splits (slot_shows h s (suc depth) k i) + free state.ledger
@@ -66,7 +66,7 @@ module _ {h : Handle} (placed : Placed h) where
             let one : splits (slot_shows h s (suc depth) k i) ≡ 1 = ap splits plain.shows ∙ (splits_leaf depth (word_at s k i)).0 in
             new (free_found s.ledger (omega arith)) one
           where
-            new : (f : ℕ) × (lowest_free s.ledger ≡ At f) → splits (slot_shows h s (suc depth) k i) ≡ 1 → Opens s depth k i
+            new : (f : ℕ) × (lowest_free s.ledger ≡ Some f) → splits (slot_shows h s (suc depth) k i) ≡ 1 → Opens s depth k i
             new (f, found) one =
                 let words = fill_of level (word_at s k i) in
                 record {

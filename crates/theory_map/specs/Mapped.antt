@@ -10,8 +10,6 @@ use Rattle.pool.specs.Number.{used, free}
 use Rattle.pool.specs.Refuse.{Out, out}
 use Rattle.pool.specs.declared.Handle.{Handle}
 use Rattle.pool.specs.declared.Refusal.TheVariants.{WantOfRoom}
-use Rattle.pool.specs.declared.Counted.{Counted}
-use Rattle.pool.specs.declared.Counted.TheVariants.{Refused}
 use Rattle.map_verify.specs.Verify.{asked_map}
 use Rattle.theory_sound.specs.Clauses.{SoundPool}
 use Rattle.theory_sound.specs.Codec.{root_tree}
@@ -24,6 +22,8 @@ use Rattle.theory_map.specs.Terms.{made_by, freed_by}
 use Rattle.theory_map.specs.Call.{state_after, call_full, call-maps, full_passed, full_more, call_passed}
 use Rattle.theory_map.specs.Call.{call_room, call-leaves}
 use Rattle.theory_map.specs.Order.{turn_enough}
+use Rattle.std.specs.Prelude.{Err}
+use Rattle.pool.specs.Refuse.{Counted}
 
 -- ---- DEMAND 2
 
@@ -41,7 +41,7 @@ module _ {h : Handle} {c : MapArguments} {s s' : St} {n : ℕ} (maps : Maps h c 
 
 module _ (h : Handle) (c : MapArguments) (s : St) where
   -- refusal 9 is given exactly when none of refusals 1 to 8 is, and more tables are made than are free at entry;
-  pub map_refused_9_exactly : ((a b : ℕ) × (s' : St) × (map_answer h c s ≡ out (Refused (WantOfRoom a b)) s'))
+  pub map_refused_9_exactly : ((a b : ℕ) × (s' : St) × (map_answer h c s ≡ out (Err (WantOfRoom a b)) s'))
       ↔ (MapPassed h c s × (free s.ledger < made_by h c s))
   map_refused_9_exactly = (
     λ at. (full_passed h c s at.3, full_more h c s at.3),
@@ -49,11 +49,11 @@ module _ (h : Handle) (c : MapArguments) (s : St) where
   )
 
   -- refusal 9 carries both numbers, and leaves the state as it was;
-  pub map_refusal_9_carries : {a b : ℕ} {s' : St} → map_answer h c s ≡ out (Refused (WantOfRoom a b)) s'
+  pub map_refusal_9_carries : {a b : ℕ} {s' : St} → map_answer h c s ≡ out (Err (WantOfRoom a b)) s'
       → (a ≡ made_by h c s) × (b ≡ free s.ledger) × (s' ≡ s)
   map_refusal_9_carries {a} {b} is =
       let same = sym is ∙ call_full (full_passed h c s is) (full_more h c s is) in
-      let p : Refused (WantOfRoom a b) ≡ Refused (WantOfRoom (made_by h c s) (free s.ledger)) =
+      let p : Err (WantOfRoom a b) ≡ Err (WantOfRoom (made_by h c s) (free s.ledger)) =
       ap (λ (x : Out Counted). x.answer) same in
       (let e : a ≡ made_by h c s = cc in e, let e : b ≡ free s.ledger = cc in e, ap (λ (x : Out Counted). x.state) same)
 

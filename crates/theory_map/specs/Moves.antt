@@ -6,7 +6,6 @@ use Rattle.std.proofs.Math.Nat.{ℕ_set}
 use Rattle.pool.specs.State.{St, word_at, number_at, store_at}
 use Rattle.pool.specs.Number.{level_of, number_of, lowest_free, lowest_found, free, level_back}
 use Rattle.pool.specs.declared.Handle.{Handle}
-use Rattle.pool.specs.declared.Found.TheVariants.{At}
 use Rattle.pool_table.specs.Table.{take_at, free_tree}
 use Rattle.map_rules.specs.Rules.{fill_of}
 use Rattle.theory_forest.specs.Tree.{Tree, leaf, node, tree_at_node}
@@ -31,6 +30,7 @@ use Rattle.theory_tree.specs.Visit.{fill_tree}
 use Rattle.theory_map.specs.Leaf.{leaf_fine, leaf_from}
 use Rattle.theory_map.specs.Rule.{fill_length, fill_at, fill_tree_lem}
 use Rattle.theory_map.specs.Stand.{fill_stands}
+use Rattle.std.specs.Prelude.{Some}
 
 -- what refusal 1 asks of a handle is one fact
 pub placed_one : {h : Handle} (a b : Placed h) → a ≡ b
@@ -84,7 +84,7 @@ module _ {h : Handle} (placed : Placed h) where
     }
 
     -- rule 5 at a leaf: the lowest free table f is taken, filled and linked, and the work is done there
-    module _ (old : ¬ (TableWord (level_at s k) (word_at s k i))) (f : ℕ) (found : lowest_free s.ledger ≡ At f) where
+    module _ (old : ¬ (TableWord (level_at s k) (word_at s k i))) (f : ℕ) (found : lowest_free s.ledger ≡ Some f) where
       abbrev w : ℕ
       w = word_at s k i
 

@@ -9,9 +9,6 @@ use Rattle.pool.specs.Refuse.{Shaped, Out, out}
 use Rattle.pool.specs.declared.Handle.{Handle}
 use Rattle.pool.specs.declared.VaRange.{VaRange}
 use Rattle.pool.specs.declared.VaRange.TheVariants.{Lower, Upper}
-use Rattle.pool.specs.declared.Outcome.TheVariants.{Accepted}
-use Rattle.pool.specs.declared.Counted.{Counted}
-use Rattle.pool.specs.declared.Counted.TheVariants.{Tables}
 use Rattle.map_rules.specs.declared.Map.{Map}
 use Rattle.map_verify.specs.Verify.{asked_map, verify_map}
 use Rattle.map_spec.specs.Call.{map_call}
@@ -22,6 +19,8 @@ use Rattle.look_up.specs.Call.{spanned}
 use Rattle.theory_tree.specs.Rules.{Map as TreeMap}
 use Rattle.theory_tree.specs.Chunks.{in_pages}
 use Rattle.theory_tree.specs.Root.{lower_root, upper_root, map_tree, map_made, map_freed}
+use Rattle.std.specs.Prelude.{Ok}
+use Rattle.pool.specs.Refuse.{Counted}
 
 -- ---- the call
 
@@ -39,7 +38,7 @@ map_answer h c s = map_call h c.start c.end c.frame c.flags c.constraints s
 
 -- the call is accepted: it answers n and leaves s'
 pub record Maps (h : Handle) (c : MapArguments) (s : St) (n : ℕ) (s' : St) : Type 0 where
-  pub answers : map_answer h c s ≡ out (Tables n) s'
+  pub answers : map_answer h c s ≡ out (Ok n) s'
 
 -- VALID, bit 0 of the flags
 abbrev pub Valid : MapArguments → Type 0
@@ -51,7 +50,7 @@ map_asked c = asked_map c.start c.end c.frame c.flags c.constraints
 
 -- refusals 2 to 7 are not given
 abbrev pub Asks : Handle → MapArguments → Type 0
-Asks h c = verify_map h c.end (map_asked c) ≡ Accepted
+Asks h c = verify_map h c.end (map_asked c) ≡ Ok tt
 
 -- refusals 1 and 8 are not given
 pub record ShapedSound (h : Handle) (s : St) : Type 0 where

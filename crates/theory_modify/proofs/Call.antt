@@ -12,8 +12,6 @@ use Rattle.pool.specs.Sound.{soundb}
 use Rattle.pool.specs.declared.Handle.{Handle}
 use Rattle.pool.specs.declared.Refusal.{Refusal}
 use Rattle.pool.specs.declared.Refusal.TheVariants.{WantOfRoom, HouseRule, Short}
-use Rattle.pool.specs.declared.Outcome.{Outcome}
-use Rattle.pool.specs.declared.Outcome.TheVariants.{Accepted, Refused}
 use Rattle.modify_entry.specs.declared.Edit.{Edit}
 use Rattle.modify_entry.specs.Own.{Numbered, numbered}
 use Rattle.modify_range.specs.Range.{Work, work}
@@ -54,6 +52,8 @@ use Rattle.theory_modify.specs.Listed.{changes}
 use Rattle.theory_modify.proofs.Listed.{region_tells}
 use Rattle.theory_modify.specs.Asked.{asked-bits, asked_area, asked_forwards, asked_early}
 use Rattle.theory_modify.specs.Call.{work_after, Clear, Judged, is_full, is_broken, is_short, is_clear}
+use Rattle.std.specs.Prelude.{Err, Ok}
+use Rattle.pool.specs.Refuse.{Outcome}
 
 module _ {h : Handle} {c : ModifyArguments} {s : St} (passed : ModifyPassed h c s) where
   abbrev e : Edit
@@ -145,13 +145,13 @@ abbrev verdict : Handle → ModifyArguments → St → List ℕ → Outcome
 verdict h c s list = verify_survey (free s.ledger) (length list) c.live (surveyed h c s)
 
 -- no refusal is an acceptance
-not-accepted : {r : Refusal} (live : Bool) (n k : ℕ) → modified.Refused r ≡ modify_accepted live n k → ⊥
+not-accepted : {r : Refusal} (live : Bool) (n k : ℕ) → Err r ≡ modify_accepted live n k → ⊥
 unfolding modify_accepted
 not-accepted true n k q = let z : ◌≡◌ {A = ℕ} 0 1 = cc in omega arith
 not-accepted false n k q = let z : ◌≡◌ {A = ℕ} 0 1 = cc in omega arith
 
 answer_of_lem : {r : Refusal} {s s' : St} {list list' : List ℕ} {y : Modified} → refused r s list ≡ modifying y s' list'
-    → modified.Refused r ≡ y
+    → Err r ≡ y
 answer_of_lem e = ap (λ (x : Modifying). x.answer) e
 
 done_is : (h : Handle) (c : ModifyArguments) (s : St) (list : List ℕ) → let w = work_after h c s list in
@@ -168,11 +168,11 @@ module _ {h : Handle} {c : ModifyArguments} {s : St} (passed : ModifyPassed h c 
       call-asked h c.start c.end c.set c.clear c.live s list (is_true (shaped h s) (says-shaped h s passed.shape)) refl
       passed.asks
 
-  pub call_stopped : (r : Refusal) → verdict h c s list ≡ Refused r → modify_answer h c s list ≡ refused r s list
+  pub call_stopped : (r : Refusal) → verdict h c s list ≡ Err r → modify_answer h c s list ≡ refused r s list
   unfolding asked_edit
   call_stopped r q = sym (sound_refused h (edit_asked c) s list sound_is refl refl refl r q ∙ asked_is)
 
-  pub call_done : verdict h c s list ≡ Accepted → let w = work_after h c s list in
+  pub call_done : verdict h c s list ≡ Ok tt → let w = work_after h c s list in
       modify_answer h c s list ≡ modifying (modify_accepted c.live (used w.state.ledger) w.count) w.state w.list
   unfolding asked_edit
   call_done q = sym (sound_edited h (edit_asked c) s list sound_is refl refl refl q ∙ asked_is) ∙ done_is h c s list
@@ -194,7 +194,7 @@ module _ {h : Handle} {c : ModifyArguments} {s : St} (passed : ModifyPassed h c 
       room : (surveyed h c s).splits ≤ free s.ledger
       room = omega (arith, fits.room, splits-made passed)
 
-      go : (live : Bool) → c.live ≡ live → verdict h c s list ≡ Accepted
+      go : (live : Bool) → c.live ≡ live → verdict h c s list ≡ Ok tt
       go true q =
           sym (survey_accepted (free s.ledger) (length list) c.live (surveyed h c s) room q (fits.kept q)
           (omega (arith, fits.enough q, numbers-made passed (fits.kept q))))
@@ -259,7 +259,7 @@ passed_by h c s list {x} is later =
 -- ---- refused 9, 10, 11
 
 module _ (h : Handle) (c : ModifyArguments) (s : St) (list : List ℕ) {y : Refusal} {s' : St} {list' : List ℕ}
-    (is : modify_answer h c s list ≡ modifying (modified.Refused y) s' list') where
+    (is : modify_answer h c s list ≡ modifying (Err y) s' list') where
   refused_passed : 9 ≤ number y → ModifyPassed h c s
   refused_passed late = passed_by h c s list is (λ r early q.
       let same : r ≡ y = let p = answer_of_lem q in cc in
@@ -276,7 +276,7 @@ module _ (h : Handle) (c : ModifyArguments) (s : St) (list : List ℕ) {y : Refu
       (ap (λ (x : Modifying). x.answer) (sym is ∙ call-accepted passed list fits))
 
 module _ (h : Handle) (c : ModifyArguments) (s : St) (list : List ℕ) {s' : St} {list' : List ℕ} where
-  pub full_back : {a b : ℕ} → modify_answer h c s list ≡ modifying (modified.Refused (WantOfRoom a b)) s' list'
+  pub full_back : {a b : ℕ} → modify_answer h c s list ≡ modifying (Err (WantOfRoom a b)) s' list'
       → ModifyPassed h c s × (free s.ledger < made_by_modify h c s)
   full_back {a} {b} is = (passed, go (judged passed list))
     where
@@ -291,7 +291,7 @@ module _ (h : Handle) (c : ModifyArguments) (s : St) (list : List ℕ) {s' : St}
           absurd (let e = ap number (refused_is h c s list is (call_short passed list room on kept short)) in omega arith)
       go (is_clear fits) = absurd (refused-not h c s list is passed fits)
 
-  pub broken_back : {w : ℕ} → modify_answer h c s list ≡ modifying (modified.Refused (HouseRule w)) s' list'
+  pub broken_back : {w : ℕ} → modify_answer h c s list ≡ modifying (Err (HouseRule w)) s' list'
       → ModifyPassed h c s × (made_by_modify h c s ≤ free s.ledger) × (c.live ≡ true) × ((surveyed h c s).broken ≡ true)
   broken_back {w} is = go (judged passed list)
     where
@@ -306,7 +306,7 @@ module _ (h : Handle) (c : ModifyArguments) (s : St) (list : List ℕ) {s' : St}
           absurd (let e = ap number (refused_is h c s list is (call_short passed list room on kept short)) in omega arith)
       go (is_clear fits) = absurd (refused-not h c s list is passed fits)
 
-  pub short_back : {n : ℕ} → modify_answer h c s list ≡ modifying (modified.Refused (Short n)) s' list'
+  pub short_back : {n : ℕ} → modify_answer h c s list ≡ modifying (Err (Short n)) s' list'
       → ModifyPassed h c s × (made_by_modify h c s ≤ free s.ledger) × (c.live ≡ true) × ((surveyed h c s).broken ≡ false)
       × (length list < length (numbers_of h c s))
   short_back {n} is = go (judged passed list)

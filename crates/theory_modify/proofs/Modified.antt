@@ -12,7 +12,6 @@ use Rattle.pool.specs.declared.Handle.{Handle}
 use Rattle.pool.specs.declared.Refusal.TheVariants.{WantOfRoom, HouseRule, Short}
 use Rattle.modify_entry.specs.Word.{edit_word}
 use Rattle.modify_survey.specs.House.{may_change}
-use Rattle.modify.specs.declared.Modified.TheVariants.{Refused}
 use Rattle.modify_verify.specs.Verify.{asked_edit}
 use Rattle.modify.specs.Call.{Modifying, modifying}
 use Rattle.theory_forest.specs.Tree.{Tree}
@@ -44,6 +43,7 @@ use Rattle.theory_modify.specs.House.{reach_of, ValidEntry, Covered, LowestBreac
 use Rattle.theory_modify.proofs.Lowest.{survey_lowest, survey_keeps, live_safe}
 use Rattle.theory_modify.specs.Change.{bit, house_bit}
 use Rattle.theory_modify.proofs.Change.{house_rule_bits}
+use Rattle.std.specs.Prelude.{Err}
 
 -- ---- what a walk shows, read back
 
@@ -202,7 +202,7 @@ module _ (h : Handle) (c : ModifyArguments) (s : St) (list : List ℕ) where
   -- 9 is given exactly when none of refusals 1 to 8 is, and more tables are made than are free at entry, live or not;
   pub
       modify_refused_9_exactly : ((a b : ℕ) × (s' : St) × (list' : List ℕ)
-      × (modify_answer h c s list ≡ modifying (Refused (WantOfRoom a b)) s' list'))
+      × (modify_answer h c s list ≡ modifying (Err (WantOfRoom a b)) s' list'))
       ↔ (ModifyPassed h c s × (free s.ledger < made_by_modify h c s))
   modify_refused_9_exactly = (
     λ at. full_back h c s list at.4,
@@ -211,12 +211,12 @@ module _ (h : Handle) (c : ModifyArguments) (s : St) (list : List ℕ) where
 
   -- refusal 9 carries both numbers, and leaves the state and the list as they were;
   pub modify_refusal_9_carries : {a b : ℕ} {s' : St} {list' : List ℕ}
-      → modify_answer h c s list ≡ modifying (Refused (WantOfRoom a b)) s' list'
+      → modify_answer h c s list ≡ modifying (Err (WantOfRoom a b)) s' list'
       → (a ≡ made_by_modify h c s) × (b ≡ free s.ledger) × (s' ≡ s) × (list' ≡ list)
   modify_refusal_9_carries {a} {b} is =
       let back = full_back h c s list is in
       let same = sym is ∙ call_full back.0 list back.1 in
-      let p : Refused (WantOfRoom a b) ≡ Refused (WantOfRoom (made_by_modify h c s) (free s.ledger)) =
+      let p : Err (WantOfRoom a b) ≡ Err (WantOfRoom (made_by_modify h c s) (free s.ledger)) =
       ap (λ (x : Modifying). x.answer) same in (
         let e : a ≡ made_by_modify h c s = cc in e,
         let e : b ≡ free s.ledger = cc in e,
@@ -231,7 +231,7 @@ module _ (h : Handle) (c : ModifyArguments) (s : St) (list : List ℕ) where
   -- 10 is given exactly when none of refusals 1 to 9 is, and a live call breaks the house rule;
   pub
       modify_refused_10_exactly : ((w : ℕ) × (s' : St) × (list' : List ℕ)
-      × (modify_answer h c s list ≡ modifying (Refused (HouseRule w)) s' list'))
+      × (modify_answer h c s list ≡ modifying (Err (HouseRule w)) s' list'))
       ↔ (ModifyPassed h c s × (made_by_modify h c s ≤ free s.ledger) × (c.live ≡ true) × ((surveyed h c s).broken ≡ true))
   modify_refused_10_exactly = (
     λ at. broken_back h c s list at.3,
@@ -239,12 +239,12 @@ module _ (h : Handle) (c : ModifyArguments) (s : St) (list : List ℕ) where
   )
 
   -- refusal 10 carries the survey's word, and leaves the state and the list as they were;
-  pub modify_refusal_10_carries : {w : ℕ} {s' : St} {list' : List ℕ} → modify_answer h c s list ≡ modifying (Refused (HouseRule w)) s' list'
+  pub modify_refusal_10_carries : {w : ℕ} {s' : St} {list' : List ℕ} → modify_answer h c s list ≡ modifying (Err (HouseRule w)) s' list'
       → (w ≡ (surveyed h c s).word) × (s' ≡ s) × (list' ≡ list)
   modify_refusal_10_carries {w} is =
       let back = broken_back h c s list is in
       let same = sym is ∙ call_broken back.0 list back.1 back.2 back.3 in
-      let p : Refused (HouseRule w) ≡ Refused (HouseRule (surveyed h c s).word) = ap (λ (x : Modifying). x.answer) same in
+      let p : Err (HouseRule w) ≡ Err (HouseRule (surveyed h c s).word) = ap (λ (x : Modifying). x.answer) same in
       (let e : w ≡ (surveyed h c s).word = cc in e, ap (λ (x : Modifying). x.state) same, ap (λ (x : Modifying). x.list) same)
 
   -- the survey is broken with the word w exactly when w stands at the lowest address, by the Arm walk, where the call breaks the house
@@ -255,7 +255,7 @@ module _ (h : Handle) (c : ModifyArguments) (s : St) (list : List ℕ) where
 
   -- refusal 10 is given with w exactly when none of refusals 1 to 9 is, the call is live, and w stands at the lowest address where it
   -- breaks the house rule;
-  pub modify_refused_10_lowest : (w : ℕ) → (modify_answer h c s list ≡ modifying (Refused (HouseRule w)) s list)
+  pub modify_refused_10_lowest : (w : ℕ) → (modify_answer h c s list ≡ modifying (Err (HouseRule w)) s list)
       ↔ (ModifyPassed h c s × (made_by_modify h c s ≤ free s.ledger) × (c.live ≡ true) × LowestBreach h c s w)
   modify_refused_10_lowest w = (
     λ is.
@@ -264,13 +264,13 @@ module _ (h : Handle) (c : ModifyArguments) (s : St) (list : List ℕ) where
     λ broken.
         let found = (survey_lowest broken.0 w).1 broken.3 in
         call_broken broken.0 list broken.1 broken.2 found.0
-        ∙ ap (λ (x : ℕ). modifying (Refused (HouseRule x)) s list) found.1,
+        ∙ ap (λ (x : ℕ). modifying (Err (HouseRule x)) s list) found.1,
   )
 
   -- 11 is given exactly when none of refusals 1 to 10 is, and a live call would list more numbers than the list has room for;
   pub
       modify_refused_11_exactly : ((n : ℕ) × (s' : St) × (list' : List ℕ)
-      × (modify_answer h c s list ≡ modifying (Refused (Short n)) s' list'))
+      × (modify_answer h c s list ≡ modifying (Err (Short n)) s' list'))
       ↔ (ModifyPassed h c s × (made_by_modify h c s ≤ free s.ledger) × (c.live ≡ true) × Keeps h c s
       × (length list < length (numbers_of h c s)))
   modify_refused_11_exactly = (
@@ -285,12 +285,12 @@ module _ (h : Handle) (c : ModifyArguments) (s : St) (list : List ℕ) where
   )
 
   -- refusal 11 carries the length that is needed, and leaves the state and the list as they were;
-  pub modify_refusal_11_carries : {n : ℕ} {s' : St} {list' : List ℕ} → modify_answer h c s list ≡ modifying (Refused (Short n)) s' list'
+  pub modify_refusal_11_carries : {n : ℕ} {s' : St} {list' : List ℕ} → modify_answer h c s list ≡ modifying (Err (Short n)) s' list'
       → (n ≡ length (numbers_of h c s)) × (s' ≡ s) × (list' ≡ list)
   modify_refusal_11_carries {n} is =
       let back = short_back h c s list is in
       let same = sym is ∙ call_short back.0 list back.1 back.2 back.3 back.4 in
-      let p : Refused (Short n) ≡ Refused (Short (length (numbers_of h c s))) = ap (λ (x : Modifying). x.answer) same in
+      let p : Err (Short n) ≡ Err (Short (length (numbers_of h c s))) = ap (λ (x : Modifying). x.answer) same in
       (let e : n ≡ length (numbers_of h c s) = cc in e, ap (λ (x : Modifying). x.state) same, ap (λ (x : Modifying). x.list) same)
 
   -- the survey's count of numbers is the list's, where the house rule is kept;

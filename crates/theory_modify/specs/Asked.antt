@@ -8,8 +8,6 @@ use Rattle.pool.specs.Sound.{flag_set}
 use Rattle.pool.specs.declared.Handle.{Handle}
 use Rattle.pool.specs.declared.Refusal.{Refusal}
 use Rattle.pool.specs.declared.Refusal.TheVariants.{End, InvalidFlags, FlagSet}
-use Rattle.pool.specs.declared.Outcome.{Outcome}
-use Rattle.pool.specs.declared.Outcome.TheVariants.{Accepted, Refused}
 use Rattle.region_verify.specs.Verify.{end_fits, verify, verified_forwards}
 use Rattle.modify_entry.specs.declared.Edit.{Edit}
 use Rattle.modify_verify.specs.Verify.{asked_edit, settable, settable-says, verify_bits, verify_edit, asked-span}
@@ -19,43 +17,45 @@ use Rattle.theory_map.specs.Pieces.{Area}
 use Rattle.theory_map.specs.Asked.{pages_inside, flags_allowed, Early, cond_early, first_early, verify_early}
 use Rattle.theory_modify.specs.Word.{Bits}
 use Rattle.theory_modify.specs.Pass.{area_of}
+use Rattle.std.specs.Prelude.{Err, Ok}
+use Rattle.pool.specs.Refuse.{Outcome}
 
 -- ---- the tests that are passed
 
-passes_not : (b : Bool) (r : Refusal) (x : Outcome) → cond b (Refused r) x ≡ Accepted → (b ≡ false) × (x ≡ Accepted)
+passes_not : (b : Bool) (r : Refusal) (x : Outcome) → cond b (Err r) x ≡ Ok tt → (b ≡ false) × (x ≡ Ok tt)
 passes_not true r x e = let z : ◌≡◌ {A = ℕ} 0 1 = cc in absurd (omega arith)
 passes_not false r x e = (refl, e)
 
-passes_if : (b : Bool) (r : Refusal) (x : Outcome) → cond b x (Refused r) ≡ Accepted → (b ≡ true) × (x ≡ Accepted)
+passes_if : (b : Bool) (r : Refusal) (x : Outcome) → cond b x (Err r) ≡ Ok tt → (b ≡ true) × (x ≡ Ok tt)
 passes_if true r x e = (refl, e)
 passes_if false r x e = let z : ◌≡◌ {A = ℕ} 0 1 = cc in absurd (omega arith)
 
-passes_both : (x y : Outcome) → first_refused Refused x y ≡ Accepted → (x ≡ Accepted) × (y ≡ Accepted)
+passes_both : (x y : Outcome) → first_refused Err x y ≡ Ok tt → (x ≡ Ok tt) × (y ≡ Ok tt)
 unfolding first_refused
-passes_both Accepted y e = (refl, e)
-passes_both (Refused r) y e = let z : ◌≡◌ {A = ℕ} 0 1 = cc in absurd (omega arith)
+passes_both (Ok tt) y e = (refl, e)
+passes_both (Err r) y e = let z : ◌≡◌ {A = ℕ} 0 1 = cc in absurd (omega arith)
 
 not-one : (n : ℕ) → eqb (n % 2) 1 ≡ false → n % 2 ≡ 0
 not-one n e = let k = eqb-false (n % 2) 1 e in omega arith
 
-bits_pass : (h : Handle) (set clear : ℕ) → verify_bits h set clear ≡ Accepted → (Allowed h set) × (Allowed h clear) × (set % 2 ≡ 0)
+bits_pass : (h : Handle) (set clear : ℕ) → verify_bits h set clear ≡ Ok tt → (Allowed h set) × (Allowed h clear) × (set % 2 ≡ 0)
 unfolding verify_bits
 bits_pass h set clear ok =
     let a = passes_not (eqb (set / 2 % 2) 1) (InvalidFlags set) _ ok in
     let b = passes_not (eqb (clear / 2 % 2) 1) (InvalidFlags clear) _ a.1 in
     let c = passes_if (settable (flag_set h) set clear) (FlagSet set) _ b.1 in
     let d = settable-says (flag_set h) set clear c.0 in
-    let f = passes_if (only (flag_set h) clear) (FlagSet clear) Accepted c.1 in
+    let f = passes_if (only (flag_set h) clear) (FlagSet clear) (Ok tt) c.1 in
     (flags_allowed h set d.0 (not-one (set / 2) a.0), flags_allowed h clear f.0 (not-one (clear / 2) b.0), not-one set d.1)
 
 -- ---- what is left of a call
 
 module _ (h : Handle) (start end set clear : ℕ) (live : Bool) (ok : verify_edit h end (asked_edit start end set clear live)
-    ≡ Accepted) where
+    ≡ Ok tt) where
   abbrev e : Edit
   e = asked_edit start end set clear live
 
-  asked_passes : (verify_bits h e.set e.clear ≡ Accepted) × (verify h e.region ≡ Accepted)
+  asked_passes : (verify_bits h e.set e.clear ≡ Ok tt) × (verify h e.region ≡ Ok tt)
   unfolding verify_edit
   asked_passes = passes_both (verify_bits h e.set e.clear) (verify h e.region) (passes_if (end_fits end) (End end) _ ok).1
 
@@ -77,17 +77,17 @@ module _ (h : Handle) (start end set clear : ℕ) (live : Bool) (ok : verify_edi
 bits_early : (h : Handle) (set clear : ℕ) → Early (verify_bits h set clear)
 unfolding verify_bits
 bits_early h set clear =
-    let last : Outcome = cond (only (flag_set h) clear) Accepted (Refused (FlagSet clear)) in
-    let from : Outcome = cond (settable (flag_set h) set clear) last (Refused (FlagSet set)) in
-    let second : Outcome = cond (eqb (clear / 2 % 2) 1) (Refused (InvalidFlags clear)) from in
-    cond_early (eqb (set / 2 % 2) 1) (Refused (InvalidFlags set)) second (lit< tt)
-    (cond_early (eqb (clear / 2 % 2) 1) (Refused (InvalidFlags clear)) from (lit< tt)
-    (cond_early (settable (flag_set h) set clear) last (Refused (FlagSet set))
-    (cond_early (only (flag_set h) clear) Accepted (Refused (FlagSet clear)) tt (lit< tt)) (lit< tt)))
+    let last : Outcome = cond (only (flag_set h) clear) (Ok tt) (Err (FlagSet clear)) in
+    let from : Outcome = cond (settable (flag_set h) set clear) last (Err (FlagSet set)) in
+    let second : Outcome = cond (eqb (clear / 2 % 2) 1) (Err (InvalidFlags clear)) from in
+    cond_early (eqb (set / 2 % 2) 1) (Err (InvalidFlags set)) second (lit< tt)
+    (cond_early (eqb (clear / 2 % 2) 1) (Err (InvalidFlags clear)) from (lit< tt)
+    (cond_early (settable (flag_set h) set clear) last (Err (FlagSet set))
+    (cond_early (only (flag_set h) clear) (Ok tt) (Err (FlagSet clear)) tt (lit< tt)) (lit< tt)))
 
 pub asked_early : (h : Handle) (end : ℕ) (e : Edit) → Early (verify_edit h end e)
 unfolding verify_edit
 asked_early h end e =
     let bits : Outcome = verify_bits h e.set e.clear in
-    cond_early (end_fits end) (first_refused Refused bits (verify h e.region)) (Refused (End end))
+    cond_early (end_fits end) (first_refused Err bits (verify h e.region)) (Err (End end))
     (first_early bits (verify h e.region) (bits_early h e.set e.clear) (verify_early h e.region)) (lit< tt)

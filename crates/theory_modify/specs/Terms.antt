@@ -7,7 +7,6 @@ use Rattle.region.specs.Chunks.{Holds}
 use Rattle.pool.specs.State.{St}
 use Rattle.pool.specs.Refuse.{Shaped}
 use Rattle.pool.specs.declared.Handle.{Handle}
-use Rattle.pool.specs.declared.Outcome.TheVariants.{Accepted}
 use Rattle.modify_entry.specs.declared.Edit.{Edit}
 use Rattle.modify_survey.specs.declared.Survey.{Survey}
 use Rattle.modify.specs.declared.Modified.{Modified}
@@ -21,6 +20,7 @@ use Rattle.theory_tree.specs.Modify.{Modify, modify_tree, modify_made}
 use Rattle.theory_tree.specs.DocumentModify.{modify_pages}
 use Rattle.theory_map.specs.Terms.{depth_of, root_in}
 use Rattle.theory_modify.specs.Numbers.{table_numbers}
+use Rattle.std.specs.Prelude.{Ok}
 
 -- ---- the call
 
@@ -51,7 +51,7 @@ edit_asked c = asked_edit c.start c.end c.set c.clear c.live
 -- refusals 1 to 8 are not given
 pub record ModifyPassed (h : Handle) (c : ModifyArguments) (s : St) : Type 0 where
   pub shape : Shaped h s
-  pub asks : verify_edit h c.end (edit_asked c) ≡ Accepted
+  pub asks : verify_edit h c.end (edit_asked c) ≡ Ok tt
   pub pool : SoundPool h s
 
 -- what the call finds before anything is written

@@ -9,13 +9,13 @@ use Rattle.pool.specs.State.{word_at}
 use Rattle.pool_table.specs.Table.{zeros, take_at, length-zeros, zeros_at}
 use Rattle.pool.specs.Refuse.{max_tables, shaped, Shaped, shaped-says}
 use Rattle.pool.specs.Sound.{flag_set, fits, leafb, namesb, hangsb, tableb, linkb, refersb, slotb, soundb}
-use Rattle.pool.specs.declared.Found.TheVariants.{At}
 use Rattle.theory_sound.specs.Codec.{shaped_placed}
 use Rattle.theory_sound.specs.Clauses.{InUse, level_at, SoundPool}
 use Rattle.theory_sound.proofs.Decide.{decide_sound}
 use Rattle.theory_sound.proofs.Step.{zero_stands, step_pool}
 use Rattle.theory_sound.proofs.Take.{take_step}
 use Rattle.theory_sound.specs.Example.{handle, fresh_example, mapped}
+use Rattle.std.specs.Prelude.{Some}
 
 -- what refusals 1 and 8 compute with: to unfold this is to unfold all that its line names
 unfoldable checks : Unit {0}
@@ -46,7 +46,7 @@ pub mapped_sound : SoundPool handle mapped
 mapped_sound = decide_sound mapped-shaped mapped_test
 
 -- what a step asks holds of a pool: an empty table is taken for slot 0 of the fresh root
-found : lowest_free fresh_example.ledger ≡ At 1
+found : lowest_free fresh_example.ledger ≡ Some 1
 unfolding fresh_example lowest_free first_from
 found = refl
 

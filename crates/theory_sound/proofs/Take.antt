@@ -9,7 +9,6 @@ use Rattle.pool.specs.Number.{level_of, number_of, Names, parent_back, slot_back
 use Rattle.pool.specs.Number.{level_back}
 use Rattle.pool_table.specs.Table.{put_table, length-table, take_at}
 use Rattle.pool.specs.declared.Handle.{Handle}
-use Rattle.pool.specs.declared.Found.TheVariants.{At}
 use Rattle.theory_forest.specs.Tree.{leaf, node}
 use Rattle.theory_forest.specs.Sound.{TableWord}
 use Rattle.theory_forest.specs.Split.{Splits, SplitFits}
@@ -21,12 +20,13 @@ use Rattle.theory_sound.proofs.Generic.{pool_sound}
 use Rattle.theory_sound.specs.Lists.{TableInside, SameSize, store_here, store_other, put_here, put_other}
 use Rattle.theory_sound.specs.Step.{Stands, not_table, Step}
 use Rattle.theory_sound.proofs.Step.{stands_fits, used_inside}
+use Rattle.std.specs.Prelude.{Some}
 
 -- ---- the step
 
 module _ {h : Handle} (placed : Placed h) {s : St} (P : SoundPool h s) (p level i : ℕ) (t : List ℕ) (f : ℕ)
     (in_use : InUse s p) (inside : i < 512) (below : level ≡ level_at s p + 1) (high : level ≤ 3) (full : length t ≡ 512)
-    (found : lowest_free s.ledger ≡ At f) where
+    (found : lowest_free s.ledger ≡ Some f) where
   lowest : LowestFree s.ledger f
   lowest = lowest_found s.ledger f found
 

@@ -4,7 +4,7 @@ use Rattle.std.proofs.Common.{ap, arith, length-set}
 use Rattle.std.proofs.Math.Dec.{eqb-suc-zero}
 use Rattle.laws.specs.Sum.{sum, sum_shift}
 use Rattle.pool.specs.Number.{first_from, lowest_free, used, free, used-free}
-use Rattle.pool.specs.declared.Found.TheVariants.{At}
+use Rattle.std.specs.Prelude.{Some}
 
 -- ---- a free table is entered
 
@@ -39,12 +39,12 @@ used-sum (suc x ∷ l) =
 
 -- ---- a free table is found exactly when there is one
 
-first_some : (i : ℕ) (l : List ℕ) → 0 < free l → (j : ℕ) × (first_from i l ≡ At j)
+first_some : (i : ℕ) (l : List ℕ) → 0 < free l → (j : ℕ) × (first_from i l ≡ Some j)
 unfolding first_from free
 first_some i [] some = absurd (omega arith)
 first_some i (zero ∷ l) some = (i, refl)
 first_some i (suc x ∷ l) some = first_some (suc i) l some
 
-pub free_found : (l : List ℕ) → 0 < free l → (j : ℕ) × (lowest_free l ≡ At j)
+pub free_found : (l : List ℕ) → 0 < free l → (j : ℕ) × (lowest_free l ≡ Some j)
 unfolding lowest_free
 free_found l some = first_some 0 l some

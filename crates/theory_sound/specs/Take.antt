@@ -6,14 +6,14 @@ use Rattle.pool.specs.Number.{number_of, lowest_free, LowestFree, lowest_found}
 use Rattle.pool.specs.Number.{free}
 use Rattle.pool_table.specs.Table.{take_at, taken, take_table, take_some}
 use Rattle.pool.specs.declared.Handle.{Handle}
-use Rattle.pool.specs.declared.Found.TheVariants.{At}
 use Rattle.theory_sound.specs.Alloc.{free-take}
 use Rattle.theory_sound.specs.Codec.{number_pos}
+use Rattle.std.specs.Prelude.{Some}
 
 -- ---- what is taken, and the counts; nothing is asked of the pool
 
-module _ (h : Handle) (p level i : ℕ) (t : List ℕ) (s : St) (f : ℕ) (found : lowest_free s.ledger ≡ At f) where
-  pub take_is : take_table h p level i t s ≡ taken (At f) (take_at h p level i t f s)
+module _ (h : Handle) (p level i : ℕ) (t : List ℕ) (s : St) (f : ℕ) (found : lowest_free s.ledger ≡ Some f) where
+  pub take_is : take_table h p level i t s ≡ taken (Some f) (take_at h p level i t f s)
   take_is = sym (take_some h p level i t s f refl found)
 
   -- the lowest free table

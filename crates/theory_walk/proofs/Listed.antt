@@ -10,7 +10,6 @@ use Rattle.pool.specs.Refuse.{Shaped, shaped-says}
 use Rattle.pool.specs.declared.Handle.{Handle}
 use Rattle.pool.specs.declared.VaRange.{VaRange}
 use Rattle.pool.specs.declared.VaRange.TheVariants.{Lower, Upper}
-use Rattle.pool.specs.declared.Outcome.TheVariants.{Accepted}
 use Rattle.region_verify.specs.Verify.{verify, RegionInSpan, verified_forwards, verified_span}
 use Rattle.theory_sound.proofs.Decide.{decide_sound}
 use Rattle.arm.specs.Arm.{at, away, reach}
@@ -19,11 +18,11 @@ use Rattle.list_lines.specs.Lines.{Line, lines_of}
 use Rattle.list_lines.specs.Cover.{Covers, covers-map, Meets, nth_line, inside, ascending, holds, covered}
 use Rattle.list_lines.proofs.Cover.{list_covers}
 use Rattle.list.specs.Call.{listing, put, list_call, ends_verified}
-use Rattle.list.specs.declared.Listed.TheVariants.{Lines}
 use Rattle.theory_walk.proofs.Walked.{never_away}
 use Rattle.theory_walk.specs.Alike.{Alike}
 use Rattle.theory_walk.proofs.Alike.{looks_up, entry_alike}
 use Rattle.theory_walk.specs.Listed.{Accepts, list_accepted, Walks, LinesShow}
+use Rattle.std.specs.Prelude.{Ok}
 
 -- the addresses of a region that was verified lie in the span
 spans : (range : VaRange) (level : ℕ) (r : MemoryRegion) → RegionInSpan range level r → (a : ℕ) → r.start.0 ≤ a → a < r.end.0
@@ -47,7 +46,7 @@ module _ (h : Handle) (s : St) (start end : ℕ) where
       shape : Shaped h s
       shape = shaped-says h s (rw accepted.shape tt)
 
-      verified : verify h r ≡ Accepted
+      verified : verify h r ≡ Ok tt
       verified = ends_verified h start end accepted.region
 
       stays : (a : ℕ) → reach h.base.0 (tables s) s.words a h.level ≢ away
@@ -74,7 +73,7 @@ module _ (h : Handle) (s : St) (start end : ℕ) where
 
   -- THE LIST IS THE WALK: an accepted list gives the count of the lines, writes them at the front of what was lent, and they show what the
   -- walk meets
-  pub list_walks : (list : List ℕ) {after : List ℕ} {count : ℕ} → list_call h s start end list ≡ listing (Lines count) after
+  pub list_walks : (list : List ℕ) {after : List ℕ} {count : ℕ} → list_call h s start end list ≡ listing (Ok count) after
       → (length ls ≡ count) × (put ls list ≡ after) × LinesShow h s r ls
   list_walks list e =
       let accepted = list_accepted e in
@@ -85,7 +84,7 @@ module _ (h : Handle) (s : St) (start end : ℕ) where
       )
 
   -- look up answers alike in every page of one line
-  pub line_alike : (list : List ℕ) {after : List ℕ} {count : ℕ} → list_call h s start end list ≡ listing (Lines count) after → (i : ℕ)
+  pub line_alike : (list : List ℕ) {after : List ℕ} {count : ℕ} → list_call h s start end list ≡ listing (Ok count) after → (i : ℕ)
       → i < count → (a b : ℕ)
       → (nth_line ls i).start ≤ a → a < (nth_line ls i).end → (nth_line ls i).start ≤ b → b < (nth_line ls i).end
       → Alike a b (look_up_call h s a) (look_up_call h s b)

@@ -12,32 +12,31 @@ use Rattle.pool.specs.Refuse.{shaped, first_refused}
 use Rattle.pool.specs.Sound.{soundb}
 use Rattle.pool.specs.declared.Handle.{Handle}
 use Rattle.pool.specs.declared.Refusal.{Refusal}
-use Rattle.pool.specs.declared.Outcome.{Outcome}
-use Rattle.pool.specs.declared.Outcome.TheVariants.{Accepted, Refused}
 use Rattle.arm.specs.Arm.{at, says, reach}
 use Rattle.look_up.specs.Call.{answer, look_up_call}
 use Rattle.list_lines.specs.Lines.{Line, lines_of}
 use Rattle.list_lines.specs.Cover.{nth_line, InLine}
 use Rattle.list.specs.Call.{verify_ends, listing, put, list_lines, list_sound, list_call}
-use Rattle.list.specs.declared.Listed.{Listed}
-use Rattle.list.specs.declared.Listed.TheVariants.{Lines, Refused as refused}
 use Rattle.theory_walk.specs.Alike.{Alike}
+use Rattle.std.specs.Prelude.{Err, Ok}
+use Rattle.list.specs.Call.{Listed}
+use Rattle.pool.specs.Refuse.{Outcome}
 
 -- ---- when a list is accepted
 
 pub record Accepts (h : Handle) (s : St) (start end : ℕ) (list : List ℕ) (count : ℕ) (after : List ℕ) : Type 0 where
   pub shape : shaped h s ≡ true
-  pub region : verify_ends h start end ≡ Accepted
+  pub region : verify_ends h start end ≡ Ok tt
   pub sound : soundb h s ≡ true
   pub counted : length (lines_of h s (rounded start end)) ≡ count
   pub written : put (lines_of h s (rounded start end)) list ≡ after
 
-never : {r : Refusal} {l after : List ℕ} {count : ℕ} → listing (refused r) l ≡ listing (Lines count) after → ⊥
+never : {r : Refusal} {l after : List ℕ} {count : ℕ} → listing (Err r) l ≡ listing (Ok count) after → ⊥
 never {r} {count = count} e =
-    let q : ◌≡◌ {A = Listed} (refused r) (Lines count) = ap (λ x. x.answer) e in let z : ◌≡◌ {A = ℕ} 0 1 = cc in omega arith
+    let q : ◌≡◌ {A = Listed} (Err r) (Ok count) = ap (λ x. x.answer) e in let z : ◌≡◌ {A = ℕ} 0 1 = cc in omega arith
 
 module _ {h : Handle} {s : St} {start end : ℕ} {list : List ℕ} {count : ℕ} {after : List ℕ} where
-  pub list_accepted : list_call h s start end list ≡ listing (Lines count) after → Accepts h s start end list count after
+  pub list_accepted : list_call h s start end list ≡ listing (Ok count) after → Accepts h s start end list count after
   unfolding list_call first_refused list_sound list_lines
   list_accepted e =
       by_bool (shaped h s) (λ shape. verified shape (verify_ends h start end) refl (rw shape at e)) (λ shape. absurd (never (rw shape at e)))
@@ -45,21 +44,21 @@ module _ {h : Handle} {s : St} {start end : ℕ} {list : List ℕ} {count : ℕ}
       ls : List Line
       ls = lines_of h s (rounded start end)
 
-      written : shaped h s ≡ true → verify_ends h start end ≡ Accepted → soundb h s ≡ true
-          → list_lines ls list ≡ listing (Lines count) after
+      written : shaped h s ≡ true → verify_ends h start end ≡ Ok tt → soundb h s ≡ true
+          → list_lines ls list ≡ listing (Ok count) after
           → Accepts h s start end list count after
       written shape region sound q = by_bool (leb (4 * length ls) (length list))
           (λ room.
-          let o : listing (Lines (length ls)) (put ls list) ≡ listing (Lines count) after = rw room at q in
-          let c : ◌≡◌ {A = Listed} (Lines (length ls)) (Lines count) = ap (λ x. x.answer) o in
+          let o : listing (Ok (length ls)) (put ls list) ≡ listing (Ok count) after = rw room at q in
+          let c : ◌≡◌ {A = Listed} (Ok (length ls)) (Ok count) = ap (λ x. x.answer) o in
           record { shape = shape; region = region; sound = sound; counted = cc c; written = ap (λ x. x.list) o })
           (λ room. absurd (never (rw room at q)))
 
       verified : shaped h s ≡ true → (x : Outcome) → verify_ends h start end ≡ x
-          → first_refused (λ r. listing (refused r) list) x (list_sound h s (rounded start end) list) ≡ listing (Lines count) after
+          → first_refused (λ r. listing (Err r) list) x (list_sound h s (rounded start end) list) ≡ listing (Ok count) after
           → Accepts h s start end list count after
-      verified shape (Refused r) region q = absurd (never q)
-      verified shape Accepted region q =
+      verified shape (Err r) region q = absurd (never q)
+      verified shape (Ok tt) region q =
           by_bool (soundb h s) (λ sound. written shape region sound (rw sound at q)) (λ sound. absurd (never (rw sound at q)))
 
 -- ---- its lines

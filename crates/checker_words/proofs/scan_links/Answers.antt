@@ -7,10 +7,10 @@ use lib.Seq.{take_all}
 use lib.Bits.{bit_and}
 use borrow.Author.Tests.{eq-eqb, ne_eqb}
 use Rattle.entry.specs.Word.{only}
-use Rattle.checker_words.specs.declared.Run.TheVariants.{Passed}
 use Rattle.checker_words.specs.Words.{links_run, leaves, links as linksIn}
 use Rattle.checker_words.specs.Mask.{leaves_none, links_none, leaves_table, leaves_leaf, links-table, links_leaf}
 use Rattle.checker_words.proofs.scan_links.Goals as goal
+use Rattle.std.specs.Prelude.{Some}
 
 -- after the loop the union and the count are the run's
 all : (c : After-loop-i) → c.loop-i.any ≡ leaves c.args.run.now
@@ -32,7 +32,7 @@ returns-then-any-allowed c =
     let end = (goal.at.returns-then-any-allowed c).After-loop-i in
     rw (eq-eqb (bit_and (leaves a.run.now) a.allowed) (leaves a.run.now)
     (sym (ap (λ (x : ℕ). bit_and x a.allowed) (all end)) ∙ c.if-any-allowed.true ∙ all end))
-    (ap Passed (count end))
+    (ap Some (count end))
 
 pub returns-else-any-allowed : goal.returns-else-any-allowed
 unfolding links_run only

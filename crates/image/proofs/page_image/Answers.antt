@@ -3,11 +3,11 @@ use Rattle.std.proofs.Common.{◌≡◌, ℕ, ◌+◌, ◌*◌, ◌-◌, true, s
 use Rattle.laws.specs.Part.{part_of}
 use Rattle.pool.specs.State.{st}
 use Rattle.pool.specs.Refuse.{shaped, Shaped, shaped-says}
-use Rattle.pool.specs.declared.Outcome.TheVariants.{Accepted}
 use Rattle.image_bytes.specs.Image.{image_of}
 use Rattle.image.specs.Call.{imaged, image_misshaped, image_no_table, image_short, image_written}
 use Rattle.image.proofs.page_image.Goals as goal
 use Rattle.image.proofs.page_image.Goals.{Else-not-is_shaped}
+use Rattle.std.specs.Prelude.{Ok}
 
 -- past the first test the shape is known
 good : (c : Else-not-is_shaped) → let a = c.args in shaped a.handle (st a.words.now a.ledger.now) ≡ true
@@ -50,5 +50,5 @@ returns c =
     let a = c.args in
     let w = (goal.at.returns c).Else-not-is_shaped in
     let whole : 512 * a.k + 512 - 512 * a.k ≡ 512 = omega arith in
-    ap (imaged Accepted) (c.write_to.ensures ∙ ap (λ (n : ℕ). image_of (part_of (512 * a.k) n a.words.now)) whole)
+    ap (imaged (Ok tt)) (c.write_to.ensures ∙ ap (λ (n : ℕ). image_of (part_of (512 * a.k) n a.words.now)) whole)
     ∙ image_written a.handle (st a.words.now a.ledger.now) a.k a.page.now (good w) c.if-ledger-k.false c.if-page-ne4096.false

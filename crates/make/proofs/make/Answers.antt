@@ -9,8 +9,8 @@ use Rattle.pool.specs.State.{st}
 use Rattle.pool.specs.Number.{root_number}
 use Rattle.pool.specs.Refuse.{Shaped, shaped-says, out}
 use Rattle.make.specs.Call.{fresh, make_refused, make_accepted}
-use Rattle.pool.specs.declared.Outcome.TheVariants.{Accepted}
 use Rattle.make.proofs.make.Goals as goal
+use Rattle.std.specs.Prelude.{Ok}
 
 -- past the test the shape is known
 shape : (c : Else-not-is_shaped)
@@ -37,6 +37,6 @@ pub returns : goal.returns
 unfolding fresh root_number
 returns c =
     let a = c.args in
-    ap₂ (λ (w l : List ℕ). out Accepted (st w (set l 0 (4 + a.handle.level))))
+    ap₂ (λ (w l : List ℕ). out (Ok tt) (st w (set l 0 (4 + a.handle.level))))
     c.zero_words.ensures c.zero_numbers.ensures
     ∙ make_accepted a.handle (st a.words.now a.ledger.now) (sym c.is_shaped.ensures ∙ c.if-not-is_shaped.false)

@@ -6,9 +6,9 @@ use Prim.Native.Nat.{ℕ}
 use Rattle.entry.specs.Word.{only}
 use Rattle.pool.specs.Sound.{flag_set}
 use Rattle.pool.specs.declared.Refusal.TheVariants.{FlagSet}
-use Rattle.pool.specs.declared.Outcome.TheVariants.{Accepted, Refused}
 use Rattle.modify_verify.specs.Verify.{settable, verify_bits, bits_set_invalid, bits_clear_invalid, bits_unsettable, bits-settable}
 use Rattle.modify_verify.proofs.verify_bits.Goals as goal
+use Rattle.std.specs.Prelude.{Err, Ok}
 
 pub returns-then-set-eq1 : goal.returns-then-set-eq1
 returns-then-set-eq1 c = let a = c.args in bits_set_invalid a.handle a.set a.clear c.if-set-eq1.true
@@ -26,7 +26,7 @@ returns-then-not-are_settable c =
 -- past the tests of the bits to set
 rest : (c : Else-not-are_settable)
     → let a = c.args in
-    cond (only (flag_set a.handle) a.clear) Accepted (Refused (FlagSet a.clear)) ≡ verify_bits a.handle a.set a.clear
+    cond (only (flag_set a.handle) a.clear) (Ok tt) (Err (FlagSet a.clear)) ≡ verify_bits a.handle a.set a.clear
 rest c =
     let a = c.args in
     bits-settable a.handle a.set a.clear c.if-set-eq1.false c.if-clear-eq1.false
@@ -39,7 +39,7 @@ returns-then-not-are_from c =
     let outside : only (flag_set a.handle) a.clear ≡ false =
     ap (λ (x : ℕ). only x a.clear) (sym c.flag_set-flags.ensures) ∙ sym c.are_from.ensures
     ∙ c.if-not-are_from.true in
-    ap (λ (b : Bool). cond b Accepted (Refused (FlagSet a.clear))) (sym outside)
+    ap (λ (b : Bool). cond b (Ok tt) (Err (FlagSet a.clear))) (sym outside)
     ∙ rest (goal.at.returns-then-not-are_from c).Else-not-are_settable
 
 pub returns : goal.returns
@@ -48,5 +48,5 @@ returns c =
     let inside : only (flag_set a.handle) a.clear ≡ true =
     ap (λ (x : ℕ). only x a.clear) (sym c.flag_set-flags.ensures) ∙ sym c.are_from.ensures
     ∙ c.if-not-are_from.false in
-    ap (λ (b : Bool). cond b Accepted (Refused (FlagSet a.clear))) (sym inside)
+    ap (λ (b : Bool). cond b (Ok tt) (Err (FlagSet a.clear))) (sym inside)
     ∙ rest (goal.at.returns c).Else-not-are_settable

@@ -1,5 +1,5 @@
 -- `take_table`: each way through the code by its law.
-use Rattle.pool_take.proofs.take_table.Goals.{In-At, Start}
+use Rattle.pool_take.proofs.take_table.Goals.{In-Some, Start}
 use mathlib.Core.List.{List}
 use mathlib.Core.Path.{◌≡◌, sym, ap, ap₂, ◌∙◌}
 use Prim.Native.Nat.{ℕ, ◌+◌, ◌*◌, ◌-◌, ◌^◌, ◌≤◌, ◌<◌}
@@ -11,13 +11,13 @@ use Rattle.pool.specs.State.{st}
 use Rattle.pool.specs.Refuse.{max_tables}
 use Rattle.pool.specs.Number.{number_of, LowestFree, lowest_found}
 use Rattle.pool_table.specs.Table.{rising, length-rising, taken, take_at, take_none, take_some}
-use Rattle.pool.specs.declared.Found.TheVariants.{At}
 use Rattle.pool_table.proofs.Parts.{table_part}
 use Rattle.pool_take.proofs.take_table.Goals as goal
+use Rattle.std.specs.Prelude.{Some}
 
 -- the table that was found
-lowest : (c : In-At) → LowestFree c.args.ledger.now c.in-At.j
-lowest c = lowest_found c.args.ledger.now _ (sym c.lowest_free-free.ensures ∙ c.in-At.is)
+lowest : (c : In-Some) → LowestFree c.args.ledger.now c.in-Some.j
+lowest c = lowest_found c.args.ledger.now _ (sym c.lowest_free-free.ensures ∙ c.in-Some.is)
 
 -- the parts of the new table's number fit
 record Fits (p level i : ℕ) : Type 0 where
@@ -39,16 +39,16 @@ returns-in_default c =
     c.lowest_free-free.ensures c.in_default.is
 
 pub overflow_mul-a : goal.overflow_mul-a
-overflow_mul-a c = omega (arith, (lowest (goal.at.overflow_mul-a c).In-At).inside)
+overflow_mul-a c = omega (arith, (lowest (goal.at.overflow_mul-a c).In-Some).inside)
 
 pub overflow_add-e : goal.overflow_add-e
-overflow_add-e c = omega (arith, (lowest (goal.at.overflow_add-e c).In-At).inside)
+overflow_add-e c = omega (arith, (lowest (goal.at.overflow_add-e c).In-Some).inside)
 
 pub offset_bounds-words-a : goal.offset_bounds-words-a
-offset_bounds-words-a c = omega (arith, (lowest (goal.at.offset_bounds-words-a c).In-At).inside)
+offset_bounds-words-a c = omega (arith, (lowest (goal.at.offset_bounds-words-a c).In-Some).inside)
 
 pub slice_bounds-fill-end : goal.slice_bounds-fill-end
-slice_bounds-fill-end c = omega (arith, (lowest (goal.at.slice_bounds-fill-end c).In-At).inside)
+slice_bounds-fill-end c = omega (arith, (lowest (goal.at.slice_bounds-fill-end c).In-Some).inside)
 
 pub overflow_add-ledger : goal.overflow_add-ledger
 overflow_add-ledger c = record { fits = (parts (goal.at.overflow_add-ledger c).Start).front }
@@ -64,10 +64,10 @@ unfolding max_tables
 overflow_cast-ledger c = omega (arith, c.requires.0.limit)
 
 pub offset_bounds-ledger-j : goal.offset_bounds-ledger-j
-offset_bounds-ledger-j c = let h = (lowest (goal.at.offset_bounds-ledger-j c).In-At).inside in omega arith
+offset_bounds-ledger-j c = let h = (lowest (goal.at.offset_bounds-ledger-j c).In-Some).inside in omega arith
 
 pub bounds-ledger-j : goal.bounds-ledger-j
-bounds-ledger-j c = let h = (lowest (goal.at.bounds-ledger-j c).In-At).inside in omega arith
+bounds-ledger-j c = let h = (lowest (goal.at.bounds-ledger-j c).In-Some).inside in omega arith
 
 pub overflow_mul-words : goal.overflow_mul-words
 overflow_mul-words c = record { fits = (parts (goal.at.overflow_mul-words c).Start).row }
@@ -77,15 +77,15 @@ unfolding take_at number_of
 returns c =
     let a = c.args in
     let shape = c.requires.0 in
-    let j = c.in-At.j in
-    let inside = (lowest (goal.at.returns c).In-At).inside in
+    let j = c.in-Some.j in
+    let inside = (lowest (goal.at.returns c).In-Some).inside in
     let part = c.fill in
     let all = rising 512 a.first a.step in
     let linked : c.link.result ≡ link_of a.handle.base.0 j =
     c.link.ensures ∙ link_fits a.handle.base.0 j shape.paged (omega (arith, shape.ended)) in
     let filled = ap (put_mid (512 * j) (512 * j + 512 - 512 * j) a.words.now) part.ensures
     ∙ table_part j a.words.now all (length-rising 512 a.first a.step) in
-    ap₂ (λ (w : List ℕ) (x : ℕ). taken (At j)
+    ap₂ (λ (w : List ℕ) (x : ℕ). taken (Some j)
     (st (set w (512 * a.p + a.i) x) (set a.ledger.now j (4 + a.level + 8 * (512 * a.p + a.i + 1))))) filled linked
     ∙ take_some a.handle a.p a.level a.i all (st a.words.now a.ledger.now) j
-    c.lowest_free-free.ensures c.in-At.is
+    c.lowest_free-free.ensures c.in-Some.is

@@ -3,7 +3,7 @@ use mathlib.Core.Path.{sym, ap}
 use Prim.Native.Nat.{ℕ, ◌/◌}
 use native.Mathlib.Omega.{arith}
 use Rattle.laws.specs.Size.{size_at, size_page}
-use Rattle.map_count_leaf.proofs.entry_number.Goals as goal
+use Rattle.address_slot.proofs.entry_number.Goals as goal
 
 pub returns-in-0 : goal.returns-in-0
 unfolding size_at

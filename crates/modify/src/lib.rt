@@ -59,7 +59,7 @@ fn modify_sound(
     let none = Survey {
         splits: 0,
         numbers: 0,
-        breach: None,
+        broken: None,
     };
     let found = modify_survey::survey_range(words, ledger, handle, 0, handle.level, edit, none);
     modify_verify::verify_survey(free, list.len() as u64, edit.live, found)?;

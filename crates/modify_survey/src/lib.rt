@@ -18,7 +18,7 @@ use region::MemoryRegion;
 pub struct Survey {
     pub splits: u64,
     pub numbers: u64,
-    pub breach: Option<u64>,
+    pub broken: Option<u64>,
 }
 
 // Bits 0, 7, 10, 11, 51 and 53 to 58.
@@ -61,7 +61,7 @@ fn add_breach(found: Survey, word: u64) -> Survey
     ensures { result ≡ breach word found }
 {
     Survey {
-        breach: found.breach.or(Some(word)),
+        broken: found.broken.or(Some(word)),
         ..found
     }
 }

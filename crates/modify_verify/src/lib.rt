@@ -64,7 +64,7 @@ pub fn verify_survey(free: u64, room: u64, live: bool, found: Survey) -> Result<
     if !live {
         return Ok(());
     }
-    if let Some(word) = found.breach {
+    if let Some(word) = found.broken {
         return Err(Refusal::HouseRule(word));
     }
     if room < found.numbers {

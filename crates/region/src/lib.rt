@@ -3,7 +3,7 @@
 
 ghost use Rattle.std.specs.Prelude.{◌≡◌, ◌-◌};
 ghost use Rattle.std.specs.Iterator.{item_count};
-ghost use Rattle.region.specs.Region.{rounded, whole, next, next_chunk};
+ghost use Rattle.region.specs.Region.{rounded, whole, parted, next_chunk};
 ghost use Rattle.region.specs.Chunks.{chunks_of};
 
 use address::VirtualAddress;
@@ -61,7 +61,7 @@ impl MemoryRegion {
 impl Iterator for ChunkedIterator {
     type Item = MemoryRegion;
 
-    ghost next_gives = { λ before chunk after. next chunk after ≡ next_chunk before };
+    ghost next_gives = { λ before chunk after. parted chunk after ≡ next_chunk before };
 
     ghost remaining = { item_count chunks_of };
 

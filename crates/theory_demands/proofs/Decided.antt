@@ -6,12 +6,13 @@ use Rattle.region.specs.declared.MemoryRegion.{MemoryRegion}
 use Rattle.pool.specs.declared.Refusal.TheVariants.{Frame}
 use Rattle.map_verify.specs.Verify.{frame_asked, frame_part, frame_past, frame_fits}
 use Rattle.theory_demands.specs.Slip.{BadFrame}
-use Rattle.std.specs.Prelude.{Err, Ok}
+use Rattle.std.specs.Prelude.{Err}
+use Rattle.pool.specs.Refuse.{granted}
 
 -- 7
 pub frame_told : (frame : ℕ) (r : MemoryRegion) → let length = r.end.0 - r.start.0 in
     ((frame_asked frame length ≡ Err (Frame (record { 0 = frame }))) × BadFrame frame r)
-    ⊎ ((frame_asked frame length ≡ Ok tt) × (¬ (BadFrame frame r)))
+    ⊎ ((frame_asked frame length ≡ granted) × (¬ (BadFrame frame r)))
 frame_told frame r =
     let length = r.end.0 - r.start.0 in
     ⊎_elim

@@ -12,7 +12,7 @@ use Rattle.region.specs.Region.{rounded}
 use Rattle.region.specs.declared.MemoryRegion.{MemoryRegion}
 use Rattle.pool.specs.State.{St}
 use Rattle.pool.specs.Number.{free}
-use Rattle.pool.specs.Refuse.{shaped}
+use Rattle.pool.specs.Refuse.{shaped, granted}
 use Rattle.pool.specs.Sound.{soundb, flag_set}
 use Rattle.pool.specs.declared.Handle.{Handle}
 use Rattle.pool.specs.declared.Refusal.{Refusal}
@@ -37,7 +37,7 @@ use Rattle.theory_demands.specs.Slip.{ModifySlip}
 use Rattle.theory_demands.specs.Told.{NoneBelow, LowestGiven, number_range, shape_lowest, none_first, none_next}
 use Rattle.theory_demands.specs.Decided.{misshaped, well_shaped, not_misshaped, unsound, sound, RegionStands, region-told, end_told}
 use Rattle.theory_demands.specs.Decided.{set_told}
-use Rattle.std.specs.Prelude.{Err, Ok}
+use Rattle.std.specs.Prelude.{Err}
 use Rattle.pool.specs.Refuse.{Outcome}
 
 -- ---- 3 and 4, decided
@@ -47,7 +47,7 @@ abbrev BitsTold : Handle → ℕ → ℕ → Type 0
 BitsTold h set clear =
     ((f : ℕ) × (Err (InvalidFlags f) ≡ verify_bits h set clear) × BadBit set clear f)
     ⊎ (((f : ℕ) × (Err (FlagSet f) ≡ verify_bits h set clear) × ((g : ℕ) → ¬ (BadBit set clear g)) × BadFlags h set clear f)
-    ⊎ (((Ok tt) ≡ verify_bits h set clear) × ((g : ℕ) → ¬ (BadBit set clear g)) × ((g : ℕ) → ¬ (BadFlags h set clear g))))
+    ⊎ ((granted ≡ verify_bits h set clear) × ((g : ℕ) → ¬ (BadBit set clear g)) × ((g : ℕ) → ¬ (BadFlags h set clear g))))
 
 module _ (h : Handle) (set clear : ℕ) where
   no_bit : ¬ (HasBit1 set) → ¬ (HasBit1 clear) → (g : ℕ) → ¬ (BadBit set clear g)
@@ -169,7 +169,7 @@ module _ (h : Handle) (s : St) (start end set clear : ℕ) (live : Bool) (list :
           refused_by (FlagSet x.0) (edit_bits h end e ends x.1 (FlagSet x.0) refl) (record { given = x.3; lower = three x.2 })
 
       module _
-          (bits : ((Ok tt) ≡ verify_bits h set clear) × ((g : ℕ) → ¬ (BadBit set clear g)) × ((g : ℕ) → ¬ (BadFlags h set clear g))) where
+          (bits : (granted ≡ verify_bits h set clear) × ((g : ℕ) → ¬ (BadBit set clear g)) × ((g : ℕ) → ¬ (BadFlags h set clear g))) where
         four : NoneBelow Here 5
         unfolding ModifySlip
         four = none_next Here 4 (three bits.1) bits.2
@@ -192,7 +192,7 @@ module _ (h : Handle) (s : St) (start end set clear : ℕ) (live : Bool) (list :
         unfolding ModifySlip
         beyond x = refused_by (AddressRange x.0) (sym x.1 ∙ region_is) (record { given = x.3; lower = five x.2 })
 
-        module _ (stands : (verify h r ≡ Ok tt) × RegionStands h r) where
+        module _ (stands : (verify h r ≡ granted) × RegionStands h r) where
           whole_is : modify_sound h e s list ≡ Whole
           whole_is = call-asked h start end set clear live s list fits region_is stands.0
 
@@ -239,7 +239,7 @@ module _ (h : Handle) (s : St) (start end set clear : ℕ) (live : Bool) (list :
             unfolding asked_edit
             surveyed told y q lowest = inl (y, sym (sound_refused h e s list is refl refl told y q ∙ whole_is), lowest)
 
-            done : (Ok tt) ≡ verify_survey (free s.ledger) (length list) live v → v.splits ≤ free s.ledger
+            done : granted ≡ verify_survey (free s.ledger) (length list) live v → v.splits ≤ free s.ledger
                 → (live ≡ true → (v.broken ≡ false) × (v.numbers ≤ length list)) → Goal
             unfolding asked_edit ModifySlip
             done told room rest = inr (

@@ -10,7 +10,7 @@ use Rattle.entry.specs.Word.{only}
 use Rattle.region.specs.Region.{rounded}
 use Rattle.pool.specs.State.{St}
 use Rattle.pool.specs.Number.{free}
-use Rattle.pool.specs.Refuse.{shaped}
+use Rattle.pool.specs.Refuse.{shaped, granted}
 use Rattle.pool.specs.Sound.{soundb, flag_set}
 use Rattle.pool.specs.declared.Handle.{Handle}
 use Rattle.pool.specs.declared.Refusal.{Refusal}
@@ -29,7 +29,7 @@ use Rattle.theory_demands.specs.Decided.{misshaped, not_misshaped, unsound, soun
 use Rattle.theory_demands.specs.Decided.{set_told}
 use Rattle.theory_demands.proofs.Decided.{frame_told}
 use Rattle.theory_demands.specs.Refused.{answer-same}
-use Rattle.std.specs.Prelude.{Err, Ok}
+use Rattle.std.specs.Prelude.{Err}
 
 -- ---- map: 1 to 9
 
@@ -102,7 +102,7 @@ module _ (h : Handle) (s : St) (start end frame flags constraints : ℕ) where
               map-refused (AddressRange x.0) (ask_region h end m ends plain from.0 (sym x.1) (AddressRange x.0) refl)
               (record { given = x.3; lower = map_five x.2 })
 
-          module _ (stands : (verify h (rounded start end) ≡ Ok tt) × RegionStands h (rounded start end)) where
+          module _ (stands : (verify h (rounded start end) ≡ granted) × RegionStands h (rounded start end)) where
             framed : frame_asked frame ((rounded start end).end.0 - (rounded start end).start.0) ≡ verify_map h end m
             unfolding asked_map
             framed = ask_frame h end m ends plain from.0 (sym stands.0) refl
@@ -120,7 +120,7 @@ module _ (h : Handle) (s : St) (start end frame flags constraints : ℕ) where
                 map-refused (Frame (record { 0 = frame })) (sym x.0 ∙ framed) (record { given = (refl, x.1); lower = map_six })
 
             module _
-                (well : (frame_asked frame ((rounded start end).end.0 - (rounded start end).start.0) ≡ Ok tt)
+                (well : (frame_asked frame ((rounded start end).end.0 - (rounded start end).start.0) ≡ granted)
                 × (¬ (BadFrame frame (rounded start end)))) where
               map_asked_lem : map_sound h m s ≡ map_call h start end frame flags constraints s
               map_asked_lem = call-asked h start end frame flags constraints s fits framed well.0

@@ -7,7 +7,7 @@ use Rattle.laws.specs.Test.{by_bool, is_true, le_or}
 use Rattle.region.specs.Region.{rounded}
 use Rattle.pool.specs.State.{St}
 use Rattle.pool.specs.Number.{used, free}
-use Rattle.pool.specs.Refuse.{number, shaped, says-shaped}
+use Rattle.pool.specs.Refuse.{number, shaped, says-shaped, granted}
 use Rattle.pool.specs.Sound.{soundb}
 use Rattle.pool.specs.declared.Handle.{Handle}
 use Rattle.pool.specs.declared.Refusal.{Refusal}
@@ -52,7 +52,7 @@ use Rattle.theory_modify.specs.Listed.{changes}
 use Rattle.theory_modify.proofs.Listed.{region_tells}
 use Rattle.theory_modify.specs.Asked.{asked-bits, asked_area, asked_forwards, asked_early}
 use Rattle.theory_modify.specs.Call.{work_after, Clear, Judged, is_full, is_broken, is_short, is_clear}
-use Rattle.std.specs.Prelude.{Err, Ok}
+use Rattle.std.specs.Prelude.{Err}
 use Rattle.pool.specs.Refuse.{Outcome}
 
 module _ {h : Handle} {c : ModifyArguments} {s : St} (passed : ModifyPassed h c s) where
@@ -172,7 +172,7 @@ module _ {h : Handle} {c : ModifyArguments} {s : St} (passed : ModifyPassed h c 
   unfolding asked_edit
   call_stopped r q = sym (sound_refused h (edit_asked c) s list sound_is refl refl refl r q ∙ asked_is)
 
-  pub call_done : verdict h c s list ≡ Ok tt → let w = work_after h c s list in
+  pub call_done : verdict h c s list ≡ granted → let w = work_after h c s list in
       modify_answer h c s list ≡ modifying (modify_accepted c.live (used w.state.ledger) w.count) w.state w.list
   unfolding asked_edit
   call_done q = sym (sound_edited h (edit_asked c) s list sound_is refl refl refl q ∙ asked_is) ∙ done_is h c s list
@@ -194,7 +194,7 @@ module _ {h : Handle} {c : ModifyArguments} {s : St} (passed : ModifyPassed h c 
       room : (surveyed h c s).splits ≤ free s.ledger
       room = omega (arith, fits.room, splits-made passed)
 
-      go : (live : Bool) → c.live ≡ live → verdict h c s list ≡ Ok tt
+      go : (live : Bool) → c.live ≡ live → verdict h c s list ≡ granted
       go true q =
           sym (survey_accepted (free s.ledger) (length list) c.live (surveyed h c s) room q (fits.kept q)
           (omega (arith, fits.enough q, numbers-made passed (fits.kept q))))

@@ -6,7 +6,7 @@ use Rattle.laws.specs.Size.{span}
 use Rattle.region.specs.Region.{rounded}
 use Rattle.region.specs.declared.MemoryRegion.{MemoryRegion}
 use Rattle.pool.specs.State.{St, tables}
-use Rattle.pool.specs.Refuse.{Shaped, shaped-says}
+use Rattle.pool.specs.Refuse.{Shaped, shaped-says, granted}
 use Rattle.pool.specs.declared.Handle.{Handle}
 use Rattle.pool.specs.declared.VaRange.{VaRange}
 use Rattle.pool.specs.declared.VaRange.TheVariants.{Lower, Upper}
@@ -46,7 +46,7 @@ module _ (h : Handle) (s : St) (start end : ℕ) where
       shape : Shaped h s
       shape = shaped-says h s (rw accepted.shape tt)
 
-      verified : verify h r ≡ Ok tt
+      verified : verify h r ≡ granted
       verified = ends_verified h start end accepted.region
 
       stays : (a : ℕ) → reach h.base.0 (tables s) s.words a h.level ≢ away

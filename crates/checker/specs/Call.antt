@@ -4,16 +4,16 @@ use Rattle.std.proofs.Common.{sym, ◌∙◌, arith}
 use Rattle.laws.specs.Test.{by_bool}
 use Rattle.pool.specs.State.{St}
 use Rattle.pool.specs.Number.{used}
-use Rattle.pool.specs.Refuse.{shaped}
+use Rattle.pool.specs.Refuse.{shaped, granted}
 use Rattle.pool.specs.Sound.{soundb}
 use Rattle.pool.specs.declared.Handle.{Handle}
 use Rattle.pool.specs.declared.Refusal.TheVariants.{Shape, Unsound}
-use Rattle.std.specs.Prelude.{Err, None, Ok, Option, Some}
+use Rattle.std.specs.Prelude.{Err, None, Option, Some}
 use Rattle.pool.specs.Refuse.{Outcome}
 
 -- refusals 1, 8
 unfoldable pub check_call : Handle → St → Outcome
-check_call h s = cond (shaped h s) (cond (soundb h s) (Ok tt) (Err Unsound)) (Err Shape)
+check_call h s = cond (shaped h s) (cond (soundb h s) granted (Err Unsound)) (Err Shape)
 
 -- the tables in use, where the pool is sound
 unfoldable pub sound_count : Handle → St → Option ℕ
@@ -54,6 +54,6 @@ pub check_unsound : (h : Handle) (s : St) → shaped h s ≡ true → soundb h s
 unfolding check_call
 check_unsound h s e q = rw (e, q)
 
-pub check_sound : (h : Handle) (s : St) → shaped h s ≡ true → soundb h s ≡ true → (Ok tt) ≡ check_call h s
+pub check_sound : (h : Handle) (s : St) → shaped h s ≡ true → soundb h s ≡ true → granted ≡ check_call h s
 unfolding check_call
 check_sound h s e q = rw (e, q)

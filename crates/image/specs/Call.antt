@@ -3,11 +3,11 @@ use Rattle.std.specs.Prelude.{◌≡◌, true, false, cond, List, ℕ, ◌*◌, 
 use borrow.Author.Tests.{lt-ltb, le-ltb, eq-eqb, ne_eqb}
 use Rattle.laws.specs.Part.{part_of}
 use Rattle.pool.specs.State.{St, tables}
-use Rattle.pool.specs.Refuse.{shaped}
+use Rattle.pool.specs.Refuse.{shaped, granted}
 use Rattle.image_bytes.specs.Image.{image_of}
 use Rattle.pool.specs.declared.Handle.{Handle}
 use Rattle.pool.specs.declared.Refusal.TheVariants.{Shape, Short}
-use Rattle.std.specs.Prelude.{Err, Ok}
+use Rattle.std.specs.Prelude.{Err}
 use Rattle.pool.specs.Refuse.{Outcome}
 
 -- the answer and the page
@@ -22,7 +22,7 @@ unfoldable pub image_call : Handle → St → ℕ → List ℕ → Imaged
 image_call h s k page =
     cond (shaped h s)
     (cond (ltb k (tables s))
-    (cond (eqb (length page) 4096) (imaged (Ok tt) (image_of (part_of (512 * k) 512 s.words))) (imaged (Err (Short 4096)) page))
+    (cond (eqb (length page) 4096) (imaged granted (image_of (part_of (512 * k) 512 s.words))) (imaged (Err (Short 4096)) page))
     (imaged (Err Shape) page))
     (imaged (Err Shape) page)
 
@@ -42,6 +42,6 @@ module _ (h : Handle) (s : St) (k : ℕ) (page : List ℕ) where
   image_short e l n = rw (e, lt-ltb k (tables s) l, ne_eqb (length page) 4096 n)
 
   pub image_written : shaped h s ≡ true → k < tables s → length page ≡ 4096
-      → imaged (Ok tt) (image_of (part_of (512 * k) 512 s.words)) ≡ image_call h s k page
+      → imaged granted (image_of (part_of (512 * k) 512 s.words)) ≡ image_call h s k page
   unfolding image_call
   image_written e l n = rw (e, lt-ltb k (tables s) l, eq-eqb (length page) 4096 n)

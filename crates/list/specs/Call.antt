@@ -8,20 +8,23 @@ use Rattle.address.specs.Address.{up-below}
 use Rattle.region.specs.Region.{rounded}
 use Rattle.region.specs.declared.MemoryRegion.{MemoryRegion}
 use Rattle.pool.specs.State.{St, tables}
-use Rattle.pool.specs.Refuse.{shaped, first_refused, accepted_next, refused-first}
+use Rattle.pool.specs.Refuse.{shaped, first_refused, accepted_next, refused-first, granted}
 use Rattle.pool.specs.Sound.{soundb}
 use Rattle.pool.specs.declared.Handle.{Handle}
 use Rattle.pool.specs.declared.Refusal.{Refusal}
 use Rattle.pool.specs.declared.Refusal.TheVariants.{Shape, End, Unsound, Short}
 use Rattle.region_verify.specs.Verify.{end_fits, verify, refused_never, verified_span, span-length}
 use Rattle.list_lines.specs.Lines.{Line, numbers, length-numbers, lines_from, lines_of}
-use Rattle.std.specs.Prelude.{Err, Ok}
-use Rattle.list.specs.Call.{Listed}
+use Rattle.std.specs.Prelude.{Result, Err, Ok}
 use Rattle.pool.specs.Refuse.{Outcome}
 
 -- refusals 2, 5, 6
 unfoldable pub verify_ends : Handle → ℕ → ℕ → Outcome
 verify_ends h start end = cond (end_fits end) (verify h (rounded start end)) (Err (End end))
+
+-- what list answers: the count of its lines
+abbrev pub Listed : Type 0
+Listed = Result ℕ Refusal
 
 -- the answer and the list
 pub record Listing : Type 0 where
@@ -65,7 +68,7 @@ module _ (h : Handle) (s : St) (start end : ℕ) (list : List ℕ) where
     pub list_region : (r : Refusal) → x ≡ Err r → listing (Err r) list ≡ list_call h s start end list
     list_region r e = refused-first (λ r. listing (Err r) list) x _ r e ∙ by_ends
 
-    module _ (region : x ≡ Ok tt) where
+    module _ (region : x ≡ granted) where
       by_sound : list_sound h s (rounded start end) list ≡ list_call h s start end list
       by_sound = accepted_next (λ r. listing (Err r) list) x _ region ∙ by_ends
 
@@ -104,11 +107,11 @@ list_written ls list l =
 
 -- ---- a region that was verified is no longer than the largest span
 
-pub ends_verified : (h : Handle) (start end : ℕ) → verify_ends h start end ≡ Ok tt → verify h (rounded start end) ≡ Ok tt
+pub ends_verified : (h : Handle) (start end : ℕ) → verify_ends h start end ≡ granted → verify h (rounded start end) ≡ granted
 unfolding verify_ends
 ends_verified h start end e = by_bool (end_fits end) (λ f. rw f at e) (λ f. absurd (refused_never (rw f at e)))
 
-pub verified_length : (h : Handle) (start end : ℕ) → verify_ends h start end ≡ Ok tt → {r : MemoryRegion} → r ≡ rounded start end
+pub verified_length : (h : Handle) (start end : ℕ) → verify_ends h start end ≡ granted → {r : MemoryRegion} → r ≡ rounded start end
     → r.end.0 - r.start.0 ≤ 2 ^ 48
 unfolding rounded
 verified_length h start end e q =

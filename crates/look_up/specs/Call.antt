@@ -18,27 +18,30 @@ use Rattle.arm.specs.Arm.{frame_of, flags_in, Walked, hole, block, page, outside
 use Rattle.arm.specs.Walk.{says_hole, says_block, says_page}
 use Rattle.look_up.specs.declared.Looked.{Looked}
 use Rattle.look_up.specs.declared.Looked.TheVariants.{Hole, Block, Page}
-use Rattle.std.specs.Prelude.{Err}
+use Rattle.std.specs.Prelude.{Result, Err, Ok}
+use Rattle.pool.specs.declared.Refusal.{Refusal}
+
+-- what look up answers
+abbrev pub LookUpAnswer : Type 0
+LookUpAnswer = Result Looked Refusal
 
 -- the number that an answer returns: 0, or the refusal's (document 01, "The refusal slip": No.)
-abbrev pub returned : Looked → ℕ
-returned (Hole level flags) = 0
-returned (Block level flags frame) = 0
-returned (Page level flags frame) = 0
+abbrev pub returned : LookUpAnswer → ℕ
+returned (Ok found) = 0
 returned (Err r) = number r
 
 -- the values of an answer: kind (0 hole, 1 block, 2 page), level, flags, frame (0 for a hole); of a refusal, what it carries
-abbrev pub values : Looked → List ℕ
-values (Hole level flags) = 0 ∷ level ∷ flags ∷ 0 ∷ []
-values (Block level flags frame) = 1 ∷ level ∷ flags ∷ frame.0 ∷ []
-values (Page level flags frame) = 2 ∷ level ∷ flags ∷ frame.0 ∷ []
+abbrev pub values : LookUpAnswer → List ℕ
+values (Ok (Hole level flags)) = 0 ∷ level ∷ flags ∷ 0 ∷ []
+values (Ok (Block level flags frame)) = 1 ∷ level ∷ flags ∷ frame.0 ∷ []
+values (Ok (Page level flags frame)) = 2 ∷ level ∷ flags ∷ frame.0 ∷ []
 values (Err r) = carried r
 
 -- the walk as an answer: refusal 8 where a table word on its path points outside the pool
-unfoldable pub answer : Walked → Looked
-answer (hole level flags) = Hole level flags
-answer (block level flags frame) = Block level flags (record { 0 = frame })
-answer (page level flags frame) = Page level flags (record { 0 = frame })
+unfoldable pub answer : Walked → LookUpAnswer
+answer (hole level flags) = Ok (Hole level flags)
+answer (block level flags frame) = Ok (Block level flags (record { 0 = frame }))
+answer (page level flags frame) = Ok (Page level flags (record { 0 = frame }))
 answer outside = Err Unsound
 
 -- the address lies in the root's span: from 0 up, or up to 2^64 (document 01, "The refusal slip", 6)
@@ -46,7 +49,7 @@ unfoldable pub spanned : VaRange → ℕ → ℕ → Bool
 spanned Lower level va = ltb va (span level)
 spanned Upper level va = leb (2 ^ 64 - span level) va
 
-unfoldable pub look_up_call : Handle → St → ℕ → Looked
+unfoldable pub look_up_call : Handle → St → ℕ → LookUpAnswer
 look_up_call h s va =
     cond (shaped h s)
     (cond (spanned h.range h.level va)
@@ -85,18 +88,28 @@ module _ (range : VaRange) (level va g : ℕ) where
       let o : suc (18446744073709551615 - 512 * g) ≡ 2 ^ 64 - span level = omega arith in
       rw (e, o)
 
+-- the three answers of an accepted look up
+abbrev hole_answer : ℕ → ℕ → LookUpAnswer
+hole_answer level flags = Ok (Hole level flags)
+
+abbrev block_answer : ℕ → ℕ → ℕ → LookUpAnswer
+block_answer level flags frame = Ok (Block level flags (record { 0 = frame }))
+
+abbrev page_answer : ℕ → ℕ → ℕ → LookUpAnswer
+page_answer level flags frame = Ok (Page level flags (record { 0 = frame }))
+
 -- what a word says that ends the walk
 module _ (level w va : ℕ) {flags : ℕ} (flag : flags ≡ flags_in w) where
-  pub leaf_hole : kind_of level w ≡ hole' → Hole level flags ≡ answer (says va (at level w))
+  pub leaf_hole : kind_of level w ≡ hole' → Ok (Hole level flags) ≡ answer (says va (at level w))
   unfolding answer
-  leaf_hole e = ap (Hole level) flag ∙ sym (ap answer (says_hole level w va e))
+  leaf_hole e = ap (hole_answer level) flag ∙ sym (ap answer (says_hole level w va e))
 
   pub leaf_block : {frame : PhysicalAddress} → frame.0 ≡ frame_of level w va → kind_of level w ≡ block'
-      → Block level flags frame ≡ answer (says va (at level w))
+      → Ok (Block level flags frame) ≡ answer (says va (at level w))
   unfolding answer
-  leaf_block f e = ap₂ (λ (x y : ℕ). Block level x (record { 0 = y })) flag f ∙ sym (ap answer (says_block level w va e))
+  leaf_block f e = ap₂ (λ (x y : ℕ). block_answer level x y) flag f ∙ sym (ap answer (says_block level w va e))
 
   pub leaf_page : {frame : PhysicalAddress} → frame.0 ≡ frame_of level w va → w % 4 ≡ 3
-      → Page level flags frame ≡ answer (says va (at level w))
+      → Ok (Page level flags frame) ≡ answer (says va (at level w))
   unfolding answer
-  leaf_page f e = ap₂ (λ (x y : ℕ). Page level x (record { 0 = y })) flag f ∙ sym (ap answer (says_page level w va e))
+  leaf_page f e = ap₂ (λ (x y : ℕ). page_answer level x y) flag f ∙ sym (ap answer (says_page level w va e))

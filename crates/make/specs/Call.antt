@@ -2,7 +2,7 @@
 use Rattle.std.specs.Prelude.{◌≡◌, true, false, cond, length, set, replicate}
 use Rattle.pool.specs.State.{St, st}
 use Rattle.pool.specs.Number.{root_number}
-use Rattle.pool.specs.Refuse.{shaped, Out, out, refuse}
+use Rattle.pool.specs.Refuse.{shaped, Out, out, refuse, granted}
 use Rattle.pool.specs.declared.Handle.{Handle}
 use Rattle.pool.specs.declared.Refusal.TheVariants.{Shape}
 use Rattle.std.specs.Prelude.{Ok}
@@ -14,7 +14,7 @@ unfoldable pub fresh : Handle → St → St
 fresh h s = st (replicate (length s.words) 0) (set (replicate (length s.ledger) 0) 0 (root_number h.level))
 
 unfoldable pub make_call : Handle → St → Out Outcome
-make_call h s = cond (shaped h s) (out (Ok tt) (fresh h s)) (refuse Shape s)
+make_call h s = cond (shaped h s) (out granted (fresh h s)) (refuse Shape s)
 
 -- ---- laws: one for each way through the code
 
@@ -22,6 +22,6 @@ pub make_refused : (h : Handle) (s : St) → shaped h s ≡ false → refuse Sha
 unfolding make_call
 make_refused h s e = rw e
 
-pub make_accepted : (h : Handle) (s : St) → shaped h s ≡ true → out (Ok tt) (fresh h s) ≡ make_call h s
+pub make_accepted : (h : Handle) (s : St) → shaped h s ≡ true → out granted (fresh h s) ≡ make_call h s
 unfolding make_call
 make_accepted h s e = rw e

@@ -6,7 +6,7 @@ use Rattle.std.proofs.Common.{ap, ◌∙◌}
 use borrow.Author.Tests.{lt-ltb, le-ltb}
 use Rattle.pool.specs.State.{St}
 use Rattle.pool.specs.Number.{used, free}
-use Rattle.pool.specs.Refuse.{shaped, Out, out, first_refused, accepted_next, refused-first}
+use Rattle.pool.specs.Refuse.{shaped, Out, out, first_refused, accepted_next, refused-first, granted}
 use Rattle.pool.specs.Sound.{soundb}
 use Rattle.pool.specs.declared.Handle.{Handle}
 use Rattle.pool.specs.declared.Refusal.{Refusal}
@@ -78,5 +78,5 @@ module _ (h : Handle) (start end frame flags constraints : ℕ) (s : St) where
     pub call-refused : (r : Refusal) → x ≡ Err r → refused r s ≡ map_call h start end frame flags constraints s
     call-refused r e = refused-first (λ r. refused r s) x _ r e ∙ by_asked
 
-    pub call-asked : x ≡ Ok tt → map_sound h m s ≡ map_call h start end frame flags constraints s
+    pub call-asked : x ≡ granted → map_sound h m s ≡ map_call h start end frame flags constraints s
     call-asked e = accepted_next (λ r. refused r s) x _ e ∙ by_asked

@@ -11,7 +11,7 @@ use Rattle.laws.specs.Test.{by_bool, eq_or, le_or}
 use Rattle.address.specs.Address.{align_up}
 use Rattle.region.specs.Region.{rounded}
 use Rattle.region.specs.declared.MemoryRegion.{MemoryRegion}
-use Rattle.pool.specs.Refuse.{first_refused, accepted_next, refused-first}
+use Rattle.pool.specs.Refuse.{first_refused, accepted_next, refused-first, granted}
 use Rattle.pool.specs.Sound.{flag_set}
 use Rattle.pool.specs.declared.Handle.{Handle}
 use Rattle.pool.specs.declared.Refusal.{Refusal}
@@ -19,8 +19,9 @@ use Rattle.pool.specs.declared.Refusal.TheVariants.{End, InvalidFlags, FlagSet, 
 use Rattle.region_verify.specs.Verify.{end_fits, verify, refused_never, verified_forwards}
 use Rattle.map_rules.specs.declared.Map.{Map}
 use Rattle.map_rules.specs.Fit.{Fit}
-use Rattle.std.specs.Prelude.{Err, Ok}
+use Rattle.std.specs.Prelude.{Err}
 use Rattle.pool.specs.Refuse.{Outcome}
+use Rattle.std.specs.Prelude.{Ok}
 
 -- the map that a call asks for: "start is rounded down and end up to 4096"; "blocks allowed" is NO_BLOCK_MAPPINGS unset, the constraints'
 -- bit 0
@@ -41,7 +42,7 @@ abbrev pub frames_fit : ℕ → ℕ → Bool
 frames_fit frame length = eqb (frame % 4096) 0 && leb (frame + length) (2 ^ 48)
 
 unfoldable pub frame_asked : ℕ → ℕ → Outcome
-frame_asked frame length = cond (frames_fit frame length) (Ok tt) (Err (Frame (record { 0 = frame })))
+frame_asked frame length = cond (frames_fit frame length) granted (Err (Frame (record { 0 = frame })))
 
 -- 2: the end; 3: bit 1 of the flags; 4: flags from the set; 5, 6: the region; 7: the frame
 unfoldable pub verify_map : Handle → ℕ → Map → Outcome
@@ -76,7 +77,7 @@ module _ (frame length : ℕ) where
   unfolding frame_asked
   frame_not e = rw e
 
-  pub frame_may : frames_fit frame length ≡ true → (Ok tt) ≡ frame_asked frame length
+  pub frame_may : frames_fit frame length ≡ true → granted ≡ frame_asked frame length
   unfolding frame_asked
   frame_may e = rw e
 
@@ -88,7 +89,7 @@ module _ (frame length : ℕ) where
   unfolding frame_asked
   frame_past e l = rw (eq-eqb (frame % 4096) 0 e, lt-leb (frame + length) (2 ^ 48) l)
 
-  pub frame_fits : frame % 4096 ≡ 0 → frame + length ≤ 2 ^ 48 → (Ok tt) ≡ frame_asked frame length
+  pub frame_fits : frame % 4096 ≡ 0 → frame + length ≤ 2 ^ 48 → granted ≡ frame_asked frame length
   unfolding frame_asked
   frame_fits e l = rw (eq-eqb (frame % 4096) 0 e, le-leb (frame + length) (2 ^ 48) l)
 
@@ -116,7 +117,7 @@ module _ (h : Handle) (end : ℕ) (m : Map) where
         pub ask_region : {x : Outcome} → x ≡ verify h m.region → (r : Refusal) → x ≡ Err r → x ≡ verify_map h end m
         ask_region e r q = q ∙ refused-first Err _ _ r (sym e ∙ q) ∙ by_region
 
-        pub ask_frame : {x : Outcome} → x ≡ verify h m.region → x ≡ Ok tt
+        pub ask_frame : {x : Outcome} → x ≡ verify h m.region → x ≡ granted
             → frame_asked m.frame.0 (m.region.end.0 - m.region.start.0) ≡ verify_map h end m
         ask_frame e q = accepted_next Err _ _ (sym e ∙ q) ∙ by_region
 
@@ -135,11 +136,11 @@ pub record Passes (h : Handle) (end : ℕ) (m : Map) : Type 0 where
   pub ends : end_fits end ≡ true
   pub plain : m.flags / 2 % 2 ≡ 0
   pub from : only (flag_set h) m.flags ≡ true
-  pub region : verify h m.region ≡ Ok tt
-  pub frame : frame_asked m.frame.0 (m.region.end.0 - m.region.start.0) ≡ Ok tt
+  pub region : verify h m.region ≡ granted
+  pub frame : frame_asked m.frame.0 (m.region.end.0 - m.region.start.0) ≡ granted
 
 -- an accepted map passes each of them
-pub passes : (h : Handle) (end : ℕ) (m : Map) → verify_map h end m ≡ Ok tt → Passes h end m
+pub passes : (h : Handle) (end : ℕ) (m : Map) → verify_map h end m ≡ granted → Passes h end m
 passes h end m ok = by_bool (end_fits end) ended (λ e. absurd (refused_never (ask_end h end m e ∙ ok)))
   where
     framed : (ends : end_fits end ≡ true) (plain : m.flags / 2 % 2 ≡ 1 → ⊥) (from : only (flag_set h) m.flags ≡ true) (x : Outcome)
@@ -155,7 +156,7 @@ passes h end m ok = by_bool (end_fits end) ended (λ e. absurd (refused_never (a
         (λ e. absurd (refused_never (ask_set h end m ends plain e ∙ ok))))
         (eq_or (m.flags / 2 % 2) 1)
 
-frame_says : (frame length : ℕ) → frame_asked frame length ≡ Ok tt → (frame % 4096 ≡ 0) × (frame + length ≤ 2 ^ 48)
+frame_says : (frame length : ℕ) → frame_asked frame length ≡ granted → (frame % 4096 ≡ 0) × (frame + length ≤ 2 ^ 48)
 frame_says frame length ok = ⊎_elim
     (λ e. ⊎_elim (λ l. (e, l)) (λ l. absurd (refused_never (frame_past frame length e l ∙ ok))) (le_or (frame + length) (2 ^ 48)))
     (λ n. absurd (refused_never (frame_part frame length n ∙ ok)))
@@ -168,7 +169,7 @@ up_pages a = by_bool (ltb (up a 4096) (2 ^ 64)) (λ e. rw e (down_paged 3 (a + 4
 
 -- what is put down is whole pages, with frames below 2^48 and flags that share no bit with them
 pub asked_fit : (h : Handle) (start end frame flags constraints : ℕ) → flags < 2 ^ 64
-    → let m = asked_map start end frame flags constraints in verify_map h end m ≡ Ok tt → Fit m
+    → let m = asked_map start end frame flags constraints in verify_map h end m ≡ granted → Fit m
 unfolding asked_map rounded size_at
 asked_fit h start end frame flags constraints low ok =
     let m = asked_map start end frame flags constraints in

@@ -5,7 +5,7 @@ use Rattle.std.proofs.Common.{ap, ◌∙◌}
 use Rattle.std.proofs.Math.Bool.{true, false}
 use Rattle.pool.specs.State.{St}
 use Rattle.pool.specs.Number.{used, free}
-use Rattle.pool.specs.Refuse.{shaped, first_refused, accepted_next, refused-first}
+use Rattle.pool.specs.Refuse.{shaped, first_refused, accepted_next, refused-first, granted}
 use Rattle.pool.specs.Sound.{soundb}
 use Rattle.pool.specs.declared.Handle.{Handle}
 use Rattle.pool.specs.declared.Refusal.{Refusal}
@@ -17,16 +17,20 @@ use Rattle.modify_survey.specs.Survey.{survey_range}
 use Rattle.modify.specs.declared.Modified.{Modified}
 use Rattle.modify.specs.declared.Modified.TheVariants as modified
 use Rattle.modify_verify.specs.Verify.{asked_edit, verify_edit, verify_survey}
-use Rattle.std.specs.Prelude.{Err, Ok}
+use Rattle.std.specs.Prelude.{Result, Err, Ok, None}
 use Rattle.pool.specs.Refuse.{Outcome}
+
+-- what modify answers
+abbrev pub ModifyAnswer : Type 0
+ModifyAnswer = Result Modified Refusal
 
 -- the answer, the state and the list
 pub record Modifying : Type 0 where
-  pub answer : Modified
+  pub answer : ModifyAnswer
   pub state : St
   pub list : List ℕ
 
-abbrev pub modifying : Modified → St → List ℕ → Modifying
+abbrev pub modifying : ModifyAnswer → St → List ℕ → Modifying
 modifying a s l = record { answer = a; state = s; list = l }
 
 -- a refusal leaves the state and the list as they were
@@ -39,11 +43,11 @@ answer_of live w = cond live (modified.Live (used w.state.ledger) w.count) (modi
 
 -- the edit from the root down, with no number listed yet
 unfoldable pub edit_tables : Handle → Edit → St → List ℕ → Modifying
-edit_tables h e s list = let w = modify_range (3 - h.level) h 0 e (work s list 0) in modifying (answer_of e.live w) w.state w.list
+edit_tables h e s list = let w = modify_range (3 - h.level) h 0 e (work s list 0) in modifying (Ok (answer_of e.live w)) w.state w.list
 
 -- what an edit of the root's tables would do
 abbrev pub nothing : Survey
-nothing = record { splits = 0; numbers = 0; broken = false; word = 0 }
+nothing = record { splits = 0; numbers = 0; broken = None }
 
 abbrev pub survey_of : Handle → Edit → St → Survey
 survey_of h e s = survey_range (3 - h.level) h s 0 e nothing
@@ -95,7 +99,7 @@ module _ (h : Handle) (e : Edit) (s : St) (list : List ℕ) where
     pub sound_refused : (r : Refusal) → x ≡ Err r → refused r s list ≡ modify_sound h e s list
     sound_refused r q = refused-first (λ r. refused r s list) x _ r q ∙ by_survey
 
-    pub sound_edited : x ≡ Ok tt → edit_tables h e s list ≡ modify_sound h e s list
+    pub sound_edited : x ≡ granted → edit_tables h e s list ≡ modify_sound h e s list
     sound_edited q = accepted_next (λ r. refused r s list) x _ q ∙ by_survey
 
 module _ (h : Handle) (start end set clear : ℕ) (live : Bool) (s : St) (list : List ℕ) where
@@ -112,6 +116,6 @@ module _ (h : Handle) (start end set clear : ℕ) (live : Bool) (s : St) (list :
     pub call-refused : (r : Refusal) → x ≡ Err r → refused r s list ≡ modify_call h start end set clear live s list
     call-refused r q = refused-first (λ r. refused r s list) x _ r q ∙ by_asked
 
-    pub call-asked : x ≡ Ok tt → modify_sound h (asked_edit start end set clear live) s list
+    pub call-asked : x ≡ granted → modify_sound h (asked_edit start end set clear live) s list
         ≡ modify_call h start end set clear live s list
     call-asked q = accepted_next (λ r. refused r s list) x _ q ∙ by_asked

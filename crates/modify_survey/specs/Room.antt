@@ -65,7 +65,7 @@ module _ {r : MemoryRegion} {v : Survey} where
 
   breached : (w : ℕ) {x : Survey} → Adds r v x → Adds r v (breach w x)
   unfolding breach
-  breached w {x} a = choose x.broken a (record { splits = a.splits; numbers = a.numbers })
+  breached w a = record { splits = a.splits; numbers = a.numbers }
 
   block : (k : Kind) {x y : Survey} → Adds r v x → Adds r v y → Adds r v (if_block k x y)
   unfolding if_block

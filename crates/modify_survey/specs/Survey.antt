@@ -1,6 +1,6 @@
 -- What an edit would do, entry by entry, ascending (document 01, "Putting down a map", Modify, and refusals 9, 10 and 11). Leans on
 -- `House`.
-use Rattle.std.specs.Prelude.{◌≡◌, true, false, ◌⊎◌, eqb, ltb}
+use Rattle.std.specs.Prelude.{◌≡◌, Option, Some, None, true, false, ◌⊎◌, eqb, ltb}
 use Rattle.std.proofs.Common.{sym, ◌∙◌, inl, inr, ⊎_elim}
 use Rattle.std.proofs.Math.Path.{ap, ap₂}
 use Rattle.std.proofs.Math.Bool.{cond}
@@ -35,8 +35,12 @@ splits_in zero r = 0
 splits_in (suc depth) r = let more = each_chunk (3 - depth) (adding (λ c. splits_in depth c)) r 1 in cond (whole (3 - suc depth) r) 0 more
 
 -- refusal 10: "live house rule broken; lowest address" carries the old word, so the first one stays
+abbrev pub first_broken : Option ℕ → ℕ → Option ℕ
+first_broken (Some old) w = Some old
+first_broken None w = Some w
+
 unfoldable pub breach : ℕ → Survey → Survey
-breach w v = cond v.broken v (record { splits = v.splits; numbers = v.numbers; broken = true; word = w })
+breach w v = record { splits = v.splits; numbers = v.numbers; broken = first_broken v.broken w }
 
 -- "a partly covered entry is split first, hole or not"; live, "no valid entry is split"
 unfoldable pub if_block : Kind → Survey → Survey → Survey
@@ -47,14 +51,14 @@ if_block Hole v x = x
 
 unfoldable pub survey_part : ℕ → MemoryRegion → ℕ → Survey → Survey
 survey_part level r w v =
-    let x : Survey = record { splits = v.splits + splits_in (3 - level) r; numbers = v.numbers; broken = v.broken; word = v.word } in
+    let x : Survey = record { splits = v.splits + splits_in (3 - level) r; numbers = v.numbers; broken = v.broken } in
     if_block (kind_of level w) (breach w x) x
 
 -- a whole entry: a number if its word changes, and a breach if the house rule doesn't allow the change
 unfoldable pub survey_whole : Handle → ℕ → Edit → ℕ → Survey → Survey
 survey_whole h level e w v =
     let new = edit_word level e w in
-    let x : Survey = record { splits = v.splits; numbers = v.numbers + 1; broken = v.broken; word = v.word } in
+    let x : Survey = record { splits = v.splits; numbers = v.numbers + 1; broken = v.broken } in
     cond (eqb new w) v (cond (may_change h w new) x (breach w x))
 
 -- a chunk of an entry that is no table; at level 3 a chunk of whole pages is its entry
@@ -107,19 +111,24 @@ module _ (level : ℕ) (r : MemoryRegion) where
   splits_part h e = rw (splits_open h, e)
 
 module _ (w : ℕ) (v : Survey) where
-  pub breach_kept : v.broken ≡ true → v ≡ breach w v
+  pub breach_kept : (old : ℕ) → v.broken ≡ Some old → v ≡ breach w v
   unfolding breach
-  breach_kept e = rw e
+  breach_kept old e =
+      let same : v.broken ≡ first_broken v.broken w = rw e in
+      ap with_broken same
+    where
+      with_broken : Option ℕ → Survey
+      with_broken b = record { splits = v.splits; numbers = v.numbers; broken = b }
 
-  pub breach-first : v.broken ≡ false
-      → ◌≡◌ {A = Survey} (record { splits = v.splits; numbers = v.numbers; broken = true; word = w }) (breach w v)
+  pub breach-first : v.broken ≡ None
+      → ◌≡◌ {A = Survey} (record { splits = v.splits; numbers = v.numbers; broken = Some w }) (breach w v)
   unfolding breach
   breach-first e = rw e
 
 module _ (level : ℕ) (r : MemoryRegion) (w : ℕ) (v : Survey) {n : ℕ} (counts : n ≡ splits_in (3 - level) r) {x : Kind}
     (is : x ≡ kind_of level w) where
   abbrev split : Survey
-  split = record { splits = v.splits + n; numbers = v.numbers; broken = v.broken; word = v.word }
+  split = record { splits = v.splits + n; numbers = v.numbers; broken = v.broken }
 
   pub part_block : x ≡ Block → breach w split ≡ survey_part level r w v
   unfolding survey_part if_block
@@ -133,7 +142,7 @@ module _ (level : ℕ) (r : MemoryRegion) (w : ℕ) (v : Survey) {n : ℕ} (coun
 
 module _ (h : Handle) (level : ℕ) (e : Edit) (w : ℕ) (v : Survey) where
   abbrev changed : Survey
-  changed = record { splits = v.splits; numbers = v.numbers + 1; broken = v.broken; word = v.word }
+  changed = record { splits = v.splits; numbers = v.numbers + 1; broken = v.broken }
 
   module _ {new : ℕ} (is : new ≡ edit_word level e w) where
     pub whole_same : new ≡ w → v ≡ survey_whole h level e w v

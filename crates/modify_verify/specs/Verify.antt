@@ -1,6 +1,6 @@
 -- What modify asks (document 01, "The refusal slip"): refusals 2 to 6 of its arguments, refusals 9 to 11 of what it would do, and a law for
 -- each way through the code.
-use Rattle.std.specs.Prelude.{◌≡◌, refl, Bool, not, cond, ◌&&◌, ℕ, ◌-◌, ◌/◌, ◌%◌, ◌^◌, ◌≤◌, ◌<◌, eqb, ltb}
+use Rattle.std.specs.Prelude.{Option, Some, None, ◌≡◌, refl, Bool, not, cond, ◌&&◌, ℕ, ◌-◌, ◌/◌, ◌%◌, ◌^◌, ◌≤◌, ◌<◌, eqb, ltb}
 use Rattle.std.proofs.Common.{sym, ap, ◌∙◌, true≢false}
 use Rattle.std.proofs.Math.Bool.{true, false}
 use Rattle.std.specs.Int.Bits.{bit_and}
@@ -10,7 +10,7 @@ use Rattle.address.specs.Address.{up-below}
 use Rattle.entry.specs.Word.{only}
 use Rattle.region.specs.Region.{rounded}
 use Rattle.region.specs.declared.MemoryRegion.{MemoryRegion}
-use Rattle.pool.specs.Refuse.{first_refused, accepted_next, refused-first}
+use Rattle.pool.specs.Refuse.{first_refused, accepted_next, refused-first, granted}
 use Rattle.pool.specs.Sound.{flag_set}
 use Rattle.pool.specs.declared.Handle.{Handle}
 use Rattle.pool.specs.declared.Refusal.{Refusal}
@@ -18,8 +18,9 @@ use Rattle.pool.specs.declared.Refusal.TheVariants.{End, InvalidFlags, FlagSet, 
 use Rattle.region_verify.specs.Verify.{end_fits, verify, refused_never, verified_span, span-length}
 use Rattle.modify_entry.specs.declared.Edit.{Edit}
 use Rattle.modify_survey.specs.declared.Survey.{Survey}
-use Rattle.std.specs.Prelude.{Err, Ok}
+use Rattle.std.specs.Prelude.{Err}
 use Rattle.pool.specs.Refuse.{Outcome}
+use Rattle.std.specs.Prelude.{Ok}
 
 -- the edit that a call asks for: "start is rounded down and end up to 4096"
 unfoldable pub asked_edit : ℕ → ℕ → ℕ → ℕ → Bool → Edit
@@ -40,7 +41,7 @@ unfoldable pub verify_bits : Handle → ℕ → ℕ → Outcome
 verify_bits h set clear =
     cond (eqb (set / 2 % 2) 1) (Err (InvalidFlags set))
     (cond (eqb (clear / 2 % 2) 1) (Err (InvalidFlags clear))
-    (cond (settable (flag_set h) set clear) (cond (only (flag_set h) clear) (Ok tt) (Err (FlagSet clear))) (Err (FlagSet set))))
+    (cond (settable (flag_set h) set clear) (cond (only (flag_set h) clear) granted (Err (FlagSet clear))) (Err (FlagSet set))))
 
 -- 2: the end; 3, 4: the bits; 5, 6: the region
 unfoldable pub verify_edit : Handle → ℕ → Edit → Outcome
@@ -48,12 +49,16 @@ verify_edit h end e =
     cond (end_fits end) (first_refused Err (verify_bits h e.set e.clear) (verify h e.region)) (Err (End end))
 
 -- 9: "new tables needed exceed those free at entry"; live, 10: "house rule broken", 11: "list shorter than needed"
+abbrev pub unless_broken : Option ℕ → Outcome → Outcome
+unless_broken (Some word) next = Err (HouseRule word)
+unless_broken None next = next
+
 unfoldable pub verify_survey : ℕ → ℕ → Bool → Survey → Outcome
 verify_survey free room live v =
     cond (ltb free v.splits) (Err (WantOfRoom v.splits free))
     (cond live
-    (cond v.broken (Err (HouseRule v.word)) (cond (ltb room v.numbers) (Err (Short v.numbers)) (Ok tt)))
-    (Ok tt))
+    (unless_broken v.broken (cond (ltb room v.numbers) (Err (Short v.numbers)) granted))
+    granted)
 
 -- ---- laws: one for each way through the code
 
@@ -95,7 +100,7 @@ module _ (h : Handle) (set clear : ℕ) where
       bits_unsettable e = rw (ne_eqb (set / 2 % 2) 1 one, ne_eqb (clear / 2 % 2) 1 two, e)
 
       pub bits-settable : settable (flag_set h) set clear ≡ true
-          → cond (only (flag_set h) clear) (Ok tt) (Err (FlagSet clear)) ≡ verify_bits h set clear
+          → cond (only (flag_set h) clear) granted (Err (FlagSet clear)) ≡ verify_bits h set clear
       unfolding verify_bits
       bits-settable e = rw (ne_eqb (set / 2 % 2) 1 one, ne_eqb (clear / 2 % 2) 1 two, e)
 
@@ -111,15 +116,15 @@ module _ (h : Handle) (set clear : ℕ) where
           bits_clash n = bits_unsettable (sym (set_apart (flag_set h) set clear from even) ∙ ne_eqb (bit_and set clear) 0 n)
 
           module _ (apart : bit_and set clear ≡ 0) where
-            by_clear : (b : Bool) → only (flag_set h) clear ≡ b → cond b (Ok tt) (Err (FlagSet clear)) ≡ verify_bits h set clear
+            by_clear : (b : Bool) → only (flag_set h) clear ≡ b → cond b granted (Err (FlagSet clear)) ≡ verify_bits h set clear
             by_clear b e =
-                ap (λ (x : Bool). cond x (Ok tt) (Err (FlagSet clear))) (sym e)
+                ap (λ (x : Bool). cond x granted (Err (FlagSet clear))) (sym e)
                 ∙ bits-settable (sym (set_apart (flag_set h) set clear from even) ∙ eq-eqb (bit_and set clear) 0 apart)
 
             pub bits_clear_outside : only (flag_set h) clear ≡ false → Err (FlagSet clear) ≡ verify_bits h set clear
             bits_clear_outside e = by_clear false e
 
-            pub bits-accepted : only (flag_set h) clear ≡ true → (Ok tt) ≡ verify_bits h set clear
+            pub bits-accepted : only (flag_set h) clear ≡ true → granted ≡ verify_bits h set clear
             bits-accepted e = by_clear true e
 
 module _ (h : Handle) (end : ℕ) (e : Edit) where
@@ -135,7 +140,7 @@ module _ (h : Handle) (end : ℕ) (e : Edit) where
     pub edit_bits : (r : Refusal) → x ≡ Err r → x ≡ verify_edit h end e
     edit_bits r q = q ∙ refused-first Err x _ r q ∙ by_bits
 
-    pub edit_region : x ≡ Ok tt → verify h e.region ≡ verify_edit h end e
+    pub edit_region : x ≡ granted → verify h e.region ≡ verify_edit h end e
     edit_region q = accepted_next Err x _ q ∙ by_bits
 
 module _ (free room : ℕ) (live : Bool) (v : Survey) where
@@ -144,28 +149,28 @@ module _ (free room : ℕ) (live : Bool) (v : Survey) where
   survey_full l = rw (lt-ltb free v.splits l)
 
   module _ (fits : v.splits ≤ free) where
-    pub survey_off : live ≡ false → (Ok tt) ≡ verify_survey free room live v
+    pub survey_off : live ≡ false → granted ≡ verify_survey free room live v
     unfolding verify_survey
     survey_off e = rw (le-ltb free v.splits fits, e)
 
     module _ (on : live ≡ true) where
-      pub survey_broken : v.broken ≡ true → Err (HouseRule v.word) ≡ verify_survey free room live v
+      pub survey_broken : {word : ℕ} → v.broken ≡ Some word → Err (HouseRule word) ≡ verify_survey free room live v
       unfolding verify_survey
       survey_broken e = rw (le-ltb free v.splits fits, on, e)
 
-      module _ (kept : v.broken ≡ false) where
+      module _ (kept : v.broken ≡ None) where
         pub survey_short : room < v.numbers → Err (Short v.numbers) ≡ verify_survey free room live v
         unfolding verify_survey
         survey_short l = rw (le-ltb free v.splits fits, on, kept, lt-ltb room v.numbers l)
 
-        pub survey_accepted : v.numbers ≤ room → (Ok tt) ≡ verify_survey free room live v
+        pub survey_accepted : v.numbers ≤ room → granted ≡ verify_survey free room live v
         unfolding verify_survey
         survey_accepted l = rw (le-ltb free v.splits fits, on, kept, le-ltb room v.numbers l)
 
 -- ---- a region that was verified is no longer than the largest span
 
 pub asked-span : (h : Handle) (start end set clear : ℕ) (live : Bool) → let e = asked_edit start end set clear live in
-    verify_edit h end e ≡ Ok tt → e.region.end.0 - e.region.start.0 ≤ 2 ^ 48
+    verify_edit h end e ≡ granted → e.region.end.0 - e.region.start.0 ≤ 2 ^ 48
 unfolding asked_edit rounded
 asked-span h start end set clear live ok =
     by_bool (end_fits end) (λ f. bits f (verify_bits h set clear) refl)

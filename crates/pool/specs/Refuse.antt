@@ -97,6 +97,10 @@ says-shaped h s p =
 abbrev pub Outcome : Type 0
 Outcome = Result (Unit {0}) Refusal
 
+-- it was done
+abbrev pub granted : Outcome
+granted = Ok tt
+
 -- the answer of a call that changes tables: those in use afterwards, counted off the ledger
 abbrev pub Counted : Type 0
 Counted = Result ℕ Refusal
@@ -120,7 +124,7 @@ first_refused refused (Ok tt) next = next
 first_refused refused (Err r) next = refused r
 
 module _ {A : Type 0} (refused : Refusal → A) (x : Outcome) (next : A) where
-  pub accepted_next : x ≡ Ok tt → next ≡ first_refused refused x next
+  pub accepted_next : x ≡ granted → next ≡ first_refused refused x next
   unfolding first_refused
   accepted_next e = ap (λ (y : Outcome). first_refused refused y next) (sym e)
 

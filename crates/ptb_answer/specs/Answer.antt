@@ -2,10 +2,9 @@
 use Rattle.std.specs.Prelude.{List, [], ◌∷◌, ◌≡◌, refl, ℕ, set}
 use Rattle.pool.specs.Refuse.{number, carried}
 use Rattle.pool.specs.declared.Refusal.{Refusal}
-use Rattle.look_up.specs.Call.{returned, values}
-use Rattle.look_up.specs.declared.Looked.{Looked}
-use Rattle.modify.specs.declared.Modified.{Modified}
-use Rattle.modify.specs.declared.Modified.TheVariants as modified
+use Rattle.look_up.specs.Call.{LookUpAnswer, returned, values}
+use Rattle.modify.specs.Call.{ModifyAnswer}
+use Rattle.modify.specs.declared.Modified.TheVariants.{Tables, Live}
 use Rattle.std.specs.Prelude.{Err, Ok}
 use Rattle.pool.specs.Refuse.{Counted}
 use Rattle.list.specs.Call.{Listed}
@@ -44,7 +43,7 @@ told_counted (Ok tables) old = accepted (tables ∷ []) old
 told_counted (Err r) old = told_refusal r old
 
 -- look up: the number and the values of its answer
-unfoldable pub told_looked : Looked → List ℕ → Slip
+unfoldable pub told_looked : LookUpAnswer → List ℕ → Slip
 told_looked looked old = slip (returned looked) (over_front (values looked) old)
 
 -- list: the count of lines
@@ -53,9 +52,9 @@ told_listed (Ok lines) old = accepted (lines ∷ []) old
 told_listed (Err r) old = told_refusal r old
 
 -- modify: the tables in use and, live, the count of numbers
-unfoldable pub told_modified : Modified → List ℕ → Slip
-told_modified (modified.Tables tables) old = accepted (tables ∷ []) old
-told_modified (modified.Live tables numbers) old = accepted (tables ∷ numbers ∷ []) old
+unfoldable pub told_modified : ModifyAnswer → List ℕ → Slip
+told_modified (Ok (Tables tables)) old = accepted (tables ∷ []) old
+told_modified (Ok (Live tables numbers)) old = accepted (tables ∷ numbers ∷ []) old
 told_modified (Err r) old = told_refusal r old
 
 -- ---- laws: values stored one by one

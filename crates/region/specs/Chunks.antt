@@ -9,7 +9,7 @@ use Rattle.laws.specs.Test.{le_or}
 use Rattle.region.specs.declared.MemoryRegion.{MemoryRegion}
 use Rattle.region.specs.declared.ChunkedIterator.{ChunkedIterator}
 use Rattle.address_slot.specs.Slot.{entry_last, chunk_end}
-use Rattle.region.specs.Region.{region_of, Next, next, next_chunk, next_done, next_cut}
+use Rattle.region.specs.Region.{region_of, Parted, parted, next_chunk, next_done, next_cut}
 use Rattle.std.specs.Iterator.{MakesProgress, item_count}
 
 -- the entries of this level that the region meets
@@ -111,9 +111,9 @@ abbrev pub Gives : Option MemoryRegion → ChunkedIterator → List MemoryRegion
 Gives (Some r) c l = l ≡ r ∷ chunks_of c
 Gives None c l = (l ≡ []) × (chunks_of c ≡ [])
 
-module _ (c d : ChunkedIterator) {x : Option MemoryRegion} (is : next x d ≡ next_chunk c) where
+module _ (c d : ChunkedIterator) {x : Option MemoryRegion} (is : parted x d ≡ next_chunk c) where
   pub next_gives : Gives x d (chunks_of c)
-  next_gives = subst (λ (n : Next). Gives n.chunk n.rest (chunks_of c)) (sym is) (go (le_or c.range.end.0 c.range.start.0))
+  next_gives = subst (λ (n : Parted). Gives n.chunk n.rest (chunks_of c)) (sym is) (go (le_or c.range.end.0 c.range.start.0))
     where
       go : (c.range.end.0 ≤ c.range.start.0) ⊎ (c.range.start.0 < c.range.end.0)
           → let n = next_chunk c in Gives n.chunk n.rest (chunks_of c)

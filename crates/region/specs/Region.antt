@@ -24,27 +24,27 @@ unfoldable pub whole : ℕ → MemoryRegion → Bool
 whole level r = eqb (r.start.0 % size_at level) 0 && eqb (r.end.0 % size_at level) 0
 
 -- a chunk, if there is one, and what remains
-pub record Next : Type 0 where
+pub record Parted : Type 0 where
   pub chunk : Option MemoryRegion
   pub rest : ChunkedIterator
 
-abbrev pub next : Option MemoryRegion → ChunkedIterator → Next
-next r c = record { chunk = r; rest = c }
+abbrev pub parted : Option MemoryRegion → ChunkedIterator → Parted
+parted r c = record { chunk = r; rest = c }
 
 -- the chunk from s to m, and what remains up to e
-abbrev pub cut_at : ℕ → ℕ → ℕ → ℕ → Next
-cut_at level s m e = next (Some (region_of s m)) (record { range = region_of m e; level = level })
+abbrev pub cut_at : ℕ → ℕ → ℕ → ℕ → Parted
+cut_at level s m e = parted (Some (region_of s m)) (record { range = region_of m e; level = level })
 
 -- the next chunk of what remains; none, and nothing changes, where nothing does
-unfoldable pub next_chunk : ChunkedIterator → Next
+unfoldable pub next_chunk : ChunkedIterator → Parted
 next_chunk c =
     let s = c.range.start.0 in
     let e = c.range.end.0 in
-    cond (ltb s e) (cut_at c.level s (chunk_end c.level s e) e) (next None c)
+    cond (ltb s e) (cut_at c.level s (chunk_end c.level s e) e) (parted None c)
 
 -- ---- laws
 
-pub next_done : (c : ChunkedIterator) → c.range.end.0 ≤ c.range.start.0 → next None c ≡ next_chunk c
+pub next_done : (c : ChunkedIterator) → c.range.end.0 ≤ c.range.start.0 → parted None c ≡ next_chunk c
 unfolding next_chunk
 next_done c h = rw (le-ltb c.range.start.0 c.range.end.0 h)
 

@@ -12,8 +12,8 @@ use Rattle.pool.specs.declared.VaRange.{VaRange}
 use Rattle.pool.specs.declared.VaRange.TheVariants.{Lower, Upper}
 use Rattle.pool.specs.declared.Refusal.{Refusal}
 use Rattle.pool.specs.declared.Refusal.TheVariants.{RegionBackwards, AddressRange}
-use Rattle.std.specs.Prelude.{Err, Ok}
-use Rattle.pool.specs.Refuse.{Outcome}
+use Rattle.std.specs.Prelude.{Err}
+use Rattle.pool.specs.Refuse.{Outcome, granted}
 
 -- refusal 2 is given exactly when this fails: end is 0 or above 2^64 - 4096
 unfoldable pub end_fits : ℕ → Bool
@@ -24,9 +24,9 @@ end_fits end = leb 1 end && leb end (2 ^ 64 - 4096)
 unfoldable pub in_range : VaRange → ℕ → MemoryRegion → Outcome
 in_range Lower level r =
     cond (leb (2 ^ 63) r.start.0) (Err (AddressRange r.start))
-    (cond (ltb (span level) r.end.0) (Err (AddressRange r.end)) (Ok tt))
+    (cond (ltb (span level) r.end.0) (Err (AddressRange r.end)) granted)
 in_range Upper level r =
-    cond (ltb r.start.0 (2 ^ 63) || ltb r.start.0 (2 ^ 64 - span level)) (Err (AddressRange r.start)) (Ok tt)
+    cond (ltb r.start.0 (2 ^ 63) || ltb r.start.0 (2 ^ 64 - span level)) (Err (AddressRange r.start)) granted
 
 -- `verify_region`: refusals 5, 6 of a rounded region
 unfoldable pub verify : Handle → MemoryRegion → Outcome
@@ -51,7 +51,7 @@ module _ (range : VaRange) (level : ℕ) (r : MemoryRegion) {g : ℕ} (size : g 
   unfolding in_range
   lower_end e l m = rw (e, lt-leb (2 ^ 63) r.start.0 l, span_is level size, lt-ltb (512 * g) r.end.0 m)
 
-  pub lower_in : range ≡ Lower → r.start.0 < 2 ^ 63 → r.end.0 ≤ 512 * g → (Ok tt) ≡ in_range range level r
+  pub lower_in : range ≡ Lower → r.start.0 < 2 ^ 63 → r.end.0 ≤ 512 * g → granted ≡ in_range range level r
   unfolding in_range
   lower_in e l m = rw (e, lt-leb (2 ^ 63) r.start.0 l, span_is level size, le-ltb (512 * g) r.end.0 m)
 
@@ -62,11 +62,11 @@ module _ (range : VaRange) (level : ℕ) (r : MemoryRegion) {g : ℕ} (size : g 
       let q = span_is level size in
       rw (e, lt-ltb r.start.0 (2 ^ 64 - span level) (omega arith)) (either (ltb r.start.0 (2 ^ 63)))
     where
-      either : (b : Bool) → Err (AddressRange r.start) ≡ cond (b || true) (Err (AddressRange r.start)) (Ok tt)
+      either : (b : Bool) → Err (AddressRange r.start) ≡ cond (b || true) (Err (AddressRange r.start)) granted
       either true = refl
       either false = refl
 
-  pub upper_in : range ≡ Upper → 2 ^ 64 - 1 - 512 * g < r.start.0 → (Ok tt) ≡ in_range range level r
+  pub upper_in : range ≡ Upper → 2 ^ 64 - 1 - 512 * g < r.start.0 → granted ≡ in_range range level r
   unfolding in_range
   upper_in e l =
       let h = span_high level in
@@ -84,10 +84,10 @@ verify_forwards h r l = rw (le-ltb r.end.0 r.start.0 l)
 -- ---- what an accepted region is
 
 -- no refusal is an acceptance
-pub refused_never : {x : Refusal} → ◌≡◌ {A = Outcome} (Err x) (Ok tt) → ⊥
+pub refused_never : {x : Refusal} → ◌≡◌ {A = Outcome} (Err x) granted → ⊥
 refused_never q = let z : ◌≡◌ {A = ℕ} 0 1 = cc in omega arith
 
-pub verified_forwards : (h : Handle) (r : MemoryRegion) → verify h r ≡ Ok tt → r.start.0 ≤ r.end.0
+pub verified_forwards : (h : Handle) (r : MemoryRegion) → verify h r ≡ granted → r.start.0 ≤ r.end.0
 verified_forwards h r e = ⊎_elim (λ h. h) (λ l. absurd (refused_never (verify_backwards h r l ∙ e))) (le_or r.start.0 r.end.0)
 
 -- a region lies in the root's span
@@ -95,7 +95,7 @@ abbrev pub RegionInSpan : VaRange → ℕ → MemoryRegion → Type 0
 RegionInSpan Lower level r = r.end.0 ≤ span level
 RegionInSpan Upper level r = 2 ^ 64 - span level ≤ r.start.0
 
-ranged_span : (range : VaRange) (level : ℕ) (r : MemoryRegion) → in_range range level r ≡ Ok tt → RegionInSpan range level r
+ranged_span : (range : VaRange) (level : ℕ) (r : MemoryRegion) → in_range range level r ≡ granted → RegionInSpan range level r
 unfolding in_range
 ranged_span Lower level r e = go (le_or (2 ^ 63) r.start.0) (le_or r.end.0 (span level))
   where
@@ -105,7 +105,7 @@ ranged_span Lower level r e = go (le_or (2 ^ 63) r.start.0) (le_or r.end.0 (span
     go (inr l) (inl m) = m
 ranged_span Upper level r e = go (le_or (2 ^ 64 - span level) r.start.0)
   where
-    either : (b : Bool) → cond (b || true) (Err (AddressRange r.start)) (Ok tt) ≡ Ok tt → ⊥
+    either : (b : Bool) → cond (b || true) (Err (AddressRange r.start)) granted ≡ granted → ⊥
     either true q = let z : ◌≡◌ {A = ℕ} 0 1 = cc in omega arith
     either false q = let z : ◌≡◌ {A = ℕ} 0 1 = cc in omega arith
 
@@ -113,7 +113,7 @@ ranged_span Upper level r e = go (le_or (2 ^ 64 - span level) r.start.0)
     go (inl l) = l
     go (inr l) = absurd (either (ltb r.start.0 (2 ^ 63)) (rw (lt-ltb r.start.0 (2 ^ 64 - span level) l) at e))
 
-pub verified_span : (h : Handle) (r : MemoryRegion) → verify h r ≡ Ok tt → RegionInSpan h.range h.level r
+pub verified_span : (h : Handle) (r : MemoryRegion) → verify h r ≡ granted → RegionInSpan h.range h.level r
 verified_span h r e = ranged_span h.range h.level r (verify_forwards h r (verified_forwards h r e) ∙ e)
 
 -- a region in the span is no longer than the largest span

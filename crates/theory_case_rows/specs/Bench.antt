@@ -4,7 +4,7 @@ use Rattle.std.specs.Prelude.{List, ◌≡◌, refl, ℕ, ◌+◌, ◌*◌, set,
 use Rattle.pool.specs.Number.{root_number}
 use Rattle.pool.specs.State.{St, st}
 use Rattle.pool_table.specs.Table.{put_table, zeros, rising}
-use Rattle.pool.specs.Refuse.{out}
+use Rattle.pool.specs.Refuse.{out, granted}
 use Rattle.make.specs.Call.{make_call, fresh as freshly}
 use Rattle.pool.specs.declared.Handle.{Handle}
 use Rattle.pool.specs.declared.Refusal.TheVariants.{WantOfRoom}
@@ -23,7 +23,7 @@ fresh_row level n = st (replicate (512 * n) 0) (set (replicate n 0) 0 (root_numb
 
 -- make gives it of whatever words and numbers were lent: here all 9
 unfoldable pub Makes : ℕ → ℕ → Type 0
-Makes level n = make_call (handle level) (st (replicate (512 * n) 9) (replicate n 9)) ≡ out (Ok tt) (fresh_row level n)
+Makes level n = make_call (handle level) (st (replicate (512 * n) 9) (replicate n 9)) ≡ out granted (fresh_row level n)
 
 -- the word w in slot i of table k; the table t, with its number, as table k; all else as in s
 unfoldable pub word : ℕ → ℕ → ℕ → St → St

@@ -9,7 +9,7 @@ use Rattle.address.specs.declared.VirtualAddress.{VirtualAddress}
 use Rattle.entry.specs.Word.{only}
 use Rattle.region.specs.declared.MemoryRegion.{MemoryRegion}
 use Rattle.pool.specs.State.{St, tables}
-use Rattle.pool.specs.Refuse.{max_tables, shaped, Shaped, shaped-says, says-shaped}
+use Rattle.pool.specs.Refuse.{max_tables, shaped, Shaped, shaped-says, says-shaped, granted}
 use Rattle.pool.specs.Sound.{soundb, flag_set}
 use Rattle.pool.specs.declared.Handle.{Handle}
 use Rattle.pool.specs.declared.VaRange.{VaRange}
@@ -22,7 +22,7 @@ use Rattle.region_verify.specs.Verify.{end_fits, in_range, verify, refused_never
 use Rattle.region_verify.specs.Verify.{verify_backwards, verify_forwards}
 use Rattle.look_up.specs.Call.{spanned}
 use Rattle.theory_demands.specs.Slip.{Misshaped, BadEnd, OutsideSet, Backwards, BeyondRange, BeyondSpan}
-use Rattle.std.specs.Prelude.{Err, Ok}
+use Rattle.std.specs.Prelude.{Err}
 
 -- 1
 pub misshaped : (h : Handle) (s : St) → shaped h s ≡ false → Misshaped h s
@@ -64,13 +64,13 @@ module _ (h : Handle) (s : St) (fits : shaped h s ≡ true) where
 -- 5, 6
 pub range_told : (range : VaRange) (level : ℕ) (r : MemoryRegion)
     → ((a : VirtualAddress) × (in_range range level r ≡ Err (AddressRange a)) × BeyondRange range level r a)
-    ⊎ ((in_range range level r ≡ Ok tt) × ((a : VirtualAddress) → ¬ (BeyondRange range level r a)))
+    ⊎ ((in_range range level r ≡ granted) × ((a : VirtualAddress) → ¬ (BeyondRange range level r a)))
 unfolding span
 range_told Lower level r = go (le_or (2 ^ 63) r.start.0) (le_or r.end.0 (span level))
   where
     go : (2 ^ 63 ≤ r.start.0) ⊎ (r.start.0 < 2 ^ 63) → (r.end.0 ≤ span level) ⊎ (span level < r.end.0)
         → ((a : VirtualAddress) × (in_range Lower level r ≡ Err (AddressRange a)) × BeyondRange Lower level r a)
-        ⊎ ((in_range Lower level r ≡ Ok tt) × ((a : VirtualAddress) → ¬ (BeyondRange Lower level r a)))
+        ⊎ ((in_range Lower level r ≡ granted) × ((a : VirtualAddress) → ¬ (BeyondRange Lower level r a)))
     go (inl l) m = inl (r.start, sym (lower_start Lower level r refl refl l), inl (l, refl))
     go (inr l) (inr m) = inl (r.end, sym (lower_end Lower level r refl refl l m), inr (l, m, refl))
     go (inr l) (inl m) =
@@ -79,7 +79,7 @@ range_told Upper level r = go (le_or (2 ^ 64 - span level) r.start.0)
   where
     go : (2 ^ 64 - span level ≤ r.start.0) ⊎ (r.start.0 < 2 ^ 64 - span level)
         → ((a : VirtualAddress) × (in_range Upper level r ≡ Err (AddressRange a)) × BeyondRange Upper level r a)
-        ⊎ ((in_range Upper level r ≡ Ok tt) × ((a : VirtualAddress) → ¬ (BeyondRange Upper level r a)))
+        ⊎ ((in_range Upper level r ≡ granted) × ((a : VirtualAddress) → ¬ (BeyondRange Upper level r a)))
     go (inl l) =
         let z = span_high level in
         inr (sym (upper_in Upper level r refl refl (omega arith)), λ a x. ⊎_elim (λ p. omega arith) (λ p. omega arith) x.0)
@@ -94,7 +94,7 @@ abbrev pub RegionTold : Handle → MemoryRegion → Type 0
 RegionTold h r =
     ((verify h r ≡ Err (RegionBackwards r)) × Backwards r)
     ⊎ (((a : VirtualAddress) × (verify h r ≡ Err (AddressRange a)) × (¬ (Backwards r)) × BeyondRange h.range h.level r a)
-    ⊎ ((verify h r ≡ Ok tt) × RegionStands h r))
+    ⊎ ((verify h r ≡ granted) × RegionStands h r))
 
 pub region-told : (h : Handle) (r : MemoryRegion) → RegionTold h r
 region-told h r = ⊎_elim ahead (λ l. inl (sym (verify_backwards h r l), l)) (le_or r.start.0 r.end.0)
@@ -106,7 +106,7 @@ region-told h r = ⊎_elim ahead (λ l. inl (sym (verify_backwards h r l), l)) (
         (range_told h.range h.level r))
 
 -- no refusal is an acceptance
-pub accepted-not : (r : Refusal) → (Ok tt) ≢ Err r
+pub accepted-not : (r : Refusal) → granted ≢ Err r
 accepted-not r e = refused_never (sym e)
 
 -- 2

@@ -8,7 +8,7 @@ use Rattle.laws.specs.Test.{by_bool, eq_or, le_or}
 use Rattle.address.specs.declared.VirtualAddress.{VirtualAddress}
 use Rattle.region.specs.Region.{rounded}
 use Rattle.pool.specs.State.{St, tables}
-use Rattle.pool.specs.Refuse.{shaped, number, Out}
+use Rattle.pool.specs.Refuse.{shaped, number, Out, granted}
 use Rattle.pool.specs.Sound.{soundb}
 use Rattle.make.specs.Call.{make_call, make_refused, make_accepted}
 use Rattle.image.specs.Call.{Imaged, image_call, image_misshaped, image_no_table, image_short, image_written}
@@ -250,8 +250,8 @@ module _ (h : Handle) (s : St) (start end : ℕ) (list : List ℕ) where
         record { given = x.3; lower = list_five x.2 },
       )
 
-      module _ (stands : (verify h (rounded start end) ≡ Ok tt) × RegionStands h (rounded start end)) where
-        region_ok : (Ok tt) ≡ verify_ends h start end
+      module _ (stands : (verify h (rounded start end) ≡ granted) × RegionStands h (rounded start end)) where
+        region_ok : granted ≡ verify_ends h start end
         region_ok = sym stands.0 ∙ ends_fit h start end ends refl
 
         list_seven : NoneBelow ListHere 8

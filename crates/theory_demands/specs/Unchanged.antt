@@ -8,7 +8,7 @@ use Rattle.laws.specs.Test.{by_bool, eq_or, le_or}
 use Rattle.region.specs.Region.{rounded}
 use Rattle.pool.specs.State.{St, tables}
 use Rattle.pool.specs.Number.{free}
-use Rattle.pool.specs.Refuse.{shaped, Out, out}
+use Rattle.pool.specs.Refuse.{shaped, Out, out, granted}
 use Rattle.pool.specs.Sound.{soundb}
 use Rattle.make.specs.Call.{make_call, make_refused, make_accepted}
 use Rattle.image.specs.Call.{Imaged, imaged, image_call, image_misshaped, image_no_table, image_short, image_written}

@@ -16,7 +16,7 @@ use Rattle.pool.specs.declared.Handle.{Handle}
 use Rattle.pool.specs.declared.VaRange.{VaRange}
 use Rattle.pool.specs.declared.VaRange.TheVariants.{Lower, Upper}
 use Rattle.pool.specs.State.{St}
-use Rattle.pool.specs.Refuse.{number, first_refused, shaped, Shaped, shaped-says}
+use Rattle.pool.specs.Refuse.{number, first_refused, shaped, Shaped, shaped-says, granted}
 use Rattle.pool.specs.declared.Refusal.{Refusal}
 use Rattle.pool.specs.declared.Refusal.TheVariants.{Shape, Unsound, End, InvalidFlags, FlagSet, RegionBackwards, AddressRange, Frame}
 use Rattle.region_verify.specs.Verify.{end_fits, in_range, verify, verified_forwards, RegionInSpan, verified_span}
@@ -57,7 +57,7 @@ unfolding align_up
 aligned_below a = by_bool (ltb (up a 4096) (2 ^ 64)) (λ e. rw e (ltb-true (up a 4096) (2 ^ 64) e)) (λ e. rw e (omega arith))
 
 -- a region that is rounded and verified, with its frame, in the root's table
-pub pages_inside : (h : Handle) (start end frame : ℕ) → h.level ≤ 3 → verify h (rounded start end) ≡ Ok tt → frame % 4096 ≡ 0
+pub pages_inside : (h : Handle) (start end frame : ℕ) → h.level ≤ 3 → verify h (rounded start end) ≡ granted → frame % 4096 ≡ 0
     → let depth = 3 - h.level in let r = rounded start end in
     Inside (first (suc depth) (root_of h.range depth)) (pages_in (suc depth)) r.start.0 r.end.0 frame
 unfolding rounded size_at
@@ -85,7 +85,7 @@ module _ (h : Handle) (start end frame flags constraints : ℕ) where
   abbrev m : Map
   m = asked_map start end frame flags constraints
 
-  module _ (ok : verify_map h end m ≡ Ok tt) where
+  module _ (ok : verify_map h end m ≡ granted) where
     pub asked_allowed : Allowed h m.flags
     asked_allowed = let p = passes h end m ok in flags_allowed h m.flags p.from p.plain
 
@@ -119,11 +119,11 @@ range_early : (range : VaRange) (level : ℕ) (r : MemoryRegion) → Early (in_r
 unfolding in_range
 range_early Lower level r =
     let ends : Bool = ltb (span level) r.end.0 in
-    cond_early (leb (2 ^ 63) r.start.0) (Err (AddressRange r.start)) (cond ends (Err (AddressRange r.end)) (Ok tt))
+    cond_early (leb (2 ^ 63) r.start.0) (Err (AddressRange r.start)) (cond ends (Err (AddressRange r.end)) granted)
     (lit< tt)
-    (cond_early ends (Err (AddressRange r.end)) (Ok tt) (lit< tt) tt)
+    (cond_early ends (Err (AddressRange r.end)) granted (lit< tt) tt)
 range_early Upper level r =
-    cond_early (ltb r.start.0 (2 ^ 63) || ltb r.start.0 (2 ^ 64 - span level)) (Err (AddressRange r.start)) (Ok tt)
+    cond_early (ltb r.start.0 (2 ^ 63) || ltb r.start.0 (2 ^ 64 - span level)) (Err (AddressRange r.start)) granted
     (lit< tt) tt
 
 pub verify_early : (h : Handle) (r : MemoryRegion) → Early (verify h r)
@@ -135,7 +135,7 @@ verify_early h r =
 frame_early : (frame length : ℕ) → Early (frame_asked frame length)
 unfolding frame_asked
 frame_early frame length =
-    cond_early (eqb (frame % 4096) 0 && leb (frame + length) (2 ^ 48)) (Ok tt) (Err (Frame (record { 0 = frame }))) tt (lit< tt)
+    cond_early (eqb (frame % 4096) 0 && leb (frame + length) (2 ^ 48)) granted (Err (Frame (record { 0 = frame }))) tt (lit< tt)
 
 pub asked_early : (h : Handle) (end : ℕ) (m : Map) → Early (verify_map h end m)
 unfolding verify_map
@@ -156,17 +156,17 @@ asked_early h end m =
 pub record Answers (h : Handle) (s : St) {X : Type 0} (refused : Refusal → X) (verdict : Outcome) (answer : X) : Type 0 where
   pub misshaped : shaped h s ≡ false → refused Shape ≡ answer
   pub stopped : shaped h s ≡ true → (r : Refusal) → verdict ≡ Err r → refused r ≡ answer
-  pub unsound : shaped h s ≡ true → verdict ≡ Ok tt → soundb h s ≡ false → refused Unsound ≡ answer
+  pub unsound : shaped h s ≡ true → verdict ≡ granted → soundb h s ≡ false → refused Unsound ≡ answer
   pub early : Early verdict
 
 -- what is answered otherwise than by refusals 1 to 8 was left by them
 pub left_by : {h : Handle} {s : St} {X : Type 0} {refused : Refusal → X} {verdict : Outcome} {answer : X}
     → Answers h s refused verdict answer → ((r : Refusal) → number r < 9 → refused r ≡ answer → ⊥)
-    → Shaped h s × (verdict ≡ Ok tt) × SoundPool h s
+    → Shaped h s × (verdict ≡ granted) × SoundPool h s
 left_by {h} {s} {refused = refused} {verdict = verdict} {answer = answer} answers later =
     by_bool (shaped h s) (λ e. asks e verdict refl answers.early) (λ e. absurd (later Shape (lit< tt) (answers.misshaped e)))
   where
-    asks : shaped h s ≡ true → (y : Outcome) → verdict ≡ y → Early y → Shaped h s × (verdict ≡ Ok tt) × SoundPool h s
+    asks : shaped h s ≡ true → (y : Outcome) → verdict ≡ y → Early y → Shaped h s × (verdict ≡ granted) × SoundPool h s
     asks e (Ok tt) ok early =
         let shape = shaped-says h s (rw e tt) in
         by_bool (soundb h s)

@@ -5,7 +5,7 @@ use Rattle.laws.specs.Size.{down}
 use Rattle.region.specs.Region.{rounded}
 use Rattle.region.specs.Chunks.{Holds}
 use Rattle.pool.specs.State.{St}
-use Rattle.pool.specs.Refuse.{Shaped, Out, out}
+use Rattle.pool.specs.Refuse.{Shaped, Out, out, granted}
 use Rattle.pool.specs.declared.Handle.{Handle}
 use Rattle.pool.specs.declared.VaRange.{VaRange}
 use Rattle.pool.specs.declared.VaRange.TheVariants.{Lower, Upper}
@@ -50,7 +50,7 @@ map_asked c = asked_map c.start c.end c.frame c.flags c.constraints
 
 -- refusals 2 to 7 are not given
 abbrev pub Asks : Handle → MapArguments → Type 0
-Asks h c = verify_map h c.end (map_asked c) ≡ Ok tt
+Asks h c = verify_map h c.end (map_asked c) ≡ granted
 
 -- refusals 1 and 8 are not given
 pub record ShapedSound (h : Handle) (s : St) : Type 0 where

@@ -3,7 +3,7 @@ use Rattle.std.specs.Prelude.{◌≡◌, refl, Bool, true, false, cond, ℕ, ◌
 use Rattle.std.proofs.Common.{arith, lit<}
 use Rattle.std.proofs.lemmas.Bool.{eqb-false}
 use Rattle.entry.specs.Word.{only}
-use Rattle.pool.specs.Refuse.{first_refused}
+use Rattle.pool.specs.Refuse.{first_refused, granted}
 use Rattle.pool.specs.Sound.{flag_set}
 use Rattle.pool.specs.declared.Handle.{Handle}
 use Rattle.pool.specs.declared.Refusal.{Refusal}
@@ -22,15 +22,15 @@ use Rattle.pool.specs.Refuse.{Outcome}
 
 -- ---- the tests that are passed
 
-passes_not : (b : Bool) (r : Refusal) (x : Outcome) → cond b (Err r) x ≡ Ok tt → (b ≡ false) × (x ≡ Ok tt)
+passes_not : (b : Bool) (r : Refusal) (x : Outcome) → cond b (Err r) x ≡ granted → (b ≡ false) × (x ≡ granted)
 passes_not true r x e = let z : ◌≡◌ {A = ℕ} 0 1 = cc in absurd (omega arith)
 passes_not false r x e = (refl, e)
 
-passes_if : (b : Bool) (r : Refusal) (x : Outcome) → cond b x (Err r) ≡ Ok tt → (b ≡ true) × (x ≡ Ok tt)
+passes_if : (b : Bool) (r : Refusal) (x : Outcome) → cond b x (Err r) ≡ granted → (b ≡ true) × (x ≡ granted)
 passes_if true r x e = (refl, e)
 passes_if false r x e = let z : ◌≡◌ {A = ℕ} 0 1 = cc in absurd (omega arith)
 
-passes_both : (x y : Outcome) → first_refused Err x y ≡ Ok tt → (x ≡ Ok tt) × (y ≡ Ok tt)
+passes_both : (x y : Outcome) → first_refused Err x y ≡ granted → (x ≡ granted) × (y ≡ granted)
 unfolding first_refused
 passes_both (Ok tt) y e = (refl, e)
 passes_both (Err r) y e = let z : ◌≡◌ {A = ℕ} 0 1 = cc in absurd (omega arith)
@@ -38,24 +38,24 @@ passes_both (Err r) y e = let z : ◌≡◌ {A = ℕ} 0 1 = cc in absurd (omega 
 not-one : (n : ℕ) → eqb (n % 2) 1 ≡ false → n % 2 ≡ 0
 not-one n e = let k = eqb-false (n % 2) 1 e in omega arith
 
-bits_pass : (h : Handle) (set clear : ℕ) → verify_bits h set clear ≡ Ok tt → (Allowed h set) × (Allowed h clear) × (set % 2 ≡ 0)
+bits_pass : (h : Handle) (set clear : ℕ) → verify_bits h set clear ≡ granted → (Allowed h set) × (Allowed h clear) × (set % 2 ≡ 0)
 unfolding verify_bits
 bits_pass h set clear ok =
     let a = passes_not (eqb (set / 2 % 2) 1) (InvalidFlags set) _ ok in
     let b = passes_not (eqb (clear / 2 % 2) 1) (InvalidFlags clear) _ a.1 in
     let c = passes_if (settable (flag_set h) set clear) (FlagSet set) _ b.1 in
     let d = settable-says (flag_set h) set clear c.0 in
-    let f = passes_if (only (flag_set h) clear) (FlagSet clear) (Ok tt) c.1 in
+    let f = passes_if (only (flag_set h) clear) (FlagSet clear) granted c.1 in
     (flags_allowed h set d.0 (not-one (set / 2) a.0), flags_allowed h clear f.0 (not-one (clear / 2) b.0), not-one set d.1)
 
 -- ---- what is left of a call
 
 module _ (h : Handle) (start end set clear : ℕ) (live : Bool) (ok : verify_edit h end (asked_edit start end set clear live)
-    ≡ Ok tt) where
+    ≡ granted) where
   abbrev e : Edit
   e = asked_edit start end set clear live
 
-  asked_passes : (verify_bits h e.set e.clear ≡ Ok tt) × (verify h e.region ≡ Ok tt)
+  asked_passes : (verify_bits h e.set e.clear ≡ granted) × (verify h e.region ≡ granted)
   unfolding verify_edit
   asked_passes = passes_both (verify_bits h e.set e.clear) (verify h e.region) (passes_if (end_fits end) (End end) _ ok).1
 
@@ -77,13 +77,13 @@ module _ (h : Handle) (start end set clear : ℕ) (live : Bool) (ok : verify_edi
 bits_early : (h : Handle) (set clear : ℕ) → Early (verify_bits h set clear)
 unfolding verify_bits
 bits_early h set clear =
-    let last : Outcome = cond (only (flag_set h) clear) (Ok tt) (Err (FlagSet clear)) in
+    let last : Outcome = cond (only (flag_set h) clear) granted (Err (FlagSet clear)) in
     let from : Outcome = cond (settable (flag_set h) set clear) last (Err (FlagSet set)) in
     let second : Outcome = cond (eqb (clear / 2 % 2) 1) (Err (InvalidFlags clear)) from in
     cond_early (eqb (set / 2 % 2) 1) (Err (InvalidFlags set)) second (lit< tt)
     (cond_early (eqb (clear / 2 % 2) 1) (Err (InvalidFlags clear)) from (lit< tt)
     (cond_early (settable (flag_set h) set clear) last (Err (FlagSet set))
-    (cond_early (only (flag_set h) clear) (Ok tt) (Err (FlagSet clear)) tt (lit< tt)) (lit< tt)))
+    (cond_early (only (flag_set h) clear) granted (Err (FlagSet clear)) tt (lit< tt)) (lit< tt)))
 
 pub asked_early : (h : Handle) (end : ℕ) (e : Edit) → Early (verify_edit h end e)
 unfolding verify_edit

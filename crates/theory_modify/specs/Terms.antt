@@ -5,7 +5,7 @@ use Rattle.entry.specs.Word.{edited}
 use Rattle.region.specs.Region.{rounded}
 use Rattle.region.specs.Chunks.{Holds}
 use Rattle.pool.specs.State.{St}
-use Rattle.pool.specs.Refuse.{Shaped}
+use Rattle.pool.specs.Refuse.{Shaped, granted}
 use Rattle.pool.specs.declared.Handle.{Handle}
 use Rattle.modify_entry.specs.declared.Edit.{Edit}
 use Rattle.modify_survey.specs.declared.Survey.{Survey}
@@ -51,7 +51,7 @@ edit_asked c = asked_edit c.start c.end c.set c.clear c.live
 -- refusals 1 to 8 are not given
 pub record ModifyPassed (h : Handle) (c : ModifyArguments) (s : St) : Type 0 where
   pub shape : Shaped h s
-  pub asks : verify_edit h c.end (edit_asked c) ≡ Ok tt
+  pub asks : verify_edit h c.end (edit_asked c) ≡ granted
   pub pool : SoundPool h s
 
 -- what the call finds before anything is written

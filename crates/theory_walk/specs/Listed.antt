@@ -8,7 +8,7 @@ use Rattle.laws.specs.Test.{by_bool}
 use Rattle.region.specs.Region.{rounded}
 use Rattle.region.specs.declared.MemoryRegion.{MemoryRegion}
 use Rattle.pool.specs.State.{St, tables}
-use Rattle.pool.specs.Refuse.{shaped, first_refused}
+use Rattle.pool.specs.Refuse.{shaped, first_refused, granted}
 use Rattle.pool.specs.Sound.{soundb}
 use Rattle.pool.specs.declared.Handle.{Handle}
 use Rattle.pool.specs.declared.Refusal.{Refusal}
@@ -26,7 +26,7 @@ use Rattle.pool.specs.Refuse.{Outcome}
 
 pub record Accepts (h : Handle) (s : St) (start end : ℕ) (list : List ℕ) (count : ℕ) (after : List ℕ) : Type 0 where
   pub shape : shaped h s ≡ true
-  pub region : verify_ends h start end ≡ Ok tt
+  pub region : verify_ends h start end ≡ granted
   pub sound : soundb h s ≡ true
   pub counted : length (lines_of h s (rounded start end)) ≡ count
   pub written : put (lines_of h s (rounded start end)) list ≡ after
@@ -44,7 +44,7 @@ module _ {h : Handle} {s : St} {start end : ℕ} {list : List ℕ} {count : ℕ}
       ls : List Line
       ls = lines_of h s (rounded start end)
 
-      written : shaped h s ≡ true → verify_ends h start end ≡ Ok tt → soundb h s ≡ true
+      written : shaped h s ≡ true → verify_ends h start end ≡ granted → soundb h s ≡ true
           → list_lines ls list ≡ listing (Ok count) after
           → Accepts h s start end list count after
       written shape region sound q = by_bool (leb (4 * length ls) (length list))

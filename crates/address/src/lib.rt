@@ -7,11 +7,11 @@ ghost use Rattle.laws.specs.Size.{size_at, down};
 ghost use Rattle.address.specs.Address.{align_up};
 
 // An address that a walk translates.
-#[derive(Clone, Copy)]
+#[derive(Clone, Copy, Debug, PartialEq, Eq)]
 pub struct VirtualAddress(pub u64);
 
 // An address that a walk answers with, or at which a table stands.
-#[derive(Clone, Copy)]
+#[derive(Clone, Copy, Debug, PartialEq, Eq)]
 pub struct PhysicalAddress(pub u64);
 
 // The bytes of a page.

@@ -30,11 +30,15 @@ abbrev pub returned : LookUpAnswer → ℕ
 returned (Ok found) = 0
 returned (Err r) = number r
 
--- the values of an answer: kind (0 hole, 1 block, 2 page), level, flags, frame (0 for a hole); of a refusal, what it carries
+-- the values of what a walk finds: kind (0 hole, 1 block, 2 page), level, flags, frame (0 for a hole)
+abbrev pub found_values : Looked → List ℕ
+found_values (Hole level flags) = 0 ∷ level ∷ flags ∷ 0 ∷ []
+found_values (Block level flags frame) = 1 ∷ level ∷ flags ∷ frame.0 ∷ []
+found_values (Page level flags frame) = 2 ∷ level ∷ flags ∷ frame.0 ∷ []
+
+-- the values of an answer: of what was found; of a refusal, what it carries
 abbrev pub values : LookUpAnswer → List ℕ
-values (Ok (Hole level flags)) = 0 ∷ level ∷ flags ∷ 0 ∷ []
-values (Ok (Block level flags frame)) = 1 ∷ level ∷ flags ∷ frame.0 ∷ []
-values (Ok (Page level flags frame)) = 2 ∷ level ∷ flags ∷ frame.0 ∷ []
+values (Ok found) = found_values found
 values (Err r) = carried r
 
 -- the walk as an answer: refusal 8 where a table word on its path points outside the pool

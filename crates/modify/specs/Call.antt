@@ -70,15 +70,15 @@ modify_call h start end set clear live s list =
 
 module _ (h : Handle) (e : Edit) (s : St) (list : List ℕ) {t : St} {l : List ℕ} {n : ℕ}
     (is : work t l n ≡ modify_range (3 - h.level) h 0 e (work s list 0)) where
-  done : (live : Bool) → e.live ≡ live → modifying (answer_of live (work t l n)) t l ≡ edit_tables h e s list
+  done : (live : Bool) → e.live ≡ live → modifying (Ok (answer_of live (work t l n))) t l ≡ edit_tables h e s list
   unfolding edit_tables
-  done live q = rw (← q) (ap (λ (w : Work). modifying (answer_of e.live w) w.state w.list) is)
+  done live q = rw (← q) (ap (λ (w : Work). modifying (Ok (answer_of e.live w)) w.state w.list) is)
 
-  pub done_live : e.live ≡ true → {count : ℕ} → count ≡ used t.ledger → modifying (modified.Live count n) t l ≡ edit_tables h e s list
+  pub done_live : e.live ≡ true → {count : ℕ} → count ≡ used t.ledger → modifying (Ok (modified.Live count n)) t l ≡ edit_tables h e s list
   unfolding answer_of
   done_live q u = rw u (done true q)
 
-  pub done_still : e.live ≡ false → {count : ℕ} → count ≡ used t.ledger → modifying (modified.Tables count) t l ≡ edit_tables h e s list
+  pub done_still : e.live ≡ false → {count : ℕ} → count ≡ used t.ledger → modifying (Ok (modified.Tables count)) t l ≡ edit_tables h e s list
   unfolding answer_of
   done_still q u = rw u (done false q)
 

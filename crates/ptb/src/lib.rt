@@ -25,7 +25,7 @@ pub fn ptb_make(
 {
     let handle = pool_handle::handle_of(base, level, range);
     let outcome = make::make(words, ledger, handle);
-    ptb_answer::answer_outcome(outcome, answer)
+    ptb_answer::tell(outcome, answer)
 }
 
 // Whether the pool is sound.
@@ -42,7 +42,7 @@ pub fn ptb_check(
 {
     let handle = pool_handle::handle_of(base, level, range);
     let outcome = checker::check(words, ledger, handle);
-    ptb_answer::answer_outcome(outcome, answer)
+    ptb_answer::tell(outcome, answer)
 }
 
 // What the walk of an address answers.
@@ -60,7 +60,7 @@ pub fn ptb_look_up(
 {
     let handle = pool_handle::handle_of(base, level, range);
     let looked = look_up::look_up(words, ledger, handle, VirtualAddress(va));
-    ptb_answer::answer_looked(looked, answer)
+    ptb_answer::tell(looked, answer)
 }
 
 // Lists the entries that a region meets, four numbers a line.
@@ -87,7 +87,7 @@ pub fn ptb_list(
         VirtualAddress(end),
         lines,
     );
-    ptb_answer::answer_listed(listed, answer)
+    ptb_answer::tell(listed, answer)
 }
 
 // Puts a map down: each page of the region to its frame, ascending, with these flags.
@@ -119,7 +119,7 @@ pub fn ptb_map(
         flags,
         Constraints(constraints),
     );
-    ptb_answer::answer_counted(counted, answer)
+    ptb_answer::tell(counted, answer)
 }
 
 // Sets and clears bits in the valid blocks and pages of the region; live, lists the page number of each whose word changed.
@@ -153,7 +153,7 @@ pub fn ptb_modify(
         live != 0,
         list,
     );
-    ptb_answer::answer_modified(modified, answer)
+    ptb_answer::tell(modified, answer)
 }
 
 // Frees each table but the root that is all zero, from the leaves up.
@@ -170,7 +170,7 @@ pub fn ptb_compact(
 {
     let handle = pool_handle::handle_of(base, level, range);
     let counted = compact::compact(words, ledger, handle);
-    ptb_answer::answer_counted(counted, answer)
+    ptb_answer::tell(counted, answer)
 }
 
 // Writes one table's 512 words into 4096 bytes.
@@ -189,5 +189,5 @@ pub fn ptb_image(
 {
     let handle = pool_handle::handle_of(base, level, range);
     let outcome = image::page_image(words, ledger, handle, table as usize, page);
-    ptb_answer::answer_outcome(outcome, answer)
+    ptb_answer::tell(outcome, answer)
 }

@@ -2,10 +2,11 @@
 use Rattle.std.specs.Prelude.{List, [], ◌∷◌, ◌≡◌, refl, ℕ, set}
 use Rattle.pool.specs.Refuse.{number, carried}
 use Rattle.pool.specs.declared.Refusal.{Refusal}
-use Rattle.look_up.specs.Call.{LookUpAnswer, returned, values}
+use Rattle.look_up.specs.Call.{LookUpAnswer, returned, values, found_values}
 use Rattle.modify.specs.Call.{ModifyAnswer}
+use Rattle.modify.specs.declared.Modified.{Modified}
 use Rattle.modify.specs.declared.Modified.TheVariants.{Tables, Live}
-use Rattle.std.specs.Prelude.{Err, Ok}
+use Rattle.std.specs.Prelude.{Result, Err, Ok}
 use Rattle.pool.specs.Refuse.{Counted}
 use Rattle.list.specs.Call.{Listed}
 use Rattle.pool.specs.Refuse.{Outcome}
@@ -32,15 +33,18 @@ accepted values old = slip 0 (over_front values old)
 unfoldable pub told_refusal : Refusal → List ℕ → Slip
 told_refusal r old = slip (number r) (over_front (carried r) old)
 
+-- an answer: accepted with the values that `values` gives, or refused
+unfoldable pub told_by : {V : Type 0} → (V → List ℕ) → Result V Refusal → List ℕ → Slip
+told_by values (Ok v) old = accepted (values v) old
+told_by values (Err r) old = told_refusal r old
+
 -- a call that has nothing more to say than that it was done
 unfoldable pub told : Outcome → List ℕ → Slip
-told (Ok tt) old = accepted [] old
-told (Err r) old = told_refusal r old
+told outcome old = told_by (λ done. []) outcome old
 
 -- a call that counts the tables in use
 unfoldable pub told_counted : Counted → List ℕ → Slip
-told_counted (Ok tables) old = accepted (tables ∷ []) old
-told_counted (Err r) old = told_refusal r old
+told_counted counted old = told_by (λ tables. tables ∷ []) counted old
 
 -- look up: the number and the values of its answer
 unfoldable pub told_looked : LookUpAnswer → List ℕ → Slip
@@ -48,14 +52,22 @@ told_looked looked old = slip (returned looked) (over_front (values looked) old)
 
 -- list: the count of lines
 unfoldable pub told_listed : Listed → List ℕ → Slip
-told_listed (Ok lines) old = accepted (lines ∷ []) old
-told_listed (Err r) old = told_refusal r old
+told_listed listed old = told_by (λ lines. lines ∷ []) listed old
 
 -- modify: the tables in use and, live, the count of numbers
+abbrev pub modified_values : Modified → List ℕ
+modified_values (Tables tables) = tables ∷ []
+modified_values (Live tables numbers) = tables ∷ numbers ∷ []
+
 unfoldable pub told_modified : ModifyAnswer → List ℕ → Slip
-told_modified (Ok (Tables tables)) old = accepted (tables ∷ []) old
-told_modified (Ok (Live tables numbers)) old = accepted (tables ∷ numbers ∷ []) old
-told_modified (Err r) old = told_refusal r old
+told_modified modified old = told_by modified_values modified old
+
+-- ---- laws: what is told of a look up
+
+pub told_looked_is : (looked : LookUpAnswer) (old : List ℕ) → told_by found_values looked old ≡ told_looked looked old
+unfolding told_by told_looked accepted told_refusal
+told_looked_is (Ok found) old = refl
+told_looked_is (Err r) old = refl
 
 -- ---- laws: values stored one by one
 

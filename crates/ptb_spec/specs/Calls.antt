@@ -10,15 +10,13 @@ use Rattle.image.specs.Call.{image_call, image_misshaped, Imaged, imaged}
 use Rattle.pool.specs.declared.Handle.{Handle}
 use Rattle.pool.specs.declared.Refusal.TheVariants.{Shape}
 use Rattle.checker.specs.Call.{check_call, check_misshaped}
-use Rattle.look_up.specs.Call.{look_up_call, look_misshaped}
-use Rattle.look_up.specs.declared.Looked.{Looked}
+use Rattle.look_up.specs.Call.{LookUpAnswer, look_up_call, look_misshaped}
 use Rattle.list.specs.Call.{list_call, list_misshaped, Listing, listing}
 use Rattle.map_spec.specs.Call as map
 use Rattle.compact_spec.specs.Call as compact
 use Rattle.modify.specs.Call as modify
-use Rattle.modify.specs.declared.Modified.{Modified}
 use Rattle.pool_handle.specs.Handle.{handle_of, no_range}
-use Rattle.ptb_answer.specs.Answer.{Slip, told_refusal, told, told_counted, told_looked, told_listed, told_modified}
+use Rattle.ptb_answer.specs.Answer.{Slip, told_refusal, told_by, told, told_counted, told_looked, told_listed, told_modified}
 use Rattle.pool.specs.Refuse.{Counted}
 use Rattle.list.specs.Call.{Listed}
 use Rattle.pool.specs.Refuse.{Outcome}
@@ -41,7 +39,7 @@ module _ (base level range : ℕ) (s : St) (old : List ℕ) where
   ptb_make_told {s' = s'} e m t = ap (λ (y : Slip). out y s') t ∙ ap (told_out old) (m ∙ ap (λ (g : Handle). make_call g s) e)
 
   pub make_no_range : 1 < range → ptb_make base level range s old ≡ out (told_refusal Shape old) s
-  unfolding ptb_make told
+  unfolding ptb_make told told_by
   make_no_range above = ap (told_out old) (sym (make_refused (handle_of base level range) s (no_range base level range s above)))
 
 -- ---- check
@@ -57,7 +55,7 @@ module _ (base level range : ℕ) (s : St) (old : List ℕ) where
   ptb_check_told e m t = t ∙ ap (λ (o : Outcome). told o old) (m ∙ ap (λ (g : Handle). check_call g s) e)
 
   pub check_no_range : 1 < range → ptb_check base level range s old ≡ told_refusal Shape old
-  unfolding ptb_check told
+  unfolding ptb_check told told_by
   check_no_range above =
       ap (λ (o : Outcome). told o old) (sym (check_misshaped (handle_of base level range) s (no_range base level range s above)))
 
@@ -68,16 +66,16 @@ ptb_look_up base level range s va old =
     told_looked (look_up_call (handle_of base level range) s va) old
 
 module _ (base level range : ℕ) (s : St) (va : ℕ) (old : List ℕ) where
-  pub ptb_look_up_told : {h : Handle} {o : Looked} {x : Slip} → h ≡ handle_of base level range → o ≡ look_up_call h s va
+  pub ptb_look_up_told : {h : Handle} {o : LookUpAnswer} {x : Slip} → h ≡ handle_of base level range → o ≡ look_up_call h s va
       → x ≡ told_looked o old
       → x ≡ ptb_look_up base level range s va old
   unfolding ptb_look_up
-  ptb_look_up_told e m t = t ∙ ap (λ (o : Looked). told_looked o old) (m ∙ ap (λ (g : Handle). look_up_call g s va) e)
+  ptb_look_up_told e m t = t ∙ ap (λ (o : LookUpAnswer). told_looked o old) (m ∙ ap (λ (g : Handle). look_up_call g s va) e)
 
   pub look_up_no_range : 1 < range → ptb_look_up base level range s va old ≡ told_refusal Shape old
   unfolding ptb_look_up told_looked told_refusal
   look_up_no_range above =
-      ap (λ (o : Looked). told_looked o old) (sym (look_misshaped (handle_of base level range) s va (no_range base level range s above)))
+      ap (λ (o : LookUpAnswer). told_looked o old) (sym (look_misshaped (handle_of base level range) s va (no_range base level range s above)))
 
 -- ---- list
 
@@ -106,7 +104,7 @@ module _ (base level range : ℕ) (s : St) (start end : ℕ) (lines old : List �
       ap (λ (y : Slip). filled y lines') t ∙ ap (told_listing old) (m ∙ ap (λ (g : Handle). list_call g s start end lines) e)
 
   pub list_no_range : 1 < range → ptb_list base level range s start end lines old ≡ filled (told_refusal Shape old) lines
-  unfolding ptb_list told_listed
+  unfolding ptb_list told_listed told_by
   list_no_range above =
       ap (told_listing old) (sym (list_misshaped (handle_of base level range) s start end lines (no_range base level range s above)))
 
@@ -129,7 +127,7 @@ module _ (base level range start end frame flags constraints : ℕ) (s : St) (ol
       ap (λ (y : Slip). out y s') t ∙ ap (told_count old) (m ∙ ap (λ (g : Handle). map.map_call g start end frame flags constraints s) e)
 
   pub map_no_range : 1 < range → ptb_map base level range start end frame flags constraints s old ≡ out (told_refusal Shape old) s
-  unfolding ptb_map told_counted
+  unfolding ptb_map told_counted told_by
   map_no_range above =
       ap (told_count old)
       (sym (map.call_misshaped (handle_of base level range) start end frame flags constraints s (no_range base level range s above)))
@@ -150,7 +148,7 @@ module _ (base level range : ℕ) (s : St) (old : List ℕ) where
       ∙ ap (told_count old) (m ∙ ap (λ (g : Handle). compact.compact_call g s) e)
 
   pub compact_no_range : 1 < range → ptb_compact base level range s old ≡ out (told_refusal Shape old) s
-  unfolding ptb_compact told_counted
+  unfolding ptb_compact told_counted told_by
   compact_no_range above =
       ap (told_count old) (sym (compact.call_misshaped (handle_of base level range) s (no_range base level range s above)))
 
@@ -178,7 +176,7 @@ ptb_modify base level range start end set clear live s list old =
     told_modify old (modify.modify_call (handle_of base level range) start end set clear (live_of live) s list)
 
 module _ (base level range start end set clear live : ℕ) (s : St) (list old : List ℕ) where
-  pub ptb_modify_told : {h : Handle} {o : Modified} {s' : St} {list' : List ℕ} {x : Slip} → h ≡ handle_of base level range
+  pub ptb_modify_told : {h : Handle} {o : modify.ModifyAnswer} {s' : St} {list' : List ℕ} {x : Slip} → h ≡ handle_of base level range
       → modify.modifying o s' list' ≡ modify.modify_call h start end set clear (live_of live) s list → x ≡ told_modified o old
       → changed x s' list' ≡ ptb_modify base level range start end set clear live s list old
   unfolding ptb_modify
@@ -188,7 +186,7 @@ module _ (base level range start end set clear live : ℕ) (s : St) (list old : 
 
   pub modify_no_range : 1 < range → ptb_modify base level range start end set clear live s list old
       ≡ changed (told_refusal Shape old) s list
-  unfolding ptb_modify told_modified
+  unfolding ptb_modify told_modified told_by
   modify_no_range above =
       ap (told_modify old)
       (sym
@@ -214,6 +212,6 @@ module _ (base level range : ℕ) (s : St) (table : ℕ) (page old : List ℕ) w
       ap (λ (y : Slip). filled y page') t ∙ ap (told_image old) (m ∙ ap (λ (g : Handle). image_call g s table page) e)
 
   pub image_no_range : 1 < range → ptb_image base level range s table page old ≡ filled (told_refusal Shape old) page
-  unfolding ptb_image told
+  unfolding ptb_image told told_by
   image_no_range above =
       ap (told_image old) (sym (image_misshaped (handle_of base level range) s table page (no_range base level range s above)))

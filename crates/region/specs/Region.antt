@@ -1,6 +1,7 @@
 -- Regions and the next chunk, and a law for each way through the code.
-use Rattle.std.specs.Prelude.{◌≡◌, Option, Some, None, Bool, cond, ◌&&◌, ℕ, ◌%◌, ◌≤◌, ◌<◌, eqb, ltb}
-use Rattle.std.proofs.Common.{ap, lt-ltb, le-ltb}
+use Rattle.std.specs.Prelude.{◌≡◌, refl, Option, Some, None, Bool, cond, ◌&&◌, ◌⊎◌, ℕ, ◌%◌, ◌≤◌, ◌<◌, eqb, ltb}
+use Rattle.std.proofs.Common.{ap, sym, ◌∙◌, inl, inr, lt-ltb, le-ltb}
+use Rattle.laws.specs.Test.{le_or}
 use Rattle.laws.specs.Size.{size_at, down}
 use Rattle.address.specs.Address.{align_up}
 use Rattle.address_slot.specs.Slot.{chunk_end}
@@ -54,3 +55,38 @@ pub next_cut : (c : ChunkedIterator) (m : ℕ) → c.range.start.0 < c.range.end
 unfolding next_chunk
 next_cut c m h e =
     rw (lt-ltb c.range.start.0 c.range.end.0 h) (ap (λ (x : ℕ). cut_at c.level c.range.start.0 x c.range.end.0) e)
+
+-- ---- a loop over the chunks, `for chunk in region.split(level)`: what each call of `next` says of the iterator before it and after it
+
+-- the iterator c gave the chunk r, and d is what is left: for the step of such a loop
+pub record Step (c : ChunkedIterator) (r : MemoryRegion) (d : ChunkedIterator) : Type 0 where
+  pub left : c.range.start.0 < c.range.end.0
+  pub starts : r.start.0 ≡ c.range.start.0
+  pub stops : r.end.0 ≡ chunk_end c.level c.range.start.0 c.range.end.0
+  pub rest : d ≡ record { range = region_of r.end.0 c.range.end.0; level = c.level }
+
+module _ (c d : ChunkedIterator) where
+  -- from what `next` ensures (`steps`) where it gives a chunk
+  pub step_of : {r : MemoryRegion} → parted (Some r) d ≡ next_chunk c → Step c r d
+  step_of {r} is = go (le_or c.range.end.0 c.range.start.0)
+    where
+      m : ℕ
+      m = chunk_end c.level c.range.start.0 c.range.end.0
+
+      cut : Some r ≡ Some (region_of c.range.start.0 m) → d ≡ record { range = region_of m c.range.end.0; level = c.level }
+          → c.range.start.0 < c.range.end.0 → Step c r d
+      cut p q h = let same : r ≡ region_of c.range.start.0 m = cc in rw same (record { left = h; starts = refl; stops = refl; rest = q })
+
+      go : (c.range.end.0 ≤ c.range.start.0) ⊎ (c.range.start.0 < c.range.end.0) → Step c r d
+      go (inl h) = absurd (let none : Some r ≡ None = ap (λ (p : Parted). p.chunk) (is ∙ sym (next_done c h)) in cc)
+      go (inr h) =
+          let e : parted (Some r) d ≡ cut_at c.level c.range.start.0 m c.range.end.0 = is ∙ sym (next_cut c m h refl) in
+          cut (ap (λ (p : Parted). p.chunk) e) (ap (λ (p : Parted). p.rest) e) h
+
+  -- from the same where it gives none: nothing is left, and nothing changed
+  pub none_left : parted None d ≡ next_chunk c → (c.range.end.0 ≤ c.range.start.0) × (d ≡ c)
+  none_left is = go (le_or c.range.end.0 c.range.start.0)
+    where
+      go : (c.range.end.0 ≤ c.range.start.0) ⊎ (c.range.start.0 < c.range.end.0) → (c.range.end.0 ≤ c.range.start.0) × (d ≡ c)
+      go (inl h) = (h, ap (λ (p : Parted). p.rest) (is ∙ sym (next_done c h)))
+      go (inr h) = absurd (let z = ap (λ (p : Parted). p.chunk) (is ∙ sym (next_cut c _ h refl)) in cc)

@@ -9,7 +9,7 @@ ghost use Rattle.region.specs.Chunks.{chunks_of};
 use address::VirtualAddress;
 
 // The addresses from start up to end, which is not among them.
-#[derive(Clone, Copy)]
+#[derive(Clone, Copy, Debug, PartialEq, Eq)]
 pub struct MemoryRegion {
     pub start: VirtualAddress,
     pub end: VirtualAddress,

@@ -23,6 +23,7 @@ pub fn count_sound(words: &[u64], ledger: &[u32], handle: Handle) -> Option<usiz
 }
 
 // Whether the pool is sound.
+#[tactic(auto, unfolding(crate::specs::Call::sound_count))]
 pub fn is_sound(words: &[u64], ledger: &[u32], handle: Handle) -> bool
     requires { Shaped handle (st words.now ledger.now) }
     ensures { result ≡ soundb handle (st words.now ledger.now) }
@@ -31,6 +32,7 @@ pub fn is_sound(words: &[u64], ledger: &[u32], handle: Handle) -> bool
 }
 
 // The pool check.
+#[tactic(auto, unfolding(crate::specs::Call::check_call))]
 pub fn check(words: &[u64], ledger: &[u32], handle: Handle) -> Result<(), Refusal>
     ensures { result ≡ check_call handle (st words.now ledger.now) }
 {

@@ -18,6 +18,7 @@ pub fn scan_tables(words: &[u64], ledger: &[u32], handle: Handle) -> Option<usiz
     let set = pool_handle::flag_set(handle);
     let mut links = 0;
     let mut k = 0;
+    // A labelled loop left with a value, and no `for`: docs/DECISIONS.md names this form.
     'tables: loop {
         if n <= k {
             break 'tables Some(links);

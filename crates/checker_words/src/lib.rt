@@ -46,7 +46,11 @@ pub fn scan_links(run: &[u64], allowed: u64) -> Option<usize>
             any |= word;
         }
     }
-    if any & allowed == any { Some(links) } else { None }
+    if any & allowed == any {
+        Some(links)
+    } else {
+        None
+    }
 }
 
 // The bits that a leaf may have at a level.

@@ -2,20 +2,25 @@
 #![tactic(auto)]
 
 ghost use Rattle.std.specs.Prelude.{◌≡◌};
-ghost use Rattle.arm.specs.Arm.{frame_of, flags_in};
+ghost use Rattle.arm.specs.Arm.{frame_of, flags_in, index};
 ghost use Rattle.arm.specs.Walk.{slots_of};
 
 use address::{PhysicalAddress, VirtualAddress};
 
+// The slot number of an address at a level.
+#[tactic(auto, using(arm::specs::Walk::index_is), unfolding(address_slot::specs::Slot::entry_index))]
+fn slot_at(level: usize, va: VirtualAddress) -> u16
+    ensures { result ≡ index level va.0 }
+{
+    address_slot::entry_index(level, va.0) as u16
+}
+
 // The slot numbers of an address, by level.
+#[tactic(auto, unfolding(arm::specs::Walk::slots_of))]
 pub fn slots_of(va: VirtualAddress) -> [u16; 4]
     ensures { result ≡ slots_of va.0 }
 {
-    let s0 = address_slot::entry_index(0, va.0) as u16;
-    let s1 = address_slot::entry_index(1, va.0) as u16;
-    let s2 = address_slot::entry_index(2, va.0) as u16;
-    let s3 = address_slot::entry_index(3, va.0) as u16;
-    [s0, s1, s2, s3]
+    [0, 1, 2, 3].map(|level| slot_at(level, va))
 }
 
 // The frame of the address's page in an entry: the entry's address, cleared below the entry's size, plus the page's offset.

@@ -2,11 +2,9 @@
 use Rattle.std.specs.Prelude.{◌≡◌, true, false, cond, length, set, replicate}
 use Rattle.pool.specs.State.{St, st}
 use Rattle.pool.specs.Number.{root_number}
-use Rattle.pool.specs.Refuse.{shaped, Out, out, refuse, granted}
+use Rattle.pool.specs.Refuse.{shaped, Out, out, refuse, granted, Outcome}
 use Rattle.pool.specs.declared.Handle.{Handle}
 use Rattle.pool.specs.declared.Refusal.TheVariants.{Shape}
-use Rattle.std.specs.Prelude.{Ok}
-use Rattle.pool.specs.Refuse.{Outcome}
 
 -- ---- make: "zeroes all words and the ledger, then enters the root". Refusal 1.
 

@@ -15,6 +15,7 @@ use map_rules::{Map, Rule};
 use region::MemoryRegion;
 
 // The entries of this level that the region meets.
+#[tactic(auto, using(region::specs::Chunks::met_none, region::specs::Chunks::met_some, region::specs::Chunks::met_most, map_count_spec::specs::Ends::met_order))]
 fn entries_met(level: usize, start: u64, end: u64) -> u64
     ensures { result ≡ met level start end }
 {
@@ -25,6 +26,7 @@ fn entries_met(level: usize, start: u64, end: u64) -> u64
 }
 
 // The entries of this level, and of those below down to level 2, that the region meets: no map of it needs more tables.
+#[tactic(auto, using(map_count_spec::specs::Ends::mets_open, map_count_spec::specs::Ends::mets_done, map_count_spec::specs::Ends::mets_fit))]
 pub fn count_most(level: usize, start: u64, end: u64) -> u64
     requires { end - start ≤ 2 ^ 48 }
     ensures { result ≡ mets (3 - level) start end }
@@ -59,6 +61,7 @@ fn count_at(level: usize, map: Map) -> u64
 }
 
 // The entries of this level and of those below that are split in a region that begins with one, where rule 2 fits nothing.
+#[tactic(auto, using(map_count_spec::specs::Ends::rests_open, map_count_spec::specs::Ends::rests_done, map_count_spec::specs::Ends::rests_fit))]
 pub fn count_rest(level: usize, map: Map) -> u64
     requires { map.region.end.0 - map.region.start.0 ≤ 2 ^ 48 }
     ensures { result ≡ rests (3 - level) map }

@@ -26,7 +26,12 @@ fn put_down(words: &mut [u64], ledger: &mut [u32], handle: Handle, map: Map, bef
 
 // Refusals 8 and 9, then the map.
 #[tactic(auto, using(crate::proofs::Room::full))]
-pub fn map_sound(words: &mut [u64], ledger: &mut [u32], handle: Handle, map: Map) -> Result<usize, Refusal>
+pub fn map_sound(
+    words: &mut [u64],
+    ledger: &mut [u32],
+    handle: Handle,
+    map: Map,
+) -> Result<usize, Refusal>
     requires { Shaped handle (st words.old ledger.old) × Fit map }
     ensures { out result (st words.new ledger.new)
         ≡ map_sound handle map (st words.old ledger.old) }

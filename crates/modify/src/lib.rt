@@ -21,6 +21,7 @@ pub enum Modified {
 }
 
 // The edit from the root down.
+#[tactic(auto, unfolding(crate::specs::Call::edit_tables, crate::specs::Call::answer_of, pool::specs::Refuse::max_tables))]
 fn edit_tables(
     words: &mut [u64],
     ledger: &mut [u32],
@@ -41,6 +42,7 @@ fn edit_tables(
 }
 
 // Refusals 8 to 11, then the edit.
+#[tactic(auto, unfolding(crate::specs::Call::modify_sound, pool::specs::Refuse::first_refused, pool::specs::Refuse::max_tables))]
 fn modify_sound(
     words: &mut [u64],
     ledger: &mut [u32],
@@ -67,6 +69,7 @@ fn modify_sound(
 }
 
 // Sets and clears bits in the valid blocks and pages of the region; live, lists the page number of each whose word changed.
+#[tactic(auto, unfolding(crate::specs::Call::modify_call, pool::specs::Refuse::first_refused))]
 pub fn modify(
     words: &mut [u64],
     ledger: &mut [u32],

@@ -18,6 +18,7 @@ pub struct Edit {
 }
 
 // A word after the edit: only a valid block or page is touched.
+#[tactic(auto, unfolding(crate::specs::Word::edit_word, crate::specs::Word::of_kind, entry::specs::Word::edited))]
 pub fn edit_word(level: usize, edit: Edit, word: u64) -> u64
     ensures { result ≡ edit_word level edit word }
 {
@@ -39,6 +40,7 @@ pub fn chunk_edit(edit: Edit, region: MemoryRegion) -> Edit
 }
 
 // Live, a number goes after the others in the list; answers with how many there are.
+#[tactic(auto, unfolding(crate::specs::Own::put_number))]
 fn put_number(live: bool, list: &mut [u64], count: usize, number: u64) -> usize
     ensures { numbered result list.new ≡ put_number live number count list.old }
 {
@@ -53,6 +55,7 @@ fn put_number(live: bool, list: &mut [u64], count: usize, number: u64) -> usize
 }
 
 // A table's own entries, ascending: each word that changes is written and, live, listed.
+#[tactic(auto, unfolding(address_slot::specs::Slot::entry_index))]
 pub fn edit_own(
     words: &mut [u64],
     k: usize,

@@ -11,6 +11,7 @@ use pool::Handle;
 use region::MemoryRegion;
 
 // Whether a chunk's entry is one of the table's own: a whole entry that is no table.
+#[tactic(auto, unfolding(crate::specs::Range::own, map_rules::specs::Rules::table_word))]
 fn is_own(level: usize, region: MemoryRegion, word: u64) -> bool
     ensures { result ≡ own level region word }
 {
@@ -22,6 +23,7 @@ fn is_own(level: usize, region: MemoryRegion, word: u64) -> bool
 
 // Every chunk of the edit in table k: first what lies in lower tables, then the table's own entries. Answers with how many numbers the list
 // has.
+#[tactic(auto, unfolding(address_slot::specs::Slot::entry_index))]
 pub fn modify_range(
     words: &mut [u64],
     ledger: &mut [u32],
@@ -42,14 +44,13 @@ pub fn modify_range(
     let mut count = before;
     for chunk in edit.region.split(level) {
         let i = address_slot::entry_index(level, chunk.start.0);
-        let part = modify_entry::chunk_edit(edit, chunk);
-        if is_own(level, part.region, words[512 * k + i]) {
+        if is_own(level, chunk, words[512 * k + i]) {
             continue;
         }
-        let under = map_split::descend(words, ledger, handle, k, level, i);
-        let Some(j) = under else {
+        let Some(j) = map_split::descend(words, ledger, handle, k, level, i) else {
             continue;
         };
+        let part = modify_entry::chunk_edit(edit, chunk);
         count = modify_range(words, ledger, handle, j, level + 1, part, list, count);
     }
     modify_entry::edit_own(words, k, level, edit, list, count)

@@ -1,5 +1,5 @@
 -- What is counted fits: no more than three splits, and no more than three numbers, for each byte of the region. Leans on `Survey`.
-use Rattle.std.specs.Prelude.{Bool, true, false, cond, ℕ, zero, suc, ◌+◌, ◌*◌, ◌-◌, ◌^◌, ◌≤◌, ◌<◌, eqb}
+use Rattle.std.specs.Prelude.{◌≡◌, Bool, true, false, cond, ℕ, zero, suc, ◌+◌, ◌*◌, ◌-◌, ◌^◌, ◌≤◌, ◌<◌, eqb}
 use Rattle.std.proofs.Common.{mul-suc, mul-le-mul_left, arith}
 use Rattle.entry.specs.Word.{kind_of}
 use Rattle.entry.specs.Sub.{sub_of}
@@ -127,11 +127,12 @@ range_adds (suc depth) h s k e v =
 
 -- ---- room for a chunk, and for what remains after it
 
-module _ (a m e : ℕ) (above : a < m) (under : m ≤ e) (v : Survey) (room : Room (region a e) v) where
-  pub room_chunk : Room (region a m) v
+module _ {r c : MemoryRegion} (from : c.start.0 ≡ r.start.0) (above : c.start.0 < c.end.0) (under : c.end.0 ≤ r.end.0) (v : Survey)
+    (room : Room r v) where
+  pub room_chunk : Room c v
   room_chunk = record { span = omega (arith, room.span); splits = omega (arith, room.splits); numbers = omega (arith, room.numbers) }
 
-  pub room_after : (x : Survey) → Adds (region a m) v x → Room (region m e) x
+  pub room_after : (x : Survey) → Adds c v x → Room (region c.end.0 r.end.0) x
   room_after x adds = record {
     span = omega (arith, room.span);
     splits = omega (arith, room.splits, adds.splits);

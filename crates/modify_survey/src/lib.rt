@@ -25,6 +25,7 @@ pub struct Survey {
 pub const HOUSE_RULE: u64 = 0x07E8_0000_0000_0C81;
 
 // The bits of a valid entry that may change while the tables of this handle are in use.
+#[tactic(auto, unfolding(crate::specs::House::house_rule))]
 fn house_rule(handle: Handle) -> u64
     ensures { result ≡ house_rule handle }
 {
@@ -32,6 +33,7 @@ fn house_rule(handle: Handle) -> u64
 }
 
 // Whether a valid entry may change from one word to the other while its table is in use.
+#[tactic(auto, unfolding(crate::specs::House::may_change))]
 fn may_change(handle: Handle, old: u64, new: u64) -> bool
     ensures { result ≡ may_change handle old new }
 {
@@ -57,6 +59,7 @@ fn count_splits(level: usize, region: MemoryRegion) -> u64
 }
 
 // A breach of the house rule: the first one stays.
+#[tactic(auto, unfolding(crate::specs::Survey::breach))]
 fn add_breach(found: Survey, word: u64) -> Survey
     ensures { result ≡ breach word found }
 {
@@ -67,6 +70,7 @@ fn add_breach(found: Survey, word: u64) -> Survey
 }
 
 // A part of an entry: it is split, and no valid entry may be.
+#[tactic(auto, using(crate::specs::Room::splits_most), unfolding(crate::specs::Survey::survey_part, crate::specs::Survey::if_block))]
 fn survey_part(level: usize, region: MemoryRegion, word: u64, seen: Survey) -> Survey
     requires { (region.start.0 < region.end.0) × Room region seen }
     ensures { result ≡ survey_part level region word seen }
@@ -83,6 +87,7 @@ fn survey_part(level: usize, region: MemoryRegion, word: u64, seen: Survey) -> S
 }
 
 // A whole entry: its word may change.
+#[tactic(auto, unfolding(crate::specs::Survey::survey_whole))]
 fn survey_whole(handle: Handle, level: usize, edit: Edit, word: u64, seen: Survey) -> Survey
     requires { (edit.region.start.0 < edit.region.end.0) × Room edit.region seen }
     ensures { result ≡ survey_whole handle level edit word seen }
@@ -102,6 +107,7 @@ fn survey_whole(handle: Handle, level: usize, edit: Edit, word: u64, seen: Surve
 }
 
 // A chunk of an entry that is no table.
+#[tactic(auto, unfolding(crate::specs::Survey::survey_entry))]
 fn survey_entry(handle: Handle, level: usize, edit: Edit, word: u64, seen: Survey) -> Survey
     requires { (edit.region.start.0 < edit.region.end.0) × Room edit.region seen }
     ensures { result ≡ survey_entry handle level edit word seen }
@@ -114,6 +120,7 @@ fn survey_entry(handle: Handle, level: usize, edit: Edit, word: u64, seen: Surve
 }
 
 // Every chunk of the edit in table k, ascending: only entries that exist are visited.
+#[tactic(auto, unfolding(address_slot::specs::Slot::entry_index))]
 pub fn survey_range(
     words: &[u64],
     ledger: &[u32],

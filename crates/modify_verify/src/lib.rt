@@ -23,6 +23,7 @@ fn are_settable(flags: u64, set: u64, clear: u64) -> bool
 }
 
 // Refusals 3 and 4: the bits to set come before the bits to clear.
+#[tactic(auto, unfolding(crate::specs::Verify::verify_bits))]
 fn verify_bits(handle: Handle, set: u64, clear: u64) -> Result<(), Refusal>
     ensures { result ≡ verify_bits handle set clear }
 {
@@ -43,6 +44,7 @@ fn verify_bits(handle: Handle, set: u64, clear: u64) -> Result<(), Refusal>
 }
 
 // Whether the edit can be asked for at all; `end` is the caller's, before it is rounded.
+#[tactic(auto, unfolding(crate::specs::Verify::verify_edit, pool::specs::Refuse::first_refused))]
 pub fn verify_edit(handle: Handle, end: u64, edit: Edit) -> Result<(), Refusal>
     ensures { result ≡ verify_edit handle end edit }
 {
@@ -55,6 +57,7 @@ pub fn verify_edit(handle: Handle, end: u64, edit: Edit) -> Result<(), Refusal>
 }
 
 // Refusal 9, and those of a live edit: 10 and 11.
+#[tactic(auto, unfolding(crate::specs::Verify::verify_survey))]
 pub fn verify_survey(free: u64, room: u64, live: bool, found: Survey) -> Result<(), Refusal>
     ensures { result ≡ verify_survey free room live found }
 {

@@ -5,24 +5,26 @@ ghost use Rattle.std.specs.Prelude.{◌≡◌, ◌^◌, ◌<◌, length};
 ghost use Rattle.pool.specs.Number.{lowest_free, used};
 
 // The lowest free table.
+#[tactic(auto, using(crate::proofs::Scan::first_free), unfolding(pool::specs::Number::lowest_free))]
 pub fn lowest_free(ledger: &[u32]) -> Option<usize>
     ensures { result ≡ lowest_free ledger.now }
 {
     let n = ledger.len();
     let mut i = 0;
-    let at = loop {
+    // A loop by hand: the scan breaks with its number, a form that docs/DECISIONS.md names.
+    loop {
         if n <= i {
-            break n;
+            break None;
         }
         if ledger[i] == 0 {
-            break i;
+            break Some(i);
         }
         i += 1;
-    };
-    if at < n { Some(at) } else { None }
+    }
 }
 
 // The tables in use. A count as wide as the numbers lets a vector of numbers add to a vector of counts.
+#[tactic(auto, using(crate::proofs::Scan::in_use))]
 pub fn count_used(ledger: &[u32]) -> usize
     requires { length ledger.now < 2 ^ 32 }
     ensures { result ≡ used ledger.now }

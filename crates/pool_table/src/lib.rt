@@ -20,6 +20,7 @@ pub fn clear_table(words: &mut [u64], ledger: &mut [u32], k: usize)
 }
 
 // Frees table k, at this level, and every table below it.
+#[tactic(auto, using(crate::specs::Table::free_last))]
 pub fn free(words: &mut [u64], ledger: &mut [u32], handle: Handle, k: usize, level: usize)
     requires { (length words.old ≡ 512 * length ledger.old) × (k < length ledger.old) × (level ≤ 3) }
     ensures { st words.new ledger.new

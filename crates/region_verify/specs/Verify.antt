@@ -1,5 +1,5 @@
 -- Refusals 2, 5 and 6 (document 01, "The refusal slip"), and a law for each way through the code.
-use Rattle.std.specs.Prelude.{◌≡◌, Bool, ◌&&◌, ◌||◌, ◌⊎◌, ℕ, ◌*◌, ◌-◌, ◌^◌, ◌≤◌, ◌<◌, leb, ltb}
+use Rattle.std.specs.Prelude.{◌≡◌, Bool, ◌&&◌, ◌||◌, ◌⊎◌, ℕ, ◌*◌, ◌-◌, ◌^◌, ◌≤◌, ◌<◌, leb, ltb, Err}
 use Rattle.std.proofs.Math.Path.{refl}
 use Rattle.std.proofs.Common.{◌∙◌, inl, inr, ⊎_elim, arith}
 use Rattle.std.proofs.Math.Bool.{true, false, cond}
@@ -12,7 +12,6 @@ use Rattle.pool.specs.declared.VaRange.{VaRange}
 use Rattle.pool.specs.declared.VaRange.TheVariants.{Lower, Upper}
 use Rattle.pool.specs.declared.Refusal.{Refusal}
 use Rattle.pool.specs.declared.Refusal.TheVariants.{RegionBackwards, AddressRange}
-use Rattle.std.specs.Prelude.{Err}
 use Rattle.pool.specs.Refuse.{Outcome, granted}
 
 -- refusal 2 is given exactly when this fails: end is 0 or above 2^64 - 4096

@@ -1,18 +1,16 @@
 -- Document 01, "Bench cases": base 0x8000_0000, root level 1, lower, n = 8, flags 0x401. The starred cases of map, by computing the
 -- definitions.
-use Rattle.std.specs.Prelude.{List, ◌≡◌, refl, ℕ, ◌+◌, ◌*◌, set, replicate}
+use Rattle.std.specs.Prelude.{List, ◌≡◌, refl, ℕ, ◌+◌, ◌*◌, set, replicate, Err, Ok}
 use Rattle.pool.specs.Number.{root_number}
 use Rattle.pool.specs.State.{St, st}
 use Rattle.pool_table.specs.Table.{put_table, zeros, rising}
-use Rattle.pool.specs.Refuse.{out, granted}
+use Rattle.pool.specs.Refuse.{out, granted, Counted}
 use Rattle.make.specs.Call.{make_call, fresh as freshly}
 use Rattle.pool.specs.declared.Handle.{Handle}
 use Rattle.pool.specs.declared.Refusal.TheVariants.{WantOfRoom}
 use Rattle.pool.specs.declared.VaRange.TheVariants.{Lower}
 use Rattle.map_spec.specs.Call.{map_call}
 use Rattle.theory_case_rows.specs.Computes.{checks, regions, takes, maps}
-use Rattle.std.specs.Prelude.{Err, Ok}
-use Rattle.pool.specs.Refuse.{Counted}
 
 unfoldable pub handle : ℕ → Handle
 handle level = record { base = record { 0 = 0x8000_0000 }; level = level; range = Lower }

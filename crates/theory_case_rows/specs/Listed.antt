@@ -1,12 +1,11 @@
 -- Document 01, "Bench cases", J: after B, list 0..0x3000. By computing the definitions. Leans on `Bench`.
-use Rattle.std.specs.Prelude.{[], ◌∷◌, ◌≡◌, refl, replicate}
+use Rattle.std.specs.Prelude.{[], ◌∷◌, ◌≡◌, refl, replicate, Ok}
 use Rattle.arm.specs.Arm.{bits, low_bit, index, fetch}
 use Rattle.list_lines.specs.Lines.{numbers, each, sub_lines, chunk_lines, lines_at, lines_from, lines_of}
 use Rattle.pool.specs.Refuse.{first_refused}
 use Rattle.list.specs.Call.{verify_ends, listing, put, list_lines, list_sound, list_call}
 use Rattle.theory_case_rows.specs.Computes.{checks, regions}
 use Rattle.theory_case_rows.specs.Bench.{handle, pool_b, rows}
-use Rattle.std.specs.Prelude.{Ok}
 
 -- three lines; the rest of the list stays
 abbrev pub J : Type 0

@@ -1,5 +1,5 @@
 -- Document 01, "Bench cases", G: compact after it returns to 1 table. By computing the definitions. Leans on theory_case_rows.
-use Rattle.std.specs.Prelude.{◌≡◌, refl}
+use Rattle.std.specs.Prelude.{◌≡◌, refl, Ok}
 use Rattle.laws.specs.Slot.{iter}
 use Rattle.pool.specs.Number.{used}
 use Rattle.pool.specs.Refuse.{out}
@@ -8,7 +8,6 @@ use Rattle.compact_spec.specs.Compact.{all_zero, release_empty, compact_sub, com
 use Rattle.compact_spec.specs.Call.{compacted, compact_sound, compact_call}
 use Rattle.theory_case_rows.specs.Computes.{checks}
 use Rattle.theory_case_rows.specs.Bench.{handle, fresh_row, pool_g, rows}
-use Rattle.std.specs.Prelude.{Ok}
 
 -- both empty tables are freed, the lower one first, and the pool is as it was made
 abbrev pub GCompacted : Type 0

@@ -1,11 +1,11 @@
 -- Compact of a sound pool, in document 01's words: what it keeps, what it leaves, what it answers. This is the page to read.
-use Rattle.std.specs.Prelude.{◌≡◌, ◌≢◌, ℕ, suc, ◌+◌, ◌-◌, ◌≤◌, ◌<◌}
+use Rattle.std.specs.Prelude.{◌≡◌, ◌≢◌, ℕ, suc, ◌+◌, ◌-◌, ◌≤◌, ◌<◌, Ok}
 use Rattle.std.proofs.Math.Path.{refl, sym}
 use Rattle.std.proofs.Common.{ap, subst, ◌∙◌, arith}
 use Rattle.laws.specs.Test.{is_true}
 use Rattle.pool.specs.State.{St, word_at}
 use Rattle.pool.specs.Number.{used}
-use Rattle.pool.specs.Refuse.{shaped, Shaped, says-shaped, Out, out}
+use Rattle.pool.specs.Refuse.{shaped, Shaped, says-shaped, Out, out, Counted}
 use Rattle.pool.specs.Sound.{soundb}
 use Rattle.pool.specs.declared.Handle.{Handle}
 use Rattle.theory_forest.specs.Tree.{Tree}
@@ -28,8 +28,6 @@ use Rattle.compact_spec.specs.Call.{compacted, compact_call, call-compacted}
 use Rattle.theory_compact.specs.Empty.{not_all_zero}
 use Rattle.theory_compact.specs.Run.{table_worked}
 use Rattle.theory_compact.specs.Tight.{NoneEmpty, tight_none, table_same}
-use Rattle.std.specs.Prelude.{Ok}
-use Rattle.pool.specs.Refuse.{Counted}
 
 -- a word of 0 shows the same at every level
 zero_shows : (va depth : ℕ) → shown (says va (reached_at (record { word = 0; depth = depth }))) ≡ hole 0

@@ -1,12 +1,11 @@
 -- Theorems about the definitions of specs/Decided.
-use Rattle.std.specs.Prelude.{◌≡◌, ◌⊎◌, ℕ, ◌+◌, ◌-◌, ◌%◌, ◌^◌, length}
+use Rattle.std.specs.Prelude.{◌≡◌, ◌⊎◌, ℕ, ◌+◌, ◌-◌, ◌%◌, ◌^◌, Err}
 use Rattle.std.proofs.Common.{sym, inl, inr, ⊎_elim, arith}
 use Rattle.laws.specs.Test.{eq_or, le_or}
 use Rattle.region.specs.declared.MemoryRegion.{MemoryRegion}
 use Rattle.pool.specs.declared.Refusal.TheVariants.{Frame}
 use Rattle.map_verify.specs.Verify.{frame_asked, frame_part, frame_past, frame_fits}
 use Rattle.theory_demands.specs.Slip.{BadFrame}
-use Rattle.std.specs.Prelude.{Err}
 use Rattle.pool.specs.Refuse.{granted}
 
 -- 7

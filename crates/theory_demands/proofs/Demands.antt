@@ -1,18 +1,16 @@
 -- Theorems about the definitions of specs/Demands.
-use Rattle.std.specs.Prelude.{◌≡◌, Bool, List, ◌↔◌, ℕ}
+use Rattle.std.specs.Prelude.{◌≡◌, Bool, List, ◌↔◌, ℕ, Err}
 use Rattle.std.proofs.Common.{ap, inl, inr, ⊎_elim}
 use Rattle.pool.specs.State.{St}
 use Rattle.pool.specs.Refuse.{number}
 use Rattle.pool.specs.declared.Handle.{Handle}
 use Rattle.pool.specs.declared.Refusal.{Refusal}
 use Rattle.map_spec.specs.Call.{map_call}
-use Rattle.modify.specs.declared.Modified.TheVariants as modified
 use Rattle.modify.specs.Call.{Modifying, modify_call}
 use Rattle.theory_demands.specs.Slip.{MapSlip, ModifySlip}
 use Rattle.theory_demands.specs.Told.{LowestGiven, Told, exactly}
 use Rattle.theory_demands.proofs.Refused.{map-told}
 use Rattle.theory_demands.proofs.Modify.{modify_told}
-use Rattle.std.specs.Prelude.{Err}
 
 pub map_refused_exactly : (h : Handle) (s : St) (start end frame flags constraints n : ℕ)
     → ((r : Refusal) × ((map_call h start end frame flags constraints s).answer ≡ Err r) × (number r ≡ n))

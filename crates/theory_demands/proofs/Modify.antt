@@ -1,6 +1,6 @@
 -- Demand 1 of modify: refused by the lowest number on its slip, and by none where nothing is on it; a refusal leaves pool and list. Leans
 -- on `Slip`, `Told`, `Decided`.
-use Rattle.std.specs.Prelude.{◌≡◌, Bool, true, false, List, ◌⊎◌, ◌≢◌, ◌↔◌, ℕ, ◌/◌, ◌%◌, ◌≤◌, ◌<◌, length}
+use Rattle.std.specs.Prelude.{◌≡◌, Bool, true, false, List, ◌⊎◌, ◌≢◌, ◌↔◌, ℕ, ◌/◌, ◌%◌, ◌≤◌, ◌<◌, length, Err, None, Some}
 use Rattle.std.proofs.Math.Path.{refl, sym}
 use Rattle.std.proofs.Common.{ap, ◌∙◌, arith}
 use Rattle.std.proofs.Math.Logic.{inl, inr, ⊎_elim}
@@ -12,7 +12,7 @@ use Rattle.region.specs.Region.{rounded}
 use Rattle.region.specs.declared.MemoryRegion.{MemoryRegion}
 use Rattle.pool.specs.State.{St}
 use Rattle.pool.specs.Number.{free}
-use Rattle.pool.specs.Refuse.{shaped, granted}
+use Rattle.pool.specs.Refuse.{shaped, granted, Outcome}
 use Rattle.pool.specs.Sound.{soundb, flag_set}
 use Rattle.pool.specs.declared.Handle.{Handle}
 use Rattle.pool.specs.declared.Refusal.{Refusal}
@@ -21,24 +21,19 @@ use Rattle.pool.specs.declared.Refusal.TheVariants.{HouseRule, Short}
 use Rattle.region_verify.specs.Verify.{end_fits, verify}
 use Rattle.modify_entry.specs.declared.Edit.{Edit}
 use Rattle.modify_survey.specs.declared.Survey.{Survey}
-use Rattle.modify.specs.declared.Modified.TheVariants as modified
 use Rattle.modify_verify.specs.Verify.{asked_edit, verify_bits, verify_edit, verify_survey, bits_set_invalid, bits_clear_invalid}
-use Rattle.modify_verify.specs.Verify.{bits_set_outside, bits-set-valid, bits_clash, bits_clear_outside}
+use Rattle.modify_verify.specs.Verify.{bits_set_outside, bits-set-valid, bits_clash, bits_clear_outside, survey_short, survey_accepted}
 use Rattle.modify_verify.specs.Verify.{bits-accepted, edit_end, edit_bits, edit_region, survey_full, survey_off, survey_broken}
-use Rattle.modify_verify.specs.Verify.{survey_short, survey_accepted}
-use Rattle.modify.specs.Call.{Modifying, modifying, answer_of, edit_tables, survey_of, modify_sound, modify_call, sound_not, sound_refused}
-use Rattle.modify.specs.Call.{sound_edited, call_misshaped, call-refused}
-use Rattle.modify.specs.Call.{call-asked}
+use Rattle.modify.specs.Call.{Modifying, modifying, edit_tables, survey_of, modify_sound, modify_call, sound_not, sound_refused}
+use Rattle.modify.specs.Call.{sound_edited, call_misshaped, call-refused, call-asked}
 use Rattle.theory_modify.specs.Terms.{ModifyArguments, ModifyPassed}
 use Rattle.theory_modify.specs.House.{LowestBreach}
+use Rattle.theory_modify.specs.Found.{by_broken}
 use Rattle.theory_modify.proofs.Modified.{house_rule_lowest}
-use Rattle.theory_demands.specs.Slip.{BadEnd, HasBit1, OutsideSet, Backwards, BeyondRange, BadBit, BadToSet, BadFlags}
-use Rattle.theory_demands.specs.Slip.{ModifySlip}
+use Rattle.theory_demands.specs.Slip.{BadEnd, HasBit1, OutsideSet, Backwards, BeyondRange, BadBit, BadToSet, BadFlags, ModifySlip}
 use Rattle.theory_demands.specs.Told.{NoneBelow, LowestGiven, number_range, shape_lowest, none_first, none_next}
 use Rattle.theory_demands.specs.Decided.{misshaped, well_shaped, not_misshaped, unsound, sound, RegionStands, region-told, end_told}
 use Rattle.theory_demands.specs.Decided.{set_told}
-use Rattle.std.specs.Prelude.{Err}
-use Rattle.pool.specs.Refuse.{Outcome}
 
 -- ---- 3 and 4, decided
 
@@ -106,10 +101,8 @@ module _ (h : Handle) (set clear : ℕ) where
 
 -- an edit that is carried out is no refusal
 edited-not : (h : Handle) (x : Edit) (s : St) (list : List ℕ) (r : Refusal) → (edit_tables h x s list).answer ≢ Err r
-unfolding edit_tables answer_of
-edited-not h x s list r q = by_bool x.live
-    (λ on. let z = rw on at q in let o : ◌≡◌ {A = ℕ} 0 1 = cc in omega arith)
-    (λ off. let z = rw off at q in let o : ◌≡◌ {A = ℕ} 0 1 = cc in omega arith)
+unfolding edit_tables
+edited-not h x s list r q = cc
 
 module _ (h : Handle) (s : St) (start end set clear : ℕ) (live : Bool) (list : List ℕ) where
   abbrev Here : Refusal → Type 0
@@ -213,14 +206,11 @@ module _ (h : Handle) (s : St) (start end set clear : ℕ) (live : Bool) (list :
             passed = record { shape = well_shaped h s fits; asks = sym region_is ∙ stands.0; pool = sound h s fits is }
 
             -- what the survey finds is the lowest breach by the walk
-            breach_is : (w : ℕ) → ((v.broken ≡ true) × (v.word ≡ w)) ↔ LowestBreach h c s w
+            breach_is : (w : ℕ) → (v.broken ≡ Some w) ↔ LowestBreach h c s w
             breach_is w = house_rule_lowest h c s list passed w
 
-            no_breach : v.broken ≡ false → (w : ℕ) → ¬ ((live ≡ true) × LowestBreach h c s w)
-            no_breach kept w g =
-                let z : true ≡ false = sym ((breach_is w).1 g.1).0 ∙ kept in
-                let o : ◌≡◌ {A = ℕ} 0 1 = cc in
-                omega arith
+            no_breach : v.broken ≡ None → (w : ℕ) → ¬ ((live ≡ true) × LowestBreach h c s w)
+            no_breach kept w g = cc ((breach_is w).1 g.1, kept)
 
             eight : NoneBelow Here 9
             unfolding ModifySlip
@@ -240,7 +230,7 @@ module _ (h : Handle) (s : St) (start end set clear : ℕ) (live : Bool) (list :
             surveyed told y q lowest = inl (y, sym (sound_refused h e s list is refl refl told y q ∙ whole_is), lowest)
 
             done : granted ≡ verify_survey (free s.ledger) (length list) live v → v.splits ≤ free s.ledger
-                → (live ≡ true → (v.broken ≡ false) × (v.numbers ≤ length list)) → Goal
+                → (live ≡ true → (v.broken ≡ None) × (v.numbers ≤ length list)) → Goal
             unfolding asked_edit ModifySlip
             done told room rest = inr (
               (λ q. none_next Here 11 (ten room (λ w g. no_breach (rest g.0).0 w g))
@@ -259,16 +249,16 @@ module _ (h : Handle) (s : St) (start end set clear : ℕ) (live : Bool) (list :
               off : live ≡ false → Goal
               off q =
                   done (survey_off (free s.ledger) (length list) live v room q) room
-                  (λ on. let z : true ≡ false = sym on ∙ q in let o : ◌≡◌ {A = ℕ} 0 1 = cc in absurd (omega arith))
+                  (λ on. let z : true ≡ false = sym on ∙ q in cc)
 
               module _ (on : live ≡ true) where
-                broken : v.broken ≡ true → Goal
+                broken : (w : ℕ) → v.broken ≡ Some w → Goal
                 unfolding ModifySlip
-                broken q =
-                    surveyed (survey_broken (free s.ledger) (length list) live v room on q) (HouseRule v.word) refl
-                    (record { given = (on, (breach_is v.word).0 (q, refl)); lower = nine room })
+                broken w q =
+                    surveyed (survey_broken (free s.ledger) (length list) live v room on q) (HouseRule w) refl
+                    (record { given = (on, (breach_is w).0 q); lower = nine room })
 
-                module _ (kept : v.broken ≡ false) where
+                module _ (kept : v.broken ≡ None) where
                   narrow : length list < v.numbers → Goal
                   unfolding ModifySlip
                   narrow short =
@@ -288,7 +278,7 @@ module _ (h : Handle) (s : St) (start end set clear : ℕ) (live : Bool) (list :
       (λ stands. by_bool (soundb h s)
       (λ is. ⊎_elim
       (λ room. by_bool live
-      (λ on. by_bool v.broken (broken fits x.0 x.1 bits stands is room on)
+      (λ on. by_broken v.broken (broken fits x.0 x.1 bits stands is room on)
       (λ kept. ⊎_elim (enough fits x.0 x.1 bits stands is room on kept) (narrow fits x.0 x.1 bits stands is room on kept)
       (le_or v.numbers (length list))))
       (off fits x.0 x.1 bits stands is room))

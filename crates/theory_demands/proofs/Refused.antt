@@ -1,7 +1,7 @@
 -- Theorems about the definitions of specs/Refused.
 use Rattle.std.proofs.Math.Path.{◌≡◌, refl, sym}
 use Rattle.std.proofs.Common.{◌∙◌}
-use Rattle.std.specs.Prelude.{true, false, ℕ, ◌-◌, ◌/◌, ◌%◌, ◌≤◌, ◌<◌}
+use Rattle.std.specs.Prelude.{true, false, ℕ, ◌-◌, ◌/◌, ◌%◌, ◌≤◌, ◌<◌, Err}
 use Rattle.std.proofs.Math.Logic.{inl, inr, ⊎_elim}
 use native.Mathlib.Omega.{arith}
 use Rattle.laws.specs.Test.{by_bool, eq_or, le_or}
@@ -22,14 +22,11 @@ use Rattle.map_rules.specs.declared.Map.{Map}
 use Rattle.map_verify.specs.Verify.{asked_map, frame_asked, verify_map, ask_end, ask_invalid, ask_set, ask_region, ask_frame}
 use Rattle.map_spec.specs.Call.{put_down, map_sound, map_call, sound_not}
 use Rattle.map_spec.specs.Call.{sound_full, sound_mapped, call_misshaped, call-refused, call-asked}
-use Rattle.theory_demands.specs.Slip.{BadEnd, HasBit1, OutsideSet, Backwards, BeyondRange, BadFrame}
-use Rattle.theory_demands.specs.Slip.{MapSlip}
+use Rattle.theory_demands.specs.Slip.{BadEnd, HasBit1, OutsideSet, Backwards, BeyondRange, BadFrame, MapSlip}
 use Rattle.theory_demands.specs.Told.{NoneBelow, LowestGiven, Told, number_range, shape_lowest, none_first, none_next}
-use Rattle.theory_demands.specs.Decided.{misshaped, not_misshaped, unsound, sound, RegionStands, region-told, end_told}
-use Rattle.theory_demands.specs.Decided.{set_told}
+use Rattle.theory_demands.specs.Decided.{misshaped, not_misshaped, unsound, sound, RegionStands, region-told, end_told, set_told}
 use Rattle.theory_demands.proofs.Decided.{frame_told}
 use Rattle.theory_demands.specs.Refused.{answer-same}
-use Rattle.std.specs.Prelude.{Err}
 
 -- ---- map: 1 to 9
 
@@ -157,8 +154,7 @@ module _ (h : Handle) (s : St) (start end frame flags constraints : ℕ) where
                       (none_next MapHere 10 (none_next MapHere 9 map_eight (λ k f g. omega (arith, g.0, g.1, g.2))) (λ w g. g))
                       (λ k g. g) q (number_range q).1),
                   λ r e. let z = answer-same (sound_mapped h m s is refl refl room ∙ map_asked_lem) ∙ e in
-                      let o : ◌≡◌ {A = ℕ} 0 1 = cc in
-                      omega arith,
+                      cc,
                 )
 
   pub map-told : MapGoal

@@ -1,5 +1,5 @@
 -- The lines that slips share, decided: a line is on the slip and the definitions' test says so, or neither. Leans on `Slip`.
-use Rattle.std.specs.Prelude.{◌≡◌, refl, true, false, ◌⊎◌, ◌≢◌, ℕ, ◌+◌, ◌*◌, ◌-◌, ◌%◌, ◌^◌, ◌≤◌, ◌<◌, T, length}
+use Rattle.std.specs.Prelude.{◌≡◌, refl, true, false, ◌⊎◌, ◌≢◌, ℕ, ◌+◌, ◌*◌, ◌-◌, ◌%◌, ◌^◌, ◌≤◌, ◌<◌, T, length, Err}
 use Rattle.std.proofs.Common.{sym, ◌∙◌, inl, inr, ⊎_elim, arith, le-leb, le-ltb, lt-ltb}
 use Rattle.std.specs.Int.Bits.{bit_and}
 use Rattle.std.proofs.lemmas.Bool.{lt-leb}
@@ -22,7 +22,6 @@ use Rattle.region_verify.specs.Verify.{end_fits, in_range, verify, refused_never
 use Rattle.region_verify.specs.Verify.{verify_backwards, verify_forwards}
 use Rattle.look_up.specs.Call.{spanned}
 use Rattle.theory_demands.specs.Slip.{Misshaped, BadEnd, OutsideSet, Backwards, BeyondRange, BeyondSpan}
-use Rattle.std.specs.Prelude.{Err}
 
 -- 1
 pub misshaped : (h : Handle) (s : St) → shaped h s ≡ false → Misshaped h s

@@ -1,6 +1,6 @@
 -- THE DEMANDS, each sentence a theorem about the definitions that the public contracts cite. Demand 1's tables are in `Slip`; demands 2 and
 -- 3 are said in the words of theory_map's `Terms` and proved in theory_map's `Mapped`: what stands here beside them is what follows.
-use Rattle.std.specs.Prelude.{◌≡◌, List, [], ◌∷◌, ◌≢◌, ◌↔◌, ℕ, ◌<◌}
+use Rattle.std.specs.Prelude.{◌≡◌, List, [], ◌∷◌, ◌≢◌, ◌↔◌, ℕ, ◌<◌, Err}
 use Rattle.std.proofs.Common.{◌∙◌}
 use Rattle.pool.specs.State.{St, tables, word_at, number_at}
 use Rattle.pool.specs.Refuse.{number}
@@ -14,7 +14,6 @@ use Rattle.theory_sound.proofs.Hanging.{reach, one-path, refer_once, root_unrefe
 use Rattle.checker.specs.Call.{check_call}
 use Rattle.compact_spec.specs.Call.{compact_call}
 use Rattle.look_up.specs.Call.{look_up_call}
-use Rattle.look_up.specs.declared.Looked.TheVariants as looked
 use Rattle.theory_walk.specs.AsBefore.{walk_of, mapped, shown}
 use Rattle.list.specs.Call.{list_call}
 use Rattle.theory_map.specs.Terms.{MapArguments, Maps, Valid, InMapRegion, frame_for, RegionsApart, InTurn, none, next, InSpan}
@@ -24,7 +23,6 @@ use Rattle.theory_map.proofs.Mapped.{map_region_walks, map_elsewhere_as_before}
 use Rattle.theory_demands.specs.Slip.{MakeSlip, CheckSlip, LookUpSlip, ImageSlip, ListSlip}
 use Rattle.theory_demands.specs.Told.{LowestGiven, exactly}
 use Rattle.theory_demands.specs.Refused.{make_told, check_told, compact_told, look_up_told, image_told, list_told}
-use Rattle.std.specs.Prelude.{Err}
 
 -- ---- DEMAND 1: "it refuses by number, in a fixed order": refused n exactly when n is the lowest number on the call's slip
 

@@ -1,9 +1,9 @@
 -- What document 01 says of make, look up, list, compact and modify, gathered: each call's theorems as one. Map has `Demands`.
-use Rattle.std.specs.Prelude.{◌≡◌, true, false, List, ◌++◌, ◌≢◌, ℕ, ◌+◌, ◌%◌, ◌≤◌, ◌<◌, length, drop}
+use Rattle.std.specs.Prelude.{◌≡◌, true, false, List, ◌++◌, ◌≢◌, ℕ, ◌+◌, ◌%◌, ◌≤◌, ◌<◌, length, drop, Ok}
 use Rattle.std.proofs.Common.{sym, ap, subst}
-use Rattle.pool.specs.State.{St, tables, word_at}
+use Rattle.pool.specs.State.{St, word_at}
 use Rattle.pool.specs.Number.{used}
-use Rattle.pool.specs.Refuse.{shaped, Out, out}
+use Rattle.pool.specs.Refuse.{shaped, Out, out, Outcome}
 use Rattle.make.specs.Call.{make_call, make_accepted}
 use Rattle.pool.specs.declared.Handle.{Handle}
 use Rattle.theory_sound.specs.Clauses.{InUse, SoundPool}
@@ -12,16 +12,12 @@ use Rattle.look_up.specs.Call.{answer, spanned, look_up_call, look_walks}
 use Rattle.theory_walk.specs.AsBefore.{walk_of, mapped, hole, shown}
 use Rattle.compact_spec.specs.Call.{compacted, compact_call}
 use Rattle.theory_compact.specs.Compacted.{compact_answers, compact_keeps_sound, compact_walks_as_before, compact_leaves_no_empty_table}
-use Rattle.theory_compact.specs.Compacted.{compact_again_answers}
-use Rattle.theory_compact.specs.Compacted.{compact_never_more_tables}
+use Rattle.theory_compact.specs.Compacted.{compact_again_answers, compact_never_more_tables}
 use Rattle.theory_map.specs.Terms.{ShapedSound, InSpan}
 use Rattle.theory_modify.specs.Terms.{ModifyArguments, Modifies, InModifyRegion, flags_after, made_by_modify, numbers_of}
 use Rattle.theory_modify.proofs.Modified.{modify_keeps_sound, modify_valid_pages, modify_cleared_pages, modify_holes_stay}
-use Rattle.theory_modify.proofs.Modified.{modify_elsewhere_as_before, modify_tables_in_use}
-use Rattle.theory_modify.proofs.Modified.{modify_list_untouched, modify_list_exactly}
+use Rattle.theory_modify.proofs.Modified.{modify_elsewhere_as_before, modify_tables_in_use, modify_list_untouched, modify_list_exactly}
 use Rattle.theory_demands.specs.Decided.{well_shaped}
-use Rattle.std.specs.Prelude.{Ok}
-use Rattle.pool.specs.Refuse.{Outcome}
 
 -- ---- make: "zeroes all words and the ledger, then enters the root"; the pool is sound
 

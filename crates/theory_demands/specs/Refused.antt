@@ -1,42 +1,34 @@
 -- Demand 1: each call is refused by the lowest number on its slip, and by none where nothing is on it. Leans on `Slip`, `Told`, `Decided`.
 use Rattle.std.proofs.Math.Path.{◌≡◌, refl, sym}
 use Rattle.std.proofs.Common.{ap, ◌∙◌}
-use Rattle.std.specs.Prelude.{true, false, List, ◌⊎◌, ◌≢◌, ℕ, ◌*◌, ◌≤◌, ◌<◌, length}
+use Rattle.std.specs.Prelude.{true, false, List, ◌⊎◌, ◌≢◌, ℕ, ◌*◌, ◌≤◌, ◌<◌, length, Err, Ok}
 use Rattle.std.proofs.Math.Logic.{inl, inr, ⊎_elim}
 use native.Mathlib.Omega.{arith}
 use Rattle.laws.specs.Test.{by_bool, eq_or, le_or}
 use Rattle.address.specs.declared.VirtualAddress.{VirtualAddress}
 use Rattle.region.specs.Region.{rounded}
 use Rattle.pool.specs.State.{St, tables}
-use Rattle.pool.specs.Refuse.{shaped, number, Out, granted}
+use Rattle.pool.specs.Refuse.{shaped, number, Out, granted, Counted, Outcome}
 use Rattle.pool.specs.Sound.{soundb}
 use Rattle.make.specs.Call.{make_call, make_refused, make_accepted}
 use Rattle.image.specs.Call.{Imaged, image_call, image_misshaped, image_no_table, image_short, image_written}
 use Rattle.pool.specs.declared.Handle.{Handle}
 use Rattle.pool.specs.declared.Refusal.{Refusal}
-use Rattle.pool.specs.declared.Refusal.TheVariants.{Shape, End, RegionBackwards, AddressRange, Unsound}
-use Rattle.pool.specs.declared.Refusal.TheVariants.{Short}
+use Rattle.pool.specs.declared.Refusal.TheVariants.{Shape, End, RegionBackwards, AddressRange, Unsound, Short}
 use Rattle.theory_sound.specs.Clauses.{SoundPool}
 use Rattle.checker.specs.Call.{check_call, check_misshaped, check_unsound, check_sound}
 use Rattle.compact_spec.specs.Call.{compact_call, call_misshaped as compact-misshaped, call_unsound as compact-unsound, call-compacted}
 use Rattle.region_verify.specs.Verify.{end_fits, verify}
 use Rattle.arm.specs.Arm.{Walked, hole, block, page as one_page, outside, walk}
 use Rattle.look_up.specs.Call.{answer, look_up_call, look_misshaped, look_beyond, look_walks}
-use Rattle.look_up.specs.declared.Looked.TheVariants as looked
 use Rattle.list_lines.specs.Lines.{lines_of}
-use Rattle.list.specs.Call.{Listing, verify_ends, list_lines, list_call}
+use Rattle.list.specs.Call.{Listing, verify_ends, list_lines, list_call, ends_fit, list_short, list_written, Listed}
 use Rattle.list.specs.Call.{list_misshaped, list_region, list_unsound, list_sound_lem, ends_past}
-use Rattle.list.specs.Call.{ends_fit, list_short}
-use Rattle.list.specs.Call.{list_written}
 use Rattle.theory_demands.specs.Slip.{Misshaped, BadEnd, Backwards, BeyondRange, BeyondSpan, MakeSlip}
 use Rattle.theory_demands.specs.Slip.{CheckSlip, LookUpSlip, ImageSlip, ListSlip}
 use Rattle.theory_demands.specs.Told.{NoneBelow, Told, none_below, number_range, shape_lowest, none_first, none_next}
 use Rattle.theory_demands.specs.Decided.{misshaped, not_misshaped, unsound, sound, RegionStands, region-told, accepted-not, end_told}
 use Rattle.theory_demands.specs.Decided.{span-told}
-use Rattle.std.specs.Prelude.{Err, Ok}
-use Rattle.pool.specs.Refuse.{Counted}
-use Rattle.list.specs.Call.{Listed}
-use Rattle.pool.specs.Refuse.{Outcome}
 
 -- ---- make: 1
 
@@ -91,7 +83,7 @@ compact_told h s = by_bool (shaped h s)
     (λ fits. by_bool (soundb h s)
     (λ is. inr (
       (λ q. check_below h s 12 (not_misshaped h s fits) (λ l g. g (sound h s fits is)) q (number_range q).1),
-      λ r e. let z = answer-same (call-compacted h s fits is refl refl) ∙ e in let o : ◌≡◌ {A = ℕ} 0 1 = cc in omega arith,
+      λ r e. let z = answer-same (call-compacted h s fits is refl refl) ∙ e in cc,
     ))
     (λ un. inl (
       Unsound,
@@ -146,11 +138,11 @@ answer-told : (w : Walked)
     → ((w ≡ outside) × (answer w ≡ Err Unsound)) ⊎ ((w ≢ outside) × ((r : Refusal) → answer w ≢ Err r))
 unfolding answer
 answer-told (hole level flags) =
-    inr ((λ e. let z : ◌≡◌ {A = ℕ} 0 1 = cc in omega arith), λ r e. let z : ◌≡◌ {A = ℕ} 0 1 = cc in omega arith)
+    inr ((λ e. cc), λ r e. cc)
 answer-told (block level flags frame) =
-    inr ((λ e. let z : ◌≡◌ {A = ℕ} 0 1 = cc in omega arith), λ r e. let z : ◌≡◌ {A = ℕ} 0 1 = cc in omega arith)
+    inr ((λ e. cc), λ r e. cc)
 answer-told (one_page level flags frame) =
-    inr ((λ e. let z : ◌≡◌ {A = ℕ} 0 1 = cc in omega arith), λ r e. let z : ◌≡◌ {A = ℕ} 0 1 = cc in omega arith)
+    inr ((λ e. cc), λ r e. cc)
 answer-told outside = inl (refl, refl)
 
 pub look_up_told : (h : Handle) (s : St) (va : ℕ) → Told (LookUpSlip h s va) Err (look_up_call h s va)

@@ -1,17 +1,15 @@
 -- Document 01, "What the paperwork has to pin down", "Shut out": programs that no contract admits. Whatever meets map's equation refuses
 -- some calls and accepts others, gives more than one answer, and changes the pool. By the starred cases A and B.
-use Rattle.std.specs.Prelude.{◌≡◌, ◌≢◌, ℕ}
+use Rattle.std.specs.Prelude.{◌≡◌, ◌≢◌, ℕ, Err, Ok}
 use Rattle.std.proofs.Common.{sym, ap, ◌∙◌, arith}
 use Rattle.pool.specs.State.{St, word_at}
 use Rattle.pool.specs.Number.{root_number}
-use Rattle.pool.specs.Refuse.{Out, out}
+use Rattle.pool.specs.Refuse.{Out, out, Counted}
 use Rattle.pool.specs.declared.Handle.{Handle}
 use Rattle.pool.specs.declared.Refusal.{Refusal}
 use Rattle.pool.specs.declared.Refusal.TheVariants.{WantOfRoom}
 use Rattle.theory_map.specs.Terms.{MapArguments, map_answer}
 use Rattle.theory_case_rows.specs.Bench.{handle, fresh_row, word, pool_a, pool_b, RowHolds, A, B, quick}
-use Rattle.std.specs.Prelude.{Err, Ok}
-use Rattle.pool.specs.Refuse.{Counted}
 
 -- case A's call, and case B's
 abbrev call_a : MapArguments
@@ -46,27 +44,24 @@ module _ (f : Handle → MapArguments → St → Out Counted) (meets : (h : Hand
   pub not_all_refused : ¬ ((h : Handle) (c : MapArguments) (s : St) → (r : Refusal) × ((f h c s).answer ≡ Err r))
   not_all_refused all =
       let r = all (handle 1) call_a (fresh_row 1 8) in
-      let z : Ok 1 ≡ Err r.0 = sym (answers (handle 1) call_a (fresh_row 1 8) case_A) ∙ r.1 in
-      let o : ◌≡◌ {A = ℕ} 0 1 = cc in
-      omega arith
+      let z : ◌≡◌ {A = Counted} (Ok 1) (Err r.0) = sym (answers (handle 1) call_a (fresh_row 1 8) case_A) ∙ r.1 in
+      cc
 
   -- such a function does not accept everything
   pub not_all_accepted : ¬ ((h : Handle) (c : MapArguments) (s : St) → (n : ℕ) × ((f h c s).answer ≡ Ok n))
   not_all_accepted all =
       let n = all (handle 1) call_b (fresh_row 1 2) in
       let z : Err (WantOfRoom 2 1) ≡ Ok n.0 = sym (answers (handle 1) call_b (fresh_row 1 2) case_B_2) ∙ n.1 in
-      let o : ◌≡◌ {A = ℕ} 0 1 = cc in
-      omega arith
+      cc
 
   -- such a function does not give one constant answer
   pub not_constant : (a : Counted) → ¬ ((h : Handle) (c : MapArguments) (s : St) → (f h c s).answer ≡ a)
   not_constant a all =
-      let z : Ok 1 ≡ Ok 3 =
+      let z : ◌≡◌ {A = Counted} (Ok 1) (Ok 3) =
       sym (answers (handle 1) call_a (fresh_row 1 8) case_A) ∙ all (handle 1) call_a (fresh_row 1 8)
       ∙ sym (all (handle 1) call_b (fresh_row 1 8))
       ∙ answers (handle 1) call_b (fresh_row 1 8) case_B in
-      let o : ◌≡◌ {A = ℕ} 1 3 = cc in
-      omega arith
+      cc
 
   -- such a function does not leave every pool as it was
   pub not_idle : ¬ ((h : Handle) (c : MapArguments) (s : St) → (f h c s).state ≡ s)

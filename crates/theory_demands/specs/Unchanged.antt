@@ -1,14 +1,14 @@
 -- Demand 1: "a refused call changes no lent word", and no second answer meets a contract. Leans on the laws of the calls.
 use Rattle.std.proofs.Math.Path.{◌≡◌, refl, ap}
-use Rattle.std.proofs.Common.{sym, ◌∙◌, arith}
-use Rattle.std.specs.Prelude.{true, List, ℕ, ◌*◌, ◌-◌}
+use Rattle.std.proofs.Common.{sym, ◌∙◌}
+use Rattle.std.specs.Prelude.{true, List, ℕ, ◌*◌, ◌-◌, Err, Ok}
 use Rattle.std.proofs.Math.Logic.{⊎_elim}
 use Rattle.std.proofs.Math.ListN.{length}
 use Rattle.laws.specs.Test.{by_bool, eq_or, le_or}
 use Rattle.region.specs.Region.{rounded}
 use Rattle.pool.specs.State.{St, tables}
 use Rattle.pool.specs.Number.{free}
-use Rattle.pool.specs.Refuse.{shaped, Out, out, granted}
+use Rattle.pool.specs.Refuse.{shaped, Out, out, Counted, Outcome}
 use Rattle.pool.specs.Sound.{soundb}
 use Rattle.make.specs.Call.{make_call, make_refused, make_accepted}
 use Rattle.image.specs.Call.{Imaged, imaged, image_call, image_misshaped, image_no_table, image_short, image_written}
@@ -17,19 +17,14 @@ use Rattle.pool.specs.declared.Refusal.{Refusal}
 use Rattle.compact_spec.specs.Call.{compact_call, call_misshaped as compact-misshaped, call_unsound as compact-unsound, call-compacted}
 use Rattle.list_lines.specs.Lines.{lines_of}
 use Rattle.list.specs.Call.{Listing, listing, verify_ends, list_lines, list_call, list_misshaped, list_region, list_unsound, list_sound_lem}
-use Rattle.list.specs.Call.{list_short, list_written}
+use Rattle.list.specs.Call.{list_short, list_written, Listed}
 use Rattle.map_count_spec.specs.Needed.{needed}
 use Rattle.map_rules.specs.declared.Map.{Map}
-use Rattle.modify.specs.declared.Modified.{Modified}
-use Rattle.modify.specs.Call.{Modifying, modifying}
+use Rattle.modify.specs.Call.{ModifyAnswer, Modifying, modifying}
 use Rattle.map_verify.specs.Verify.{asked_map, verify_map}
 use Rattle.map_spec.specs.Call.{put_down, map_sound, map_call, sound_not}
 use Rattle.map_spec.specs.Call.{sound_full, sound_mapped, call_misshaped, call-refused, call-asked}
 use Rattle.theory_demands.specs.Decided.{accepted-not}
-use Rattle.std.specs.Prelude.{Err, Ok}
-use Rattle.pool.specs.Refuse.{Counted}
-use Rattle.list.specs.Call.{Listed}
-use Rattle.pool.specs.Refuse.{Outcome}
 
 -- ---- NO SECOND ANSWER: what meets a contract is what its definition gives, answer and all that was lent together
 
@@ -46,7 +41,7 @@ one_page e f = (ap (λ (y : Imaged). y.answer) (only_one e f), ap (λ (y : Image
 pub one_list : {r q : Listed} {k l : List ℕ} {x : Listing} → listing r k ≡ x → listing q l ≡ x → (r ≡ q) × (k ≡ l)
 one_list e f = (ap (λ (y : Listing). y.answer) (only_one e f), ap (λ (y : Listing). y.list) (only_one e f))
 
-pub one_edit : {r q : Modified} {t u : St} {k l : List ℕ} {x : Modifying} → modifying r t k ≡ x → modifying q u l ≡ x
+pub one_edit : {r q : ModifyAnswer} {t u : St} {k l : List ℕ} {x : Modifying} → modifying r t k ≡ x → modifying q u l ≡ x
     → (r ≡ q) × (t ≡ u) × (k ≡ l)
 one_edit e f = (
   ap (λ (y : Modifying). y.answer) (only_one e f),
@@ -71,8 +66,7 @@ module _ (h : Handle) (s : St) {r : Refusal} where
   compact_leaves q = by_bool (shaped h s)
       (λ fits. by_bool (soundb h s)
       (λ is. absurd
-      (let z = ap (λ (x : Out Counted). x.answer) (call-compacted h s fits is refl refl) ∙ q in let o : ◌≡◌ {A = ℕ} 0 1 = cc in
-      omega arith))
+      (let z = ap (λ (x : Out Counted). x.answer) (call-compacted h s fits is refl refl) ∙ q in cc))
       (λ un. stays (compact-unsound h s fits un) q))
       (λ fails. stays (compact-misshaped h s fails) q)
 
@@ -106,8 +100,7 @@ module _ (h : Handle) (s : St) (start end : ℕ) (list : List ℕ) {r : Refusal}
       let whole : list_lines lines list ≡ list_call h s start end list = list_sound_lem h s start end list fits e refl is refl in
       ⊎_elim
       (λ room. absurd
-      (let z = ap (λ (y : Listing). y.answer) (list_written lines list room ∙ whole) ∙ q in let o : ◌≡◌ {A = ℕ} 0 1 = cc in
-      omega arith))
+      (let z = ap (λ (y : Listing). y.answer) (list_written lines list room ∙ whole) ∙ q in cc))
       (λ short. list_stays (list_short lines list short ∙ whole))
       (le_or (4 * length lines) (length list)))
       (λ un. list_stays (list_unsound h s start end list fits e refl un))
@@ -132,8 +125,7 @@ module _ (h : Handle) (s : St) (start end frame flags constraints : ℕ) {r : Re
       by_bool (soundb h s)
       (λ is. ⊎_elim
       (λ room. absurd
-      (let z = ap (λ (y : Out Counted). y.answer) (sound_mapped h m s is refl refl room ∙ whole) ∙ q in let o : ◌≡◌ {A = ℕ} 0 1 = cc in
-      omega arith))
+      (let z = ap (λ (y : Out Counted). y.answer) (sound_mapped h m s is refl refl room ∙ whole) ∙ q in cc))
       (λ short. stays (sound_full h m s is refl refl short ∙ whole) q)
       (le_or (needed (3 - h.level) h s 0 m) (free s.ledger)))
       (λ un. stays (sound_not h m s un ∙ whole) q)

@@ -16,7 +16,7 @@ use Rattle.pool.specs.declared.Handle.{Handle}
 use Rattle.pool.specs.declared.VaRange.{VaRange}
 use Rattle.pool.specs.declared.VaRange.TheVariants.{Lower, Upper}
 use Rattle.pool.specs.State.{St}
-use Rattle.pool.specs.Refuse.{number, first_refused, shaped, Shaped, shaped-says, granted}
+use Rattle.pool.specs.Refuse.{number, first_refused, shaped, Shaped, shaped-says, granted, Outcome}
 use Rattle.pool.specs.declared.Refusal.{Refusal}
 use Rattle.pool.specs.declared.Refusal.TheVariants.{Shape, Unsound, End, InvalidFlags, FlagSet, RegionBackwards, AddressRange, Frame}
 use Rattle.region_verify.specs.Verify.{end_fits, in_range, verify, verified_forwards, RegionInSpan, verified_span}
@@ -33,7 +33,6 @@ use Rattle.theory_map.specs.Leaf.{set_below}
 use Rattle.theory_map.specs.Stand.{Allowed}
 use Rattle.theory_map.specs.Pieces.{Area}
 use Rattle.std.specs.Prelude.{Err, Ok}
-use Rattle.pool.specs.Refuse.{Outcome}
 
 -- ---- a region that refusal 6 leaves lies in the root's span
 

@@ -1,11 +1,11 @@
 -- The call of map on a pool that refusals 1 to 8 leave: it is refused 9 exactly when the tree's count exceeds what is free, and otherwise
 -- it leaves a sound pool whose root shows the tree after the map.
-use Rattle.std.specs.Prelude.{◌≡◌, refl, true, ◌⊎◌, ℕ, ◌≤◌, ◌<◌}
+use Rattle.std.specs.Prelude.{◌≡◌, refl, true, ◌⊎◌, ℕ, ◌≤◌, ◌<◌, Err, Ok}
 use Rattle.std.proofs.Common.{sym, ap, subst, ◌∙◌, inl, inr, arith}
 use Rattle.laws.specs.Test.{is_true, le_or}
 use Rattle.pool.specs.State.{St}
 use Rattle.pool.specs.Number.{used, free}
-use Rattle.pool.specs.Refuse.{number, shaped, says-shaped, Out, out}
+use Rattle.pool.specs.Refuse.{number, shaped, says-shaped, Out, out, Counted}
 use Rattle.pool.specs.Sound.{soundb}
 use Rattle.pool.specs.declared.Handle.{Handle}
 use Rattle.pool.specs.declared.Refusal.{Refusal}
@@ -32,8 +32,6 @@ use Rattle.theory_map.specs.Pieces.{done_table, takes_table, Area}
 use Rattle.theory_map.specs.Range.{range_works}
 use Rattle.theory_map.specs.Need.{needed_is}
 use Rattle.theory_map.specs.Asked.{asked_allowed, asked_area, asked_early, left_by}
-use Rattle.std.specs.Prelude.{Err, Ok}
-use Rattle.pool.specs.Refuse.{Counted}
 
 -- the state that an accepted call leaves
 abbrev pub state_after : Handle → MapArguments → St → St
@@ -89,7 +87,7 @@ module _ {h : Handle} {c : MapArguments} {s : St} (passed : MapPassed h c s) whe
 
 -- no refusal is an acceptance
 not-tables : {r : Refusal} {s s' : St} {n : ℕ} {x : Out Counted} → refused r s ≡ x → x ≡ out (Ok n) s' → ⊥
-not-tables e q = let p = ap (λ (y : Out Counted). y.answer) (e ∙ q) in let z : ◌≡◌ {A = ℕ} 0 1 = cc in omega arith
+not-tables e q = let p = ap (λ (y : Out Counted). y.answer) (e ∙ q) in cc
 
 module _ {h : Handle} {c : MapArguments} {s : St} (passed : MapPassed h c s) where
   sound_is : soundb h s ≡ true
@@ -146,8 +144,7 @@ module _ (h : Handle) (c : MapArguments) (s : St) {a b : ℕ} {s' : St}
       go : (made_by h c s ≤ free s.ledger) ⊎ (free s.ledger < made_by h c s) → free s.ledger < made_by h c s
       go (inl room) =
           absurd
-          (let p = ap (λ (x : Out Counted). x.answer) (sym is ∙ call-maps full_passed room) in let z : ◌≡◌ {A = ℕ} 0 1 = cc in
-          omega arith)
+          (let p = ap (λ (x : Out Counted). x.answer) (sym is ∙ call-maps full_passed room) in cc)
       go (inr more) = more
 
 -- ---- accepted

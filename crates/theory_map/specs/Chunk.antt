@@ -1,6 +1,6 @@
 -- One chunk of a table of a sound pool: what the rules do on lists is what they do on the tree of its slot, and takes no more tables than
 -- that needs.
-use Rattle.std.specs.Prelude.{◌≡◌, refl, ℕ, suc, ◌+◌, ◌-◌, ◌≤◌, ◌<◌}
+use Rattle.std.specs.Prelude.{◌≡◌, refl, ℕ, suc, ◌+◌, ◌-◌, ◌≤◌, ◌<◌, Some}
 use Rattle.std.proofs.Common.{sym, ap, subst, subst₂, ◌∙◌, arith}
 use Rattle.entry.specs.Sub.{sub_of}
 use Rattle.entry.specs.declared.Sub.TheVariants.{Table}
@@ -33,9 +33,7 @@ use Rattle.theory_map.specs.Rule.{leaf_rule, table-rule}
 use Rattle.theory_map.specs.Stand.{Allowed, Piece, write_stands}
 use Rattle.theory_map.specs.Moves.{StepWithin, WorkedWithin, kept, stored, dropped}
 use Rattle.theory_map.specs.Down.{opens}
-use Rattle.theory_map.specs.Pieces.{done_to, takes, done_table, takes_table, done_keep, done_write, done_down, takes-down, Area}
-use Rattle.theory_map.specs.Pieces.{piece_area}
-use Rattle.std.specs.Prelude.{Some}
+use Rattle.theory_map.specs.Pieces.{done_to, takes, done_table, takes_table, done_keep, done_write, done_down, takes-down, Area, piece_area}
 
 -- what opening a leaf or a table takes
 pub takes-split : (m : Map) (depth w : ℕ) → says_of m (suc depth) (leaf w) ≡ goDown
@@ -191,7 +189,7 @@ module _ {h : Handle} (placed : Placed h) where
       (by_leaf q k m s 0 allowed piece R plain (page_rule m x) (λ r e. absurd (never x r)))
     where
       never : (x : ℕ) → rule_of 3 m x ≡ Down → ⊥
-      never x r = let z : ◌≡◌ {A = ℕ} 0 1 = cc (rule_page 3 m x (omega arith), r) in omega arith
+      never x r = cc (rule_page 3 m x (omega arith), r)
 
   pub chunk_works : (depth : ℕ) → Works depth → ChunkWorks (suc depth)
   chunk_works depth works q k m s allowed piece R room = up_works q k m s depth works allowed piece R room

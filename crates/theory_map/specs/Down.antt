@@ -1,6 +1,6 @@
 -- Rule 5: the way down from a slot of a sound pool's table, "splitting first if there is no table": to the table that is there or to a new
 -- one, and what work done in it does to the slot.
-use Rattle.std.specs.Prelude.{◌≡◌, refl, ℕ, suc, ◌+◌, ◌-◌, ◌≤◌, ◌<◌}
+use Rattle.std.specs.Prelude.{◌≡◌, refl, ℕ, suc, ◌+◌, ◌-◌, ◌≤◌, ◌<◌, Some}
 use Rattle.std.proofs.Common.{sym, ap, subst, ◌∙◌, arith}
 use Rattle.pool.specs.State.{St, word_at}
 use Rattle.pool.specs.Number.{lowest_free, free}
@@ -18,7 +18,6 @@ use Rattle.theory_sound.specs.Slot.{slot_shows, SlotHolds, holds_table, holds_le
 use Rattle.theory_sound.proofs.Slot.{holds}
 use Rattle.theory_tree.specs.Visit.{opened, splits, fill_tree}
 use Rattle.theory_map.specs.Moves.{StepWithin, WorkedWithin, entered, after, taken_ready, taken_shows, split}
-use Rattle.std.specs.Prelude.{Some}
 
 splits_leaf : (depth w : ℕ) → (splits (leaf w) ≡ 1) × (opened depth (leaf w) ≡ fill_tree depth w)
 unfolding splits opened

@@ -1,13 +1,13 @@
 -- DEMANDS 2 AND 3, of the call itself. `map_answer` is the definition that the contract of the public call cites, `walk_of` the Arm walk of
 -- the words; nothing is asked of the pool but that the call is accepted (`Maps`), which it is in a sound pool alone. `Terms` has the words
 -- that are used here.
-use Rattle.std.specs.Prelude.{◌≡◌, List, map, ◌↔◌, ℕ, ◌≤◌, ◌<◌}
+use Rattle.std.specs.Prelude.{◌≡◌, List, map, ◌↔◌, ℕ, ◌≤◌, ◌<◌, Err}
 use Rattle.std.proofs.Common.{sym, ◌∙◌}
 use Rattle.std.proofs.Math.Path.{ap}
 use Rattle.entry.specs.Word.{valid_of}
 use Rattle.pool.specs.State.{St}
 use Rattle.pool.specs.Number.{used, free}
-use Rattle.pool.specs.Refuse.{Out, out}
+use Rattle.pool.specs.Refuse.{Out, out, Counted}
 use Rattle.pool.specs.declared.Handle.{Handle}
 use Rattle.pool.specs.declared.Refusal.TheVariants.{WantOfRoom}
 use Rattle.map_verify.specs.Verify.{asked_map}
@@ -16,14 +16,10 @@ use Rattle.theory_sound.specs.Codec.{root_tree}
 use Rattle.theory_walk.specs.AsBefore.{walk_of}
 use Rattle.theory_tree.specs.Order.{Each, made_all}
 use Rattle.theory_tree.proofs.Demands.{valid_map_frees_none}
-use Rattle.theory_map.specs.Terms.{MapArguments, map_answer, Maps, Asks, ShapedSound, MapPassed}
+use Rattle.theory_map.specs.Terms.{MapArguments, map_answer, Maps, Asks, ShapedSound, MapPassed, made_by, freed_by}
 use Rattle.theory_map.specs.Terms.{Valid, InTurn, depth_of, root_in, map_pages_of}
-use Rattle.theory_map.specs.Terms.{made_by, freed_by}
-use Rattle.theory_map.specs.Call.{state_after, call_full, call-maps, full_passed, full_more, call_passed}
-use Rattle.theory_map.specs.Call.{call_room, call-leaves}
+use Rattle.theory_map.specs.Call.{state_after, call_full, call-maps, full_passed, full_more, call_passed, call_room, call-leaves}
 use Rattle.theory_map.specs.Order.{turn_enough}
-use Rattle.std.specs.Prelude.{Err}
-use Rattle.pool.specs.Refuse.{Counted}
 
 -- ---- DEMAND 2
 

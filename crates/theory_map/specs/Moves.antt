@@ -1,5 +1,5 @@
 -- What a rule does to a slot of a sound pool, as a move with its count: how many tables fewer may be free after it.
-use Rattle.std.specs.Prelude.{◌≡◌, List, ℕ, suc, ◌+◌, ◌-◌, ◌≤◌, ◌<◌, get_or}
+use Rattle.std.specs.Prelude.{◌≡◌, List, ℕ, suc, ◌+◌, ◌-◌, ◌≤◌, ◌<◌, get_or, Some}
 use Rattle.std.proofs.Common.{sym, subst, ◌∙◌, arith}
 use Rattle.std.proofs.Math.Bridge.{le_prop}
 use Rattle.std.proofs.Math.Nat.{ℕ_set}
@@ -30,7 +30,6 @@ use Rattle.theory_tree.specs.Visit.{fill_tree}
 use Rattle.theory_map.specs.Leaf.{leaf_fine, leaf_from}
 use Rattle.theory_map.specs.Rule.{fill_length, fill_at, fill_tree_lem}
 use Rattle.theory_map.specs.Stand.{fill_stands}
-use Rattle.std.specs.Prelude.{Some}
 
 -- what refusal 1 asks of a handle is one fact
 pub placed_one : {h : Handle} (a b : Placed h) → a ≡ b

@@ -7,7 +7,6 @@ use mathlib.Core.List.{List, [], ◌∷◌}
 use Prim.Native.Nat.{ℕ, zero, suc, ◌+◌, ◌-◌, ◌/◌, ◌^◌, ◌≤◌, ◌<◌}
 use Rattle.laws.specs.Test.{eq_or, le_or}
 use Rattle.address_slot.specs.Slot.{entry_index, chunk_end}
-use Rattle.region.specs.Region.{region}
 use Rattle.region.specs.Chunks.{met, met-step, chunks, chunks_none, chunks-step}
 use Rattle.region.specs.declared.MemoryRegion.{MemoryRegion}
 use Rattle.map_rules.specs.declared.Map.{Map}

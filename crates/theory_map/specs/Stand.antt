@@ -55,7 +55,7 @@ module _ (m : Map) (flags : Plain m.flags) where
   unfolding document_rule
   says_plain zero x (leaf w) low paged small e =
       let same : leaf_word 3 m.frame.0 m.flags ≡ x = cc in ap plain_flags (sym same) ∙ written_plain 0 m.frame.0 low paged small
-  says_plain zero x (node f) low paged small e = let z : ◌≡◌ {A = ℕ} 0 1 = cc in absurd (omega arith)
+  says_plain zero x (node f) low paged small e = cc
   says_plain (suc depth) x (leaf w) low paged small e =
       let level : ℕ = 3 - suc depth in
       either (already level m.region m.frame.0 m.flags w)
@@ -63,16 +63,16 @@ module _ (m : Map) (flags : Plain m.flags) where
     where
       either : (a b : Bool) → cond a keep (cond b (write (leaf_word (3 - suc depth) m.frame.0 m.flags)) goDown) ≡ write x
           → plain_flags x ≡ m.flags
-      either true b e = let z : ◌≡◌ {A = ℕ} 0 1 = cc in absurd (omega arith)
+      either true b e = cc
       either false true e =
           let same : leaf_word (3 - suc depth) m.frame.0 m.flags ≡ x = cc in
           ap plain_flags (sym same) ∙ written_plain (suc depth) m.frame.0 low paged small
-      either false false e = let z : ◌≡◌ {A = ℕ} 0 1 = cc in absurd (omega arith)
+      either false false e = cc
   says_plain (suc depth) x (node f) low paged small e = either (whole (3 - suc depth) m.region && not (valid m.flags)) e
     where
       either : (a : Bool) → cond a (write m.flags) goDown ≡ write x → plain_flags x ≡ m.flags
       either true e = let same : m.flags ≡ x = cc in ap plain_flags (sym same) ∙ flags_shown m.flags flags
-      either false e = let z : ◌≡◌ {A = ℕ} 0 1 = cc in absurd (omega arith)
+      either false e = cc
 
 -- what a rule writes may stand where it is written
 pub write_stands : (h : Handle) (depth q level x : ℕ) (m : Map) (t : Tree) → Allowed h m.flags → Piece depth q m → level + depth ≡ 3

@@ -1,11 +1,11 @@
 -- The words in which the demands on the call are said: the call and its answer, its region, the root's span, the tables that a map makes
 -- and frees. Definitions alone.
-use Rattle.std.specs.Prelude.{◌≡◌, true, List, [], ◌∷◌, ℕ, ◌+◌, ◌-◌, ◌%◌, ◌^◌, ◌<◌}
+use Rattle.std.specs.Prelude.{◌≡◌, true, List, [], ◌∷◌, ℕ, ◌+◌, ◌-◌, ◌%◌, ◌^◌, ◌<◌, Ok}
 use Rattle.laws.specs.Size.{down}
 use Rattle.region.specs.Region.{rounded}
 use Rattle.region.specs.Chunks.{Holds}
 use Rattle.pool.specs.State.{St}
-use Rattle.pool.specs.Refuse.{Shaped, Out, out, granted}
+use Rattle.pool.specs.Refuse.{Shaped, Out, out, granted, Counted}
 use Rattle.pool.specs.declared.Handle.{Handle}
 use Rattle.pool.specs.declared.VaRange.{VaRange}
 use Rattle.pool.specs.declared.VaRange.TheVariants.{Lower, Upper}
@@ -19,8 +19,6 @@ use Rattle.look_up.specs.Call.{spanned}
 use Rattle.theory_tree.specs.Rules.{Map as TreeMap}
 use Rattle.theory_tree.specs.Chunks.{in_pages}
 use Rattle.theory_tree.specs.Root.{lower_root, upper_root, map_tree, map_made, map_freed}
-use Rattle.std.specs.Prelude.{Ok}
-use Rattle.pool.specs.Refuse.{Counted}
 
 -- ---- the call
 

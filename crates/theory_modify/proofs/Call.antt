@@ -1,13 +1,13 @@
 -- Theorems about the definitions of specs/Call.
-use Rattle.std.specs.Prelude.{◌≡◌, Bool, List, ◌++◌, ◌⊎◌, ℕ, suc, ◌/◌, ◌%◌, ◌^◌, ◌≤◌, ◌<◌, length, drop}
+use Rattle.std.specs.Prelude.{◌≡◌, Bool, List, ◌++◌, ◌⊎◌, ℕ, suc, ◌/◌, ◌%◌, ◌^◌, ◌≤◌, ◌<◌, length, drop, Err, None, Some}
 use Rattle.std.proofs.Math.Path.{refl, sym}
 use Rattle.std.proofs.Common.{ap, subst, ◌∙◌, true≢false, inl, inr, arith, lit≤}
 use Rattle.std.proofs.Math.Bool.{true, false}
-use Rattle.laws.specs.Test.{by_bool, is_true, le_or}
+use Rattle.laws.specs.Test.{is_true, le_or}
 use Rattle.region.specs.Region.{rounded}
 use Rattle.pool.specs.State.{St}
 use Rattle.pool.specs.Number.{used, free}
-use Rattle.pool.specs.Refuse.{number, shaped, says-shaped, granted}
+use Rattle.pool.specs.Refuse.{number, shaped, says-shaped, granted, Outcome}
 use Rattle.pool.specs.Sound.{soundb}
 use Rattle.pool.specs.declared.Handle.{Handle}
 use Rattle.pool.specs.declared.Refusal.{Refusal}
@@ -15,13 +15,9 @@ use Rattle.pool.specs.declared.Refusal.TheVariants.{WantOfRoom, HouseRule, Short
 use Rattle.modify_entry.specs.declared.Edit.{Edit}
 use Rattle.modify_entry.specs.Own.{Numbered, numbered}
 use Rattle.modify_range.specs.Range.{Work, work}
-use Rattle.modify.specs.declared.Modified.{Modified}
-use Rattle.modify.specs.declared.Modified.TheVariants as modified
-use Rattle.modify_verify.specs.Verify.{asked_edit, verify_survey, survey_full, survey_off, survey_broken, survey_short}
-use Rattle.modify_verify.specs.Verify.{survey_accepted}
-use Rattle.modify.specs.Call.{Modifying, modifying, refused, answer_of, edit_tables, modify_sound, sound_not, sound_refused, sound_edited}
-use Rattle.modify.specs.Call.{call_misshaped, call-refused, call-asked}
-use Rattle.modify.specs.Call.{nothing}
+use Rattle.modify_verify.specs.Verify.{asked_edit, verify_survey, survey_full, survey_off, survey_broken, survey_short, survey_accepted}
+use Rattle.modify.specs.Call.{ModifyAnswer, Modifying, modifying, refused, answer_of, edit_tables, modify_sound, sound_not, sound_refused, sound_edited}
+use Rattle.modify.specs.Call.{call_misshaped, call-refused, call-asked, nothing}
 use Rattle.theory_forest.specs.Tree.{Tree}
 use Rattle.theory_sound.specs.Codec.{shaped_placed, root_tree}
 use Rattle.theory_sound.proofs.Decide.{sound_decide}
@@ -44,6 +40,7 @@ use Rattle.theory_modify.specs.Word.{Bits}
 use Rattle.theory_modify.specs.Pass.{area_of, TableEdited}
 use Rattle.theory_modify.specs.Range.{edit_table, edit_takes}
 use Rattle.theory_modify.proofs.Range.{range_edits}
+use Rattle.theory_modify.specs.Found.{by_broken}
 use Rattle.theory_modify.specs.Splits.{survey_splits}
 use Rattle.theory_modify.specs.Notes.{put_all, put_off, put_live}
 use Rattle.theory_modify.proofs.Counted.{survey_numbers}
@@ -52,8 +49,6 @@ use Rattle.theory_modify.specs.Listed.{changes}
 use Rattle.theory_modify.proofs.Listed.{region_tells}
 use Rattle.theory_modify.specs.Asked.{asked-bits, asked_area, asked_forwards, asked_early}
 use Rattle.theory_modify.specs.Call.{work_after, Clear, Judged, is_full, is_broken, is_short, is_clear}
-use Rattle.std.specs.Prelude.{Err}
-use Rattle.pool.specs.Refuse.{Outcome}
 
 module _ {h : Handle} {c : ModifyArguments} {s : St} (passed : ModifyPassed h c s) where
   abbrev e : Edit
@@ -95,7 +90,7 @@ module _ {h : Handle} {c : ModifyArguments} {s : St} (passed : ModifyPassed h c 
       omega (arith, takes-made)
 
   -- REFUSAL 11'S COUNT IS THE TREE'S, where the house rule is kept
-  pub numbers-made : (surveyed h c s).broken ≡ false → (surveyed h c s).numbers ≡ length (numbers_of h c s)
+  pub numbers-made : (surveyed h c s).broken ≡ None → (surveyed h c s).numbers ≡ length (numbers_of h c s)
   numbers-made kept =
       let a = survey_numbers (shaped_placed passed.shape) (depth_of h) (omega arith) (root_in h) 0 0 e s nothing area ready kept in
       omega (arith, a.numbers)
@@ -147,10 +142,9 @@ verdict h c s list = verify_survey (free s.ledger) (length list) c.live (surveye
 -- no refusal is an acceptance
 not-accepted : {r : Refusal} (live : Bool) (n k : ℕ) → Err r ≡ modify_accepted live n k → ⊥
 unfolding modify_accepted
-not-accepted true n k q = let z : ◌≡◌ {A = ℕ} 0 1 = cc in omega arith
-not-accepted false n k q = let z : ◌≡◌ {A = ℕ} 0 1 = cc in omega arith
+not-accepted live n k q = cc
 
-answer_of_lem : {r : Refusal} {s s' : St} {list list' : List ℕ} {y : Modified} → refused r s list ≡ modifying y s' list'
+answer_of_lem : {r : Refusal} {s s' : St} {list list' : List ℕ} {y : ModifyAnswer} → refused r s list ≡ modifying y s' list'
     → Err r ≡ y
 answer_of_lem e = ap (λ (x : Modifying). x.answer) e
 
@@ -201,15 +195,15 @@ module _ {h : Handle} {c : ModifyArguments} {s : St} (passed : ModifyPassed h c 
       go false q = sym (survey_off (free s.ledger) (length list) c.live (surveyed h c s) room q)
 
   -- refusal 10
-  pub call_broken : made_by_modify h c s ≤ free s.ledger → c.live ≡ true → (surveyed h c s).broken ≡ true
-      → modify_answer h c s list ≡ refused (HouseRule (surveyed h c s).word) s list
-  call_broken room on broken =
+  pub call_broken : made_by_modify h c s ≤ free s.ledger → c.live ≡ true → (w : ℕ) → (surveyed h c s).broken ≡ Some w
+      → modify_answer h c s list ≡ refused (HouseRule w) s list
+  call_broken room on word broken =
       let m = splits-made passed in
-      call_stopped (HouseRule (surveyed h c s).word)
+      call_stopped (HouseRule word)
       (sym (survey_broken (free s.ledger) (length list) c.live (surveyed h c s) (omega arith) on broken))
 
   -- refusal 11
-  pub call_short : made_by_modify h c s ≤ free s.ledger → c.live ≡ true → (surveyed h c s).broken ≡ false
+  pub call_short : made_by_modify h c s ≤ free s.ledger → c.live ≡ true → (surveyed h c s).broken ≡ None
       → length list < length (numbers_of h c s)
       → modify_answer h c s list ≡ refused (Short (length (numbers_of h c s))) s list
   call_short room on kept short =
@@ -223,14 +217,14 @@ module _ {h : Handle} {c : ModifyArguments} {s : St} (passed : ModifyPassed h c 
   judged : Judged h c s list
   judged = go (le_or (made_by_modify h c s) (free s.ledger))
     where
-      long : (surveyed h c s).broken ≡ false → (length (numbers_of h c s) ≤ length list) ⊎ (length list < length (numbers_of h c s))
+      long : (surveyed h c s).broken ≡ None → (length (numbers_of h c s) ≤ length list) ⊎ (length list < length (numbers_of h c s))
           → made_by_modify h c s ≤ free s.ledger
           → c.live ≡ true → Judged h c s list
       long kept (inl enough) room on = is_clear (record { room = room; kept = λ q. kept; enough = λ q. enough })
       long kept (inr short) room on = is_short room on kept short
 
       live : made_by_modify h c s ≤ free s.ledger → (b : Bool) → c.live ≡ b → Judged h c s list
-      live room true on = by_bool (surveyed h c s).broken (λ broken. is_broken room on broken)
+      live room true on = by_broken (surveyed h c s).broken (λ word broken. is_broken room on word broken)
           (λ kept. long kept (le_or (length (numbers_of h c s)) (length list)) room on)
       live room false off =
           is_clear
@@ -285,29 +279,32 @@ module _ (h : Handle) (c : ModifyArguments) (s : St) (list : List ℕ) {s' : St}
 
       go : Judged h c s list → free s.ledger < made_by_modify h c s
       go (is_full full) = full
-      go (is_broken room on broken) =
-          absurd (let e = ap number (refused_is h c s list is (call_broken passed list room on broken)) in omega arith)
+      go (is_broken room on word broken) =
+          absurd (let e = ap number (refused_is h c s list is (call_broken passed list room on word broken)) in omega arith)
       go (is_short room on kept short) =
           absurd (let e = ap number (refused_is h c s list is (call_short passed list room on kept short)) in omega arith)
       go (is_clear fits) = absurd (refused-not h c s list is passed fits)
 
   pub broken_back : {w : ℕ} → modify_answer h c s list ≡ modifying (Err (HouseRule w)) s' list'
-      → ModifyPassed h c s × (made_by_modify h c s ≤ free s.ledger) × (c.live ≡ true) × ((surveyed h c s).broken ≡ true)
+      → ModifyPassed h c s × (made_by_modify h c s ≤ free s.ledger) × (c.live ≡ true) × ((surveyed h c s).broken ≡ Some w)
   broken_back {w} is = go (judged passed list)
     where
       passed : ModifyPassed h c s
       passed = refused_passed h c s list is (lit≤ tt)
 
       go : Judged h c s list
-          → ModifyPassed h c s × (made_by_modify h c s ≤ free s.ledger) × (c.live ≡ true) × ((surveyed h c s).broken ≡ true)
+          → ModifyPassed h c s × (made_by_modify h c s ≤ free s.ledger) × (c.live ≡ true) × ((surveyed h c s).broken ≡ Some w)
       go (is_full full) = absurd (let e = ap number (refused_is h c s list is (call_full passed list full)) in omega arith)
-      go (is_broken room on broken) = (passed, room, on, broken)
+      go (is_broken room on word broken) =
+          let same = refused_is h c s list is (call_broken passed list room on word broken) in
+          let found : word ≡ w = cc in
+          (passed, room, on, broken ∙ ap Some found)
       go (is_short room on kept short) =
           absurd (let e = ap number (refused_is h c s list is (call_short passed list room on kept short)) in omega arith)
       go (is_clear fits) = absurd (refused-not h c s list is passed fits)
 
   pub short_back : {n : ℕ} → modify_answer h c s list ≡ modifying (Err (Short n)) s' list'
-      → ModifyPassed h c s × (made_by_modify h c s ≤ free s.ledger) × (c.live ≡ true) × ((surveyed h c s).broken ≡ false)
+      → ModifyPassed h c s × (made_by_modify h c s ≤ free s.ledger) × (c.live ≡ true) × ((surveyed h c s).broken ≡ None)
       × (length list < length (numbers_of h c s))
   short_back {n} is = go (judged passed list)
     where
@@ -315,11 +312,11 @@ module _ (h : Handle) (c : ModifyArguments) (s : St) (list : List ℕ) {s' : St}
       passed = refused_passed h c s list is (lit≤ tt)
 
       go : Judged h c s list
-          → ModifyPassed h c s × (made_by_modify h c s ≤ free s.ledger) × (c.live ≡ true) × ((surveyed h c s).broken ≡ false)
+          → ModifyPassed h c s × (made_by_modify h c s ≤ free s.ledger) × (c.live ≡ true) × ((surveyed h c s).broken ≡ None)
           × (length list < length (numbers_of h c s))
       go (is_full full) = absurd (let e = ap number (refused_is h c s list is (call_full passed list full)) in omega arith)
-      go (is_broken room on broken) =
-          absurd (let e = ap number (refused_is h c s list is (call_broken passed list room on broken)) in omega arith)
+      go (is_broken room on word broken) =
+          absurd (let e = ap number (refused_is h c s list is (call_broken passed list room on word broken)) in omega arith)
       go (is_short room on kept short) = (passed, room, on, kept, short)
       go (is_clear fits) = absurd (refused-not h c s list is passed fits)
 
@@ -337,7 +334,7 @@ module _ {h : Handle} {c : ModifyArguments} {s s' : St} {list list' : List ℕ} 
 
       go : Judged h c s list → Clear h c s list
       go (is_full full) = absurd (never (call_full call_passed list full))
-      go (is_broken room on broken) = absurd (never (call_broken call_passed list room on broken))
+      go (is_broken room on word broken) = absurd (never (call_broken call_passed list room on word broken))
       go (is_short room on kept short) = absurd (never (call_short call_passed list room on kept short))
       go (is_clear fits) = fits
 

@@ -1,7 +1,7 @@
 -- Theorems about the definitions of specs/Counted.
-use Rattle.std.specs.Prelude.{◌≡◌, refl, true, ◌⊎◌, ◌≢◌, length}
+use Rattle.std.specs.Prelude.{◌≡◌, refl, true, ◌⊎◌, ◌≢◌, length, None}
 use Rattle.std.proofs.Math.Path.{sym, ap, ap₂, subst}
-use Rattle.std.proofs.Common.{◌∙◌, true≢false, inl, inr, eq-eqb, ne_eqb}
+use Rattle.std.proofs.Common.{◌∙◌, inl, inr, eq-eqb, ne_eqb}
 use Rattle.std.proofs.Math.Bool.{false}
 use mathlib.Core.List.{List, [], ◌∷◌, ◌++◌, append-nil}
 use Prim.Native.Nat.{ℕ, zero, suc, ◌+◌, ◌-◌, ◌≤◌}
@@ -25,9 +25,8 @@ use Rattle.modify_entry.specs.declared.Edit.{Edit}
 use Rattle.modify_entry.specs.Word.{chunk_edit, edit_word}
 use Rattle.modify_survey.specs.declared.Survey.{Survey}
 use Rattle.modify_survey.specs.House.{may_change}
-use Rattle.modify_survey.specs.Survey.{splits_in, breach, if_block, survey_part}
+use Rattle.modify_survey.specs.Survey.{splits_in, breach, if_block, survey_part, entry_part}
 use Rattle.modify_survey.specs.Survey.{survey_whole, survey_entry, survey_chunk, survey_range, entry_whole}
-use Rattle.modify_survey.specs.Survey.{entry_part}
 use Rattle.theory_forest.specs.Tree.{Tree, leaf, node}
 use Rattle.theory_sound.specs.Codec.{Placed, tree_from}
 use Rattle.theory_sound.specs.Step.{Ready}
@@ -47,10 +46,10 @@ use Rattle.theory_modify.specs.Word.{hole_stays, valid-edited}
 use Rattle.theory_modify.specs.Pass.{area_of}
 use Rattle.theory_modify.specs.Entry.{survey_page, survey_slot}
 use Rattle.theory_modify.specs.Numbers.{gathered, changed_number, own_numbers, lower_numbers, table_numbers}
-use Rattle.theory_modify.specs.Gathered.{number-changed, number_same, number_hole, own_on, own_here, lower-own}
-use Rattle.theory_modify.specs.Gathered.{lower_on, leaf_page}
+use Rattle.theory_modify.specs.Gathered.{number-changed, number_same, number_hole, own_on, own_here, lower-own, lower_on, leaf_page}
 use Rattle.theory_modify.specs.Gathered.{gathered_both, gathered_none}
 use Rattle.theory_modify.specs.Counted.{AddsNumbers, valid_block, page_whole}
+use Rattle.theory_modify.specs.Found.{by_broken}
 
 -- ---- a split of a hole lists nothing
 
@@ -90,16 +89,16 @@ module _ (set clear : ℕ) where
       (λ e. own_here set clear depth d (leaf x) e ∙ number_hole set clear d x (fill_hole (suc depth) w i low v))
       (λ e. own_on set clear depth d (leaf x) e)))
 
-breach_broken : (w : ℕ) (v : Survey) → (breach w v).broken ≡ true
+breach_broken : (w : ℕ) (v : Survey) → ¬ ((breach w v).broken ≡ None)
 unfolding breach
-breach_broken w v = by_bool v.broken (λ e. rw e) (λ e. rw e)
+breach_broken w v none = by_broken v.broken (λ old e. cc (rw e at none)) (λ e. cc (rw e at none))
 
 module _ (depth q : ℕ) (m : Map) (f : MemoryRegion → Survey → Survey) (numbers : MemoryRegion → Tree → List ℕ) (t : Tree) where
   abbrev EachAdds : Type 0
-  EachAdds = (c : MemoryRegion) (p : ℕ) (v : Survey) → Piece depth (child q (slot_at depth c)) (chunk_map m c p) → (f c v).broken ≡ false
+  EachAdds = (c : MemoryRegion) (p : ℕ) (v : Survey) → Piece depth (child q (slot_at depth c)) (chunk_map m c p) → (f c v).broken ≡ None
       → AddsNumbers v (f c v) (length (numbers c (slot_tree t (entry_index (3 - depth) c.start.0))))
 
-  fold_adds : EachAdds → (cs : List MemoryRegion) (a p : ℕ) (v : Survey) → Pieces depth q m a p cs → (each_of f cs v).broken ≡ false
+  fold_adds : EachAdds → (cs : List MemoryRegion) (a p : ℕ) (v : Survey) → Pieces depth q m a p cs → (each_of f cs v).broken ≡ None
       → AddsNumbers v (each_of f cs v) (length (gathered depth numbers cs t))
   unfolding each_of gathered
   fold_adds each [] a p v all ok = record { kept = ok; numbers = omega arith }
@@ -113,7 +112,7 @@ module _ (depth q : ℕ) (m : Map) (f : MemoryRegion → Survey → Survey) (num
       }
 
   chunks-add : EachAdds → (r : MemoryRegion) (p : ℕ) (v : Survey) → Pieces depth q m 0 p (chunks (3 - depth) r.start.0 r.end.0)
-      → (each_chunk (3 - depth) f r v).broken ≡ false
+      → (each_chunk (3 - depth) f r v).broken ≡ None
       → AddsNumbers v (each_chunk (3 - depth) f r v) (length (gathered depth numbers (chunks (3 - depth) r.start.0 r.end.0) t))
   unfolding each_chunk
   chunks-add each r p v all ok = fold_adds each (chunks (3 - depth) r.start.0 r.end.0) 0 p v all ok
@@ -121,7 +120,7 @@ module _ (depth q : ℕ) (m : Map) (f : MemoryRegion → Survey → Survey) (num
 -- ---- a whole entry
 
 module _ (h : Handle) (level : ℕ) (e : Edit) (w : ℕ) (v : Survey) where
-  whole_kept : edit_word level e w ≡ w → (survey_whole h level e w v).broken ≡ false → AddsNumbers v (survey_whole h level e w v) 0
+  whole_kept : edit_word level e w ≡ w → (survey_whole h level e w v).broken ≡ None → AddsNumbers v (survey_whole h level e w v) 0
   unfolding survey_whole
   whole_kept same ok =
       let is : survey_whole h level e w v ≡ v = rw (eq-eqb (edit_word level e w) w same) in
@@ -131,9 +130,9 @@ module _ (h : Handle) (level : ℕ) (e : Edit) (w : ℕ) (v : Survey) where
       }
 
   abbrev more : Survey
-  more = record { splits = v.splits; numbers = v.numbers + 1; broken = v.broken; word = v.word }
+  more = record { splits = v.splits; numbers = v.numbers + 1; broken = v.broken }
 
-  whole-one : edit_word level e w ≢ w → (survey_whole h level e w v).broken ≡ false → AddsNumbers v (survey_whole h level e w v) 1
+  whole-one : edit_word level e w ≢ w → (survey_whole h level e w v).broken ≡ None → AddsNumbers v (survey_whole h level e w v) 1
   unfolding survey_whole
   whole-one other ok = by_bool (may_change h w (edit_word level e w))
       (λ may.
@@ -141,26 +140,26 @@ module _ (h : Handle) (level : ℕ) (e : Edit) (w : ℕ) (v : Survey) where
       record { kept = sym (ap (λ (x : Survey). x.broken) is) ∙ ok; numbers = ap (λ (x : Survey). x.numbers) is })
       (λ not.
       let is : survey_whole h level e w v ≡ breach w more = rw (ne_eqb (edit_word level e w) w other, not) in
-      absurd (true≢false (sym (ap (λ (x : Survey). x.broken) is ∙ breach_broken w more) ∙ ok)))
+      absurd (breach_broken w more (sym (ap (λ (x : Survey). x.broken) is) ∙ ok)))
 
 -- ---- a part of an entry
 
 module _ (level : ℕ) (c : MemoryRegion) (w : ℕ) (v : Survey) where
   abbrev split : Survey
-  split = record { splits = v.splits + splits_in (3 - level) c; numbers = v.numbers; broken = v.broken; word = v.word }
+  split = record { splits = v.splits + splits_in (3 - level) c; numbers = v.numbers; broken = v.broken }
 
-  part_block : kind_of level w ≡ Block → (survey_part level c w v).broken ≡ true
+  part_block : kind_of level w ≡ Block → ¬ ((survey_part level c w v).broken ≡ None)
   unfolding survey_part if_block
-  part_block k = rw k (breach_broken w split)
+  part_block k none = breach_broken w split (rw k at none)
 
-  kinds : (k : Kind) → (if_block k (breach w split) split).broken ≡ false → AddsNumbers v (if_block k (breach w split) split) 0
+  kinds : (k : Kind) → (if_block k (breach w split) split).broken ≡ None → AddsNumbers v (if_block k (breach w split) split) 0
   unfolding if_block
   kinds table ok = record { kept = ok; numbers = omega arith }
-  kinds Block ok = absurd (true≢false (sym (breach_broken w split) ∙ ok))
+  kinds Block ok = absurd (breach_broken w split ok)
   kinds Page ok = record { kept = ok; numbers = omega arith }
   kinds Hole ok = record { kept = ok; numbers = omega arith }
 
-  part_adds : (survey_part level c w v).broken ≡ false → AddsNumbers v (survey_part level c w v) 0
+  part_adds : (survey_part level c w v).broken ≡ None → AddsNumbers v (survey_part level c w v) 0
   unfolding survey_part
   part_adds ok = kinds (kind_of level w) ok
 
@@ -168,7 +167,7 @@ module _ (level : ℕ) (c : MemoryRegion) (w : ℕ) (v : Survey) where
 
 module _ (h : Handle) (e : Edit) (c : MemoryRegion) (w : ℕ) (v : Survey) where
   -- an entry's number is listed if its word changes
-  changed_adds : (depth : ℕ) → depth ≤ 3 → Fine depth w → (survey_whole h (3 - depth) (chunk_edit e c) w v).broken ≡ false
+  changed_adds : (depth : ℕ) → depth ≤ 3 → Fine depth w → (survey_whole h (3 - depth) (chunk_edit e c) w v).broken ≡ None
       → AddsNumbers v (survey_whole h (3 - depth) (chunk_edit e c) w v) (length (changed_number e.set e.clear c w))
   changed_adds depth low fine ok =
       by_bool (valid w) (λ y. go y (valid-edited (chunk_edit e c) w depth low fine y) (eq_or (edit_word (3 - depth) (chunk_edit e c) w) w))
@@ -189,7 +188,7 @@ module _ (h : Handle) (e : Edit) (c : MemoryRegion) (w : ℕ) (v : Survey) where
           (sym (number-changed e.set e.clear c w y (λ q. other (is ∙ q))))
           (whole-one h (3 - depth) (chunk_edit e c) w v other ok)
 
-  page_adds : Fine 0 w → whole 3 c ≡ true → (survey_entry h 3 (chunk_edit e c) w v).broken ≡ false
+  page_adds : Fine 0 w → whole 3 c ≡ true → (survey_entry h 3 (chunk_edit e c) w v).broken ≡ None
       → AddsNumbers v (survey_entry h 3 (chunk_edit e c) w v) (length (own_numbers e.set e.clear 0 c (leaf w)))
   page_adds fine all ok =
       let is = entry_whole h 3 (chunk_edit e c) w v all in
@@ -204,7 +203,7 @@ module _ (h : Handle) (e : Edit) (c : MemoryRegion) (w : ℕ) (v : Survey) where
     abbrev entry_numbers : Tree → List ℕ
     entry_numbers u = lower_numbers e.set e.clear rec depth c u ++ own_numbers e.set e.clear (suc depth) c u
 
-    leaf_adds : (survey_entry h (3 - suc depth) (chunk_edit e c) w v).broken ≡ false
+    leaf_adds : (survey_entry h (3 - suc depth) (chunk_edit e c) w v).broken ≡ None
         → AddsNumbers v (survey_entry h (3 - suc depth) (chunk_edit e c) w v) (length (entry_numbers (leaf w)))
     leaf_adds ok = by_bool (whole (3 - suc depth) c) all part
       where
@@ -226,10 +225,10 @@ module _ (h : Handle) (e : Edit) (c : MemoryRegion) (w : ℕ) (v : Survey) where
             → AddsNumbers v (survey_entry h (3 - suc depth) (chunk_edit e c) w v) (length (entry_numbers (leaf w)))
         part a =
             let is = entry_part h level (chunk_edit e c) w v a in
-            let kept : (survey_part level c w v).broken ≡ false = ap (λ (x : Survey). x.broken) is ∙ ok in
+            let kept : (survey_part level c w v).broken ≡ None = ap (λ (x : Survey). x.broken) is ∙ ok in
             let hole : valid w ≡ false =
             by_bool {A = valid w ≡ false} (valid w)
-            (λ y. absurd (true≢false (sym (part_block level c w v (valid_block depth w low fine y)) ∙ kept)))
+            (λ y. absurd (part_block level c w v (valid_block depth w low fine y) kept))
             (λ n. n) in
             subst (λ (xs : List ℕ). AddsNumbers v (survey_entry h level (chunk_edit e c) w v) (length xs))
             (sym (ap₂ (λ (x y : List ℕ). x ++ y)
@@ -242,21 +241,21 @@ module _ {h : Handle} (placed : Placed h) where
   abbrev Counts : ℕ → Type 0
   Counts depth =
       (q k p : ℕ) (e : Edit) (s : St) (v : Survey) → Area depth q (area_of e p) → Ready h s depth k
-      → (survey_range depth h s k e v).broken ≡ false
+      → (survey_range depth h s k e v).broken ≡ None
       → AddsNumbers v (survey_range depth h s k e v) (length (table_numbers e.set e.clear depth e.region (tree_from h s depth k)))
 
   chunk_adds : (depth q k : ℕ) (e : Edit) (s : St) → Ready h s (suc depth) k → Counts depth → (c : MemoryRegion) (p : ℕ) (v : Survey)
       → Piece (suc depth) q (area_of (chunk_edit e c) p)
       → let i = entry_index (3 - suc depth) c.start.0 in
       let x = survey_chunk (λ j n y. survey_range depth h s j n y) h s k (3 - suc depth) e c v in
-      x.broken ≡ false
+      x.broken ≡ None
       → AddsNumbers v x
       (length
       (lower_numbers e.set e.clear (λ d u. table_numbers e.set e.clear depth d u) depth c (slot_shows h s (suc depth) k i)
       ++ own_numbers e.set e.clear (suc depth) c (slot_shows h s (suc depth) k i)))
   chunk_adds depth q k e s R counts c p v piece ok =
       survey_slot placed (λ j n y. survey_range depth h s j n y) s k e c v
-      (λ (x : Survey) (u : Tree). x.broken ≡ false → AddsNumbers v x (length (numbers u))) depth R
+      (λ (x : Survey) (u : Tree). x.broken ≡ None → AddsNumbers v x (length (numbers u))) depth R
       (λ w fine kept. leaf_adds h e c w v depth (omega (arith, R.low)) fine kept)
       (λ j f ready tree kept. subst (λ (xs : List ℕ). AddsNumbers v (survey_range depth h s j (chunk_edit e c) v) (length xs))
       (sym
@@ -281,14 +280,14 @@ module _ {h : Handle} (placed : Placed h) where
       (λ c y x piece kept. page c y x piece kept) e.region p v (pieces 0 q (area_of e p) low p e.region area) ok
     where
       page : (c : MemoryRegion) (y : ℕ) (x : Survey) → Piece 0 (child q (slot_at 0 c)) (chunk_map (area_of e p) c y)
-          → (survey_chunk (λ j n z. z) h s k 3 e c x).broken ≡ false
+          → (survey_chunk (λ j n z. z) h s k 3 e c x).broken ≡ None
           → AddsNumbers x (survey_chunk (λ j n z. z) h s k 3 e c x)
           (length (own_numbers e.set e.clear 0 c (slot_tree (tree_from h s 0 k) (entry_index 3 c.start.0))))
       page c y x piece kept =
           subst (λ (u : Tree). AddsNumbers x (survey_chunk (λ j n z. z) h s k 3 e c x) (length (own_numbers e.set e.clear 0 c u)))
           (sym (slot_of_lem h s 0 k (entry_index 3 c.start.0)))
           (survey_page placed (λ j n z. z) s k e c x
-          (λ (z : Survey) (u : Tree). z.broken ≡ false → AddsNumbers x z (length (own_numbers e.set e.clear 0 c u))) R
+          (λ (z : Survey) (u : Tree). z.broken ≡ None → AddsNumbers x z (length (own_numbers e.set e.clear 0 c u))) R
           (λ w fine. page_adds h e c w x fine (page_whole (child q (slot_at 0 c)) (chunk_map (area_of e p) c y) piece)) kept)
   survey_numbers (suc depth) low q k p e s v area R ok =
       let t : Tree = tree_from h s (suc depth) k in

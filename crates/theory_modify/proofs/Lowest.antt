@@ -1,6 +1,6 @@
 -- Refusal 10 by the Arm walk: a survey is broken exactly by the lowest address of the region where the call breaks the house rule, and
 -- carries the word that stands there; and an accepted live call keeps the rule.
-use Rattle.std.specs.Prelude.{◌≡◌, true, false, List, ◌⊎◌, ◌↔◌}
+use Rattle.std.specs.Prelude.{◌≡◌, true, false, List, ◌⊎◌, ◌↔◌, None, Some}
 use Rattle.std.proofs.Math.Path.{refl, sym, ap}
 use Rattle.std.proofs.Common.{ap₂, subst, ◌∙◌, inl, inr}
 use Prim.Native.Nat.{ℕ, suc, ◌+◌, ◌*◌, ◌-◌, ◌/◌, ◌%◌, ◌≤◌, ◌<◌}
@@ -34,7 +34,7 @@ use Rattle.theory_modify.specs.House.{reach_of, ValidEntry, Covered, Breaks, Low
 use Rattle.theory_modify.specs.Word.{valid-edited}
 use Rattle.theory_modify.specs.Asked.{asked_forwards}
 use Rattle.theory_modify.proofs.Call.{area, region_paged, ready, call_passed, call-clear, call-leaves}
-use Rattle.theory_modify.specs.Found.{WithinPages, new_word, Broken, First, Finds, new_is, BreaksIn, survey_finds}
+use Rattle.theory_modify.specs.Found.{WithinPages, new_word, Broken, First, Finds, by_broken, new_is, BreaksIn, survey_finds}
 use Rattle.theory_modify.specs.Stays.{modify_stays}
 
 -- ---- the walk of an address, on the root's tree
@@ -183,32 +183,31 @@ module _ {h : Handle} {c : ModifyArguments} {s : St} (passed : ModifyPassed h c 
         go (inl l) (inl k) = omega arith
 
   -- where the survey is not broken no address breaks
-  kept_none : (surveyed h c s).broken ≡ false → Keeps h c s
+  kept_none : (surveyed h c s).broken ≡ None → Keeps h c s
   kept_none kept va u B =
       let page = (region_paged passed).page va B.stands.region in
       scanned.none refl kept (va / 4096) u page.from page.below (to_page va u B)
 
   -- REFUSAL 10, BY THE WALK
-  pub survey_lowest : (w : ℕ) → (((surveyed h c s).broken ≡ true) × ((surveyed h c s).word ≡ w)) ↔ LowestBreach h c s w
+  pub survey_lowest : (w : ℕ) → ((surveyed h c s).broken ≡ Some w) ↔ LowestBreach h c s w
   survey_lowest w = (
-    λ found. subst (LowestBreach h c s) found.1 (first_lowest (scanned.some refl found.0)),
-    λ L. by_bool (surveyed h c s).broken
-        (λ broken. (broken, lowest_first (scanned.some refl broken) L))
+    λ found. first_lowest (scanned.some refl w found),
+    λ L. by_broken (surveyed h c s).broken
+        (λ u broken. broken ∙ ap Some (lowest_first (scanned.some refl u broken) L))
         (λ kept. absurd (kept_none kept L.address w L.breaks)),
   )
 
-  pub survey_keeps : ((surveyed h c s).broken ≡ false) ↔ Keeps h c s
+  pub survey_keeps : ((surveyed h c s).broken ≡ None) ↔ Keeps h c s
   survey_keeps = (
     kept_none,
-    λ keeps. by_bool {A = (surveyed h c s).broken ≡ false} (surveyed h c s).broken
-        (λ broken. let L = (survey_lowest (surveyed h c s).word).0 (broken, refl) in
-        absurd (keeps L.address (surveyed h c s).word L.breaks))
+    λ keeps. by_broken {A = (surveyed h c s).broken ≡ None} (surveyed h c s).broken
+        (λ w broken. let L = (survey_lowest w).0 broken in absurd (keeps L.address w L.breaks))
         (λ kept. kept),
   )
 
   -- ---- where the rule is kept
 
-  module _ (kept : (surveyed h c s).broken ≡ false) (va level w : ℕ) (S : ValidEntry h c s va level w) where
+  module _ (kept : (surveyed h c s).broken ≡ None) (va level w : ℕ) (S : ValidEntry h c s va level w) where
     pub kept_change : may_change h w (edit_word level e w) ≡ true
     kept_change = by_bool {A = may_change h w (edit_word level e w) ≡ true} (may_change h w (edit_word level e w)) (λ may. may)
         (λ bits. absurd (kept_none kept va w (record { level = level; stands = S; rule = inr bits })))
@@ -260,7 +259,7 @@ module _ {h : Handle} {c : ModifyArguments} {s s' : St} {list list' : List ℕ} 
   was : ModifyPassed h c s
   was = call_passed modifies
 
-  kept : (surveyed h c s).broken ≡ false
+  kept : (surveyed h c s).broken ≡ None
   kept = (call-clear modifies).kept live
 
   -- LIVE SAFETY

@@ -32,18 +32,15 @@ use Rattle.theory_modify.specs.Terms.{ModifyArguments, modify_answer, Modifies, 
 use Rattle.theory_modify.specs.Terms.{flags_after, modify_pages_of, made_by_modify, numbers_of}
 use Rattle.theory_modify.specs.Numbers.{occurs, first_page}
 use Rattle.theory_modify.specs.Listed.{changes}
-use Rattle.theory_modify.specs.Call.{work_after}
-use Rattle.theory_modify.proofs.Call.{region_paged, given, splits-made, numbers-made, numbers-one, numbers_tell, call_full}
-use Rattle.theory_modify.proofs.Call.{call_broken}
-use Rattle.theory_modify.proofs.Call.{call_short, call-accepted, full_back}
-use Rattle.theory_modify.specs.Call.{Clear}
-use Rattle.theory_modify.proofs.Call.{broken_back, short_back, call_passed, call-clear, call-leaves}
+use Rattle.theory_modify.specs.Call.{work_after, Clear}
+use Rattle.theory_modify.proofs.Call.{region_paged, given, splits-made, numbers-made, numbers-one, numbers_tell, call_full, call_broken}
+use Rattle.theory_modify.proofs.Call.{call_short, call-accepted, full_back, broken_back, short_back, call_passed, call-clear, call-leaves}
 use Rattle.theory_modify.proofs.Call.{call-answer, call_off, call_on}
 use Rattle.theory_modify.specs.House.{reach_of, ValidEntry, Covered, LowestBreach, Keeps, ModifyFits}
 use Rattle.theory_modify.proofs.Lowest.{survey_lowest, survey_keeps, live_safe}
 use Rattle.theory_modify.specs.Change.{bit, house_bit}
 use Rattle.theory_modify.proofs.Change.{house_rule_bits}
-use Rattle.std.specs.Prelude.{Err}
+use Rattle.std.specs.Prelude.{Err, None, Some}
 
 -- ---- what a walk shows, read back
 
@@ -56,11 +53,11 @@ was_mapped : (x : Seen) (f p : ℕ) → in_bytes x ≡ mapped f p → WasMapped 
 unfolding in_bytes
 was_mapped (seenMapped g q) f p e =
     record { frame = q; is = ap (λ (y : ℕ). seenMapped y q) (let z : g ≡ f = cc in z); at = let z : q * 4096 ≡ p = cc in z }
-was_mapped (seenHole g) f p e = let z : ◌≡◌ {A = ℕ} 0 1 = cc in absurd (omega arith)
+was_mapped (seenHole g) f p e = cc
 
 was_hole : (x : Seen) (f : ℕ) → in_bytes x ≡ hole f → x ≡ seenHole f
 unfolding in_bytes
-was_hole (seenMapped g q) f e = let z : ◌≡◌ {A = ℕ} 0 1 = cc in absurd (omega arith)
+was_hole (seenMapped g q) f e = cc
 was_hole (seenHole g) f e = ap seenHole (let z : g ≡ f = cc in z)
 
 still_mapped : (x f p : ℕ) → x ≡ f → f % 2 ≡ 1 → in_bytes (cond (valid x) (seenMapped x p) (seenHole x)) ≡ mapped f (p * 4096)
@@ -232,25 +229,25 @@ module _ (h : Handle) (c : ModifyArguments) (s : St) (list : List ℕ) where
   pub
       modify_refused_10_exactly : ((w : ℕ) × (s' : St) × (list' : List ℕ)
       × (modify_answer h c s list ≡ modifying (Err (HouseRule w)) s' list'))
-      ↔ (ModifyPassed h c s × (made_by_modify h c s ≤ free s.ledger) × (c.live ≡ true) × ((surveyed h c s).broken ≡ true))
+      ↔ (ModifyPassed h c s × (made_by_modify h c s ≤ free s.ledger) × (c.live ≡ true)
+      × ((w : ℕ) × ((surveyed h c s).broken ≡ Some w)))
   modify_refused_10_exactly = (
-    λ at. broken_back h c s list at.3,
-    λ broken. ((surveyed h c s).word, s, list, call_broken broken.0 list broken.1 broken.2 broken.3),
+    λ at. let back = broken_back h c s list at.3 in (back.0, back.1, back.2, (at.0, back.3)),
+    λ broken. (broken.3.0, s, list, call_broken broken.0 list broken.1 broken.2 broken.3.0 broken.3.1),
   )
 
   -- refusal 10 carries the survey's word, and leaves the state and the list as they were;
   pub modify_refusal_10_carries : {w : ℕ} {s' : St} {list' : List ℕ} → modify_answer h c s list ≡ modifying (Err (HouseRule w)) s' list'
-      → (w ≡ (surveyed h c s).word) × (s' ≡ s) × (list' ≡ list)
+      → ((surveyed h c s).broken ≡ Some w) × (s' ≡ s) × (list' ≡ list)
   modify_refusal_10_carries {w} is =
       let back = broken_back h c s list is in
-      let same = sym is ∙ call_broken back.0 list back.1 back.2 back.3 in
-      let p : Err (HouseRule w) ≡ Err (HouseRule (surveyed h c s).word) = ap (λ (x : Modifying). x.answer) same in
-      (let e : w ≡ (surveyed h c s).word = cc in e, ap (λ (x : Modifying). x.state) same, ap (λ (x : Modifying). x.list) same)
+      let same = sym is ∙ call_broken back.0 list back.1 back.2 w back.3 in
+      (back.3, ap (λ (x : Modifying). x.state) same, ap (λ (x : Modifying). x.list) same)
 
   -- the survey is broken with the word w exactly when w stands at the lowest address, by the Arm walk, where the call breaks the house
   -- rule;
   pub house_rule_lowest : ModifyPassed h c s → (w : ℕ)
-      → (((surveyed h c s).broken ≡ true) × ((surveyed h c s).word ≡ w)) ↔ LowestBreach h c s w
+      → ((surveyed h c s).broken ≡ Some w) ↔ LowestBreach h c s w
   house_rule_lowest passed w = survey_lowest passed w
 
   -- refusal 10 is given with w exactly when none of refusals 1 to 9 is, the call is live, and w stands at the lowest address where it
@@ -260,11 +257,8 @@ module _ (h : Handle) (c : ModifyArguments) (s : St) (list : List ℕ) where
   modify_refused_10_lowest w = (
     λ is.
         let back = broken_back h c s list is in
-        (back.0, back.1, back.2, (survey_lowest back.0 w).0 (back.3, sym (modify_refusal_10_carries is).0)),
-    λ broken.
-        let found = (survey_lowest broken.0 w).1 broken.3 in
-        call_broken broken.0 list broken.1 broken.2 found.0
-        ∙ ap (λ (x : ℕ). modifying (Err (HouseRule x)) s list) found.1,
+        (back.0, back.1, back.2, (survey_lowest back.0 w).0 back.3),
+    λ broken. call_broken broken.0 list broken.1 broken.2 w ((survey_lowest broken.0 w).1 broken.3),
   )
 
   -- 11 is given exactly when none of refusals 1 to 10 is, and a live call would list more numbers than the list has room for;
@@ -294,7 +288,7 @@ module _ (h : Handle) (c : ModifyArguments) (s : St) (list : List ℕ) where
       (let e : n ≡ length (numbers_of h c s) = cc in e, ap (λ (x : Modifying). x.state) same, ap (λ (x : Modifying). x.list) same)
 
   -- the survey's count of numbers is the list's, where the house rule is kept;
-  pub modify_numbers_counted : ModifyPassed h c s → (surveyed h c s).broken ≡ false → (surveyed h c s).numbers ≡ length (numbers_of h c s)
+  pub modify_numbers_counted : ModifyPassed h c s → (surveyed h c s).broken ≡ None → (surveyed h c s).numbers ≡ length (numbers_of h c s)
   modify_numbers_counted passed kept = numbers-made passed kept
 
   -- no number stands in it twice;

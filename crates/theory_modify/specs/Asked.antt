@@ -1,9 +1,9 @@
 -- What refusals 2 to 6 leave of a modify: bits from the set, whole pages inside the root's span.
-use Rattle.std.specs.Prelude.{◌≡◌, refl, Bool, true, false, cond, ℕ, ◌-◌, ◌/◌, ◌%◌, ◌≤◌, eqb}
+use Rattle.std.specs.Prelude.{◌≡◌, refl, Bool, true, false, cond, ℕ, ◌-◌, ◌/◌, ◌%◌, ◌≤◌, eqb, Err, Ok}
 use Rattle.std.proofs.Common.{arith, lit<}
 use Rattle.std.proofs.lemmas.Bool.{eqb-false}
 use Rattle.entry.specs.Word.{only}
-use Rattle.pool.specs.Refuse.{first_refused, granted}
+use Rattle.pool.specs.Refuse.{first_refused, granted, Outcome}
 use Rattle.pool.specs.Sound.{flag_set}
 use Rattle.pool.specs.declared.Handle.{Handle}
 use Rattle.pool.specs.declared.Refusal.{Refusal}
@@ -17,23 +17,21 @@ use Rattle.theory_map.specs.Pieces.{Area}
 use Rattle.theory_map.specs.Asked.{pages_inside, flags_allowed, Early, cond_early, first_early, verify_early}
 use Rattle.theory_modify.specs.Word.{Bits}
 use Rattle.theory_modify.specs.Pass.{area_of}
-use Rattle.std.specs.Prelude.{Err, Ok}
-use Rattle.pool.specs.Refuse.{Outcome}
 
 -- ---- the tests that are passed
 
 passes_not : (b : Bool) (r : Refusal) (x : Outcome) → cond b (Err r) x ≡ granted → (b ≡ false) × (x ≡ granted)
-passes_not true r x e = let z : ◌≡◌ {A = ℕ} 0 1 = cc in absurd (omega arith)
+passes_not true r x e = cc
 passes_not false r x e = (refl, e)
 
 passes_if : (b : Bool) (r : Refusal) (x : Outcome) → cond b x (Err r) ≡ granted → (b ≡ true) × (x ≡ granted)
 passes_if true r x e = (refl, e)
-passes_if false r x e = let z : ◌≡◌ {A = ℕ} 0 1 = cc in absurd (omega arith)
+passes_if false r x e = cc
 
 passes_both : (x y : Outcome) → first_refused Err x y ≡ granted → (x ≡ granted) × (y ≡ granted)
 unfolding first_refused
 passes_both (Ok tt) y e = (refl, e)
-passes_both (Err r) y e = let z : ◌≡◌ {A = ℕ} 0 1 = cc in absurd (omega arith)
+passes_both (Err r) y e = cc
 
 not-one : (n : ℕ) → eqb (n % 2) 1 ≡ false → n % 2 ≡ 0
 not-one n e = let k = eqb-false (n % 2) 1 e in omega arith

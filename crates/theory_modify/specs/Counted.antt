@@ -1,9 +1,8 @@
 -- Where the house rule is kept, a survey's count of numbers is the length of what the modify lists: no valid entry is split, and a split of
 -- a hole lists nothing.
-use Rattle.std.specs.Prelude.{◌≡◌, refl, true}
+use Rattle.std.specs.Prelude.{◌≡◌, refl, true, None}
 use Rattle.std.proofs.Math.Path.{ap}
 use Rattle.std.proofs.Common.{◌∙◌, inl, inr, eq-eqb}
-use Rattle.std.proofs.Math.Bool.{false}
 use Prim.Native.Nat.{ℕ, zero, suc, ◌+◌, ◌-◌, ◌%◌, ◌≤◌}
 use native.Mathlib.Omega.{arith}
 use Rattle.laws.specs.Size.{size_at, size_page}
@@ -18,7 +17,7 @@ use Rattle.theory_map.specs.Stand.{Piece}
 -- ---- what a survey adds, where the house rule is kept
 
 pub record AddsNumbers (v x : Survey) (n : ℕ) : Type 0 where
-  pub kept : v.broken ≡ false
+  pub kept : v.broken ≡ None
   pub numbers : x.numbers ≡ v.numbers + n
 
 -- a valid entry that may be covered in part is a block

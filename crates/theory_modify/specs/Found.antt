@@ -1,5 +1,5 @@
 -- The survey's scan finds the lowest page whose entry breaks the house rule, on the tree that the words show (document 01, refusal 10).
-use Rattle.std.specs.Prelude.{◌≡◌, Bool, true, false, List, ◌⊎◌, ◌≢◌, eqb}
+use Rattle.std.specs.Prelude.{◌≡◌, Bool, true, false, List, ◌⊎◌, ◌≢◌, eqb, Option, None, Some}
 use Rattle.std.proofs.Math.Path.{refl, subst}
 use Rattle.std.proofs.Common.{sym, ap, ◌∙◌, inl, inr, arith}
 use Prim.Native.Nat.{ℕ, zero, suc, ◌+◌, ◌*◌, ◌-◌, ◌/◌, ◌%◌, ◌≤◌, ◌<◌}
@@ -70,40 +70,46 @@ pub record First (breaks : ℕ → ℕ → Type 0) (lo hi w : ℕ) : Type 0 wher
 
 -- a survey v becomes x over the pages from lo up to hi: what was broken stays; else it is broken exactly by the lowest page that breaks
 pub record Finds (breaks : ℕ → ℕ → Type 0) (lo hi : ℕ) (v x : Survey) : Type 0 where
-  pub stays : v.broken ≡ true → (x.broken ≡ true) × (x.word ≡ v.word)
-  pub none : v.broken ≡ false → x.broken ≡ false → (y u : ℕ) → lo ≤ y → y < hi → breaks y u → ⊥
-  pub some : v.broken ≡ false → x.broken ≡ true → First breaks lo hi x.word
+  pub stays : (w : ℕ) → v.broken ≡ Some w → x.broken ≡ Some w
+  pub none : v.broken ≡ None → x.broken ≡ None → (y u : ℕ) → lo ≤ y → y < hi → breaks y u → ⊥
+  pub some : v.broken ≡ None → (w : ℕ) → x.broken ≡ Some w → First breaks lo hi w
+
+-- a split on the word that breaks the rule, if there is one
+pub by_broken {ℓ} : {A : Type ℓ} (x : Option ℕ) → ((w : ℕ) → x ≡ Some w → A) → (x ≡ None → A) → A
+by_broken (Some w) f g = f w refl
+by_broken None f g = g refl
 
 clash : {b : Bool} → b ≡ true → b ≡ false → ⊥
-clash p q = let e = sym p ∙ q in let z : ◌≡◌ {A = ℕ} 0 1 = cc in omega arith
+clash p q = let e = sym p ∙ q in cc
 
 -- one part after the other
 finds_join : {B : ℕ → ℕ → Type 0} {lo mid hi : ℕ} {v u x : Survey} → lo ≤ mid → mid ≤ hi → Finds B lo mid v u → Finds B mid hi u x
     → Finds B lo hi v x
 finds_join {B} {lo} {mid} {hi} {v} {u} {x} l m F G = record {
-  stays = λ e. let a = F.stays e in let b = G.stays a.0 in (b.0, b.1 ∙ a.1);
-  none = λ e n y w k b at. by_bool u.broken
-      (λ broken. clash (G.stays broken).0 n)
+  stays = λ w e. G.stays w (F.stays w e);
+  none = λ e n y w k b at. by_broken u.broken
+      (λ old broken. cc (G.stays old broken, n))
       (λ fine. side (le_or mid y) (λ q. F.none e fine y w k q at) (λ q. G.none fine n y w q b at));
-  some = λ e n. by_bool u.broken
-      (λ broken.
-      let f = F.some e broken in
-      let same = (G.stays broken).1 in
+  some = λ e w n. by_broken u.broken
+      (λ old broken.
+      let f = F.some e old broken in
+      let both = sym (G.stays old broken) ∙ n in
+      let same : old ≡ w = cc in
       record {
         page = f.page;
         from = f.from;
         below = omega (arith, f.below);
-        here = subst (B f.page) (sym same) f.here;
+        here = subst (B f.page) same f.here;
         least = f.least;
       })
       (λ fine.
-      let g = G.some fine n in
+      let g = G.some fine w n in
       record {
         page = g.page;
         from = omega (arith, g.from);
         below = g.below;
         here = g.here;
-        least = λ y w k b at. side (le_or mid y) (λ q. F.none e fine y w k q at) (λ q. g.least y w q b at);
+        least = λ y v k b at. side (le_or mid y) (λ q. F.none e fine y v k q at) (λ q. g.least y v q b at);
       });
 }
   where
@@ -118,32 +124,32 @@ finds_as : {B C : ℕ → ℕ → Type 0} {lo hi : ℕ} {v x : Survey} → ((y w
 finds_as there back F = record {
   stays = F.stays;
   none = λ e n y w k b at. F.none e n y w k b (back y w k b at);
-  some = λ e n.
-      let f = F.some e n in
+  some = λ e w n.
+      let f = F.some e w n in
       record {
         page = f.page;
         from = f.from;
         below = f.below;
         here = there f.page _ f.from f.below f.here;
-        least = λ y w k b at. f.least y w k b (back y w k (omega (arith, f.below)) at);
+        least = λ y v k b at. f.least y v k b (back y v k (omega (arith, f.below)) at);
       };
 }
 
 -- nothing breaks
-finds_none : {B : ℕ → ℕ → Type 0} {lo hi : ℕ} {v x : Survey} → x.broken ≡ v.broken → x.word ≡ v.word
+finds_none : {B : ℕ → ℕ → Type 0} {lo hi : ℕ} {v x : Survey} → x.broken ≡ v.broken
     → ((y w : ℕ) → lo ≤ y → y < hi → B y w → ⊥) → Finds B lo hi v x
-finds_none a b not = record { stays = λ e. (a ∙ e, b); none = λ e n. not; some = λ e n. absurd (clash n (a ∙ e)) }
+finds_none a not = record { stays = λ w e. a ∙ e; none = λ e n. not; some = λ e w n. absurd (cc (n, a ∙ e)) }
 
 -- the first page breaks
-finds_breach : {B : ℕ → ℕ → Type 0} {lo hi : ℕ} {v : Survey} (w : ℕ) (x : Survey) → x.broken ≡ v.broken → x.word ≡ v.word → lo < hi
+finds_breach : {B : ℕ → ℕ → Type 0} {lo hi : ℕ} {v : Survey} (w : ℕ) (x : Survey) → x.broken ≡ v.broken → lo < hi
     → B lo w → Finds B lo hi v (breach w x)
-finds_breach {B} {lo} {hi} {v} w x a b space at = record {
-  stays =
-      λ e. let old = sym (breach_kept w x (a ∙ e)) in (ap (λ (z : Survey). z.broken) old ∙ a ∙ e, ap (λ (z : Survey). z.word) old ∙ b);
-  none = λ e n. absurd (clash (ap (λ (z : Survey). z.broken) (sym (breach-first w x (a ∙ e)))) n);
-  some = λ e n.
-      let named : (breach w x).word ≡ w = ap (λ (z : Survey). z.word) (sym (breach-first w x (a ∙ e))) in
-      record { page = lo; from = omega arith; below = space; here = subst (B lo) (sym named) at; least = λ y u k l. absurd (omega arith) };
+finds_breach {B} {lo} {hi} {v} w x a space at = record {
+  stays = λ old e. ap (λ (z : Survey). z.broken) (sym (breach_kept w x old (a ∙ e))) ∙ a ∙ e;
+  none = λ e n. absurd (cc (ap (λ (z : Survey). z.broken) (breach-first w x (a ∙ e)), n));
+  some = λ e u n.
+      let both = ap (λ (z : Survey). z.broken) (breach-first w x (a ∙ e)) ∙ n in
+      let same : w ≡ u = cc in
+      record { page = lo; from = omega arith; below = space; here = subst (B lo) same at; least = λ y u k l. absurd (omega arith) };
 }
 
 -- ---- entries, and the ends of larger ones
@@ -248,7 +254,7 @@ module _ (h : Handle) (set clear depth q : ℕ) (m : Map) (low : depth ≤ 3) (f
       → s ≤ e
       → Finds (λ y w. Broken h set clear (s / 4096) (e / 4096) (ends_of y) y w) (s / 4096) (e / 4096) x (each_of f cs x)
   unfolding each_of
-  fold_finds each (none l) a p x all some = finds_none refl refl (λ y w k b at. omega arith)
+  fold_finds each (none l) a p x all some = finds_none refl (λ y w k b at. omega arith)
   fold_finds each {e = e} (more {s = s} {m = z} {l = cs} above under fits rest) a p x all some =
       let c : MemoryRegion = region s z in
       let piece : Piece depth (child q (slot_at depth c)) (chunk_map m c p) = all.0.piece in
@@ -340,19 +346,19 @@ module _ (h : Handle) (e : Edit) (c : MemoryRegion) (w : ℕ) (v : Survey) where
               (ap (may_change h w) (sym same_new) ∙ ap (λ (x : ℕ). may_change h x (new_word e.set e.clear level x)) B.word ∙ bits)
 
       abbrev more_numbers : Survey
-      more_numbers = record { splits = v.splits; numbers = v.numbers + 1; broken = v.broken; word = v.word }
+      more_numbers = record { splits = v.splits; numbers = v.numbers + 1; broken = v.broken }
 
       whole_finds : Finds (Breaks depth) lo hi v (survey_whole h level (chunk_edit e c) w v)
       whole_finds = go (eq_or new w)
         where
           go : (new ≡ w) ⊎ (new ≢ w) → Finds (Breaks depth) lo hi v (survey_whole h level (chunk_edit e c) w v)
           go (inl same) = subst (Finds (Breaks depth) lo hi v) (whole_same h level (chunk_edit e c) w v refl same)
-              (finds_none refl refl (allowed (ap (may_change h w) same ∙ may_stay h w)))
+              (finds_none refl (allowed (ap (may_change h w) same ∙ may_stay h w)))
           go (inr other) = by_bool (may_change h w new)
               (λ may. subst (Finds (Breaks depth) lo hi v) (whole_allowed h level (chunk_edit e c) w v refl other may)
-              (finds_none {x = more_numbers} refl refl (allowed may)))
+              (finds_none {x = more_numbers} refl (allowed may)))
               (λ bits. subst (Finds (Breaks depth) lo hi v) (whole-breach h level (chunk_edit e c) w v refl other bits)
-              (finds_breach w more_numbers refl refl (omega (arith, piece.some, piece.inside.start_page, piece.inside.end_page))
+              (finds_breach w more_numbers refl (omega (arith, piece.some, piece.inside.start_page, piece.inside.end_page))
               (record {
                 word = refl;
                 valid = by_bool {A = valid w ≡ true} (valid w) (λ y. y) (λ n. absurd (other (hole_stays (chunk_edit e c) w level n)));
@@ -377,17 +383,17 @@ module _ (h : Handle) (e : Edit) (c : MemoryRegion) (w : ℕ) (v : Survey) where
         (ap (λ (n : ℕ). n % pages_in (suc depth)) ends ∙ end_rest (suc depth) q)) part
 
     abbrev more-splits : Survey
-    more-splits = record { splits = v.splits + splits_in (3 - under) c; numbers = v.numbers; broken = v.broken; word = v.word }
+    more-splits = record { splits = v.splits + splits_in (3 - under) c; numbers = v.numbers; broken = v.broken }
 
     part_finds : Finds (Breaks (suc depth)) lo hi v (survey_part under c w v)
     part_finds = by_bool (valid w)
         (λ y. subst (Finds (Breaks (suc depth)) lo hi v) (part_block under c w v refl refl (valid_block depth w low fine y))
-        (finds_breach w more-splits refl refl (omega (arith, piece.some, piece.inside.start_page, piece.inside.end_page))
+        (finds_breach w more-splits refl (omega (arith, piece.some, piece.inside.start_page, piece.inside.end_page))
         (record { word = refl; valid = y; rule = inl splits_it })))
         (λ n. let o = valid_no w n in
         subst (Finds (Breaks (suc depth)) lo hi v)
         (part_other under c w v refl refl (inr (inr (kind_clear under w (λ a. omega arith) (λ a. omega arith)))))
-        (finds_none {x = more-splits} refl refl (λ y u k b B. clash B.valid (ap valid (sym B.word) ∙ n))))
+        (finds_none {x = more-splits} refl (λ y u k b B. clash B.valid (ap valid (sym B.word) ∙ n))))
 
   -- either way
   leaf_finds : (depth q p : ℕ) → depth ≤ 3 → Fine depth w → Piece depth q (area_of (chunk_edit e c) p)

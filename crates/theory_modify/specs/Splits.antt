@@ -110,7 +110,7 @@ takes_enter set clear depth c p f =
 
 breach-splits : (w : ℕ) (v : Survey) → (breach w v).splits ≡ v.splits
 unfolding breach
-breach-splits w v = by_bool v.broken (λ e. rw e) (λ e. rw e)
+breach-splits w v = refl
 
 block_splits : (k : Kind) (v x : Survey) → v.splits ≡ x.splits → (if_block k v x).splits ≡ x.splits
 unfolding if_block

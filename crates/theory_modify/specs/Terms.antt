@@ -1,6 +1,6 @@
 -- The words in which document 01's Modify is said of the call: the call and its answer, its region, the flags after it, the tree after it
 -- and the tables that it makes. Definitions alone; the walk and the root's span are those of `theory_map`.
-use Rattle.std.specs.Prelude.{◌≡◌, Bool, cond, List, ℕ}
+use Rattle.std.specs.Prelude.{◌≡◌, Bool, cond, List, ℕ, Ok}
 use Rattle.entry.specs.Word.{edited}
 use Rattle.region.specs.Region.{rounded}
 use Rattle.region.specs.Chunks.{Holds}
@@ -9,10 +9,9 @@ use Rattle.pool.specs.Refuse.{Shaped, granted}
 use Rattle.pool.specs.declared.Handle.{Handle}
 use Rattle.modify_entry.specs.declared.Edit.{Edit}
 use Rattle.modify_survey.specs.declared.Survey.{Survey}
-use Rattle.modify.specs.declared.Modified.{Modified}
 use Rattle.modify.specs.declared.Modified.TheVariants.{Tables, Live}
 use Rattle.modify_verify.specs.Verify.{asked_edit, verify_edit}
-use Rattle.modify.specs.Call.{Modifying, modifying, modify_call, survey_of}
+use Rattle.modify.specs.Call.{ModifyAnswer, Modifying, modifying, modify_call, survey_of}
 use Rattle.theory_forest.specs.Tree.{Tree}
 use Rattle.theory_sound.specs.Clauses.{SoundPool}
 use Rattle.theory_sound.specs.Codec.{root_tree}
@@ -20,7 +19,6 @@ use Rattle.theory_tree.specs.Modify.{Modify, modify_tree, modify_made}
 use Rattle.theory_tree.specs.DocumentModify.{modify_pages}
 use Rattle.theory_map.specs.Terms.{depth_of, root_in}
 use Rattle.theory_modify.specs.Numbers.{table_numbers}
-use Rattle.std.specs.Prelude.{Ok}
 
 -- ---- the call
 
@@ -37,8 +35,8 @@ abbrev pub modify_answer : Handle → ModifyArguments → St → List ℕ → Mo
 modify_answer h c s list = modify_call h c.start c.end c.set c.clear c.live s list
 
 -- "live modify adds its count of numbers"
-unfoldable pub modify_accepted : Bool → ℕ → ℕ → Modified
-modify_accepted live tables numbers = cond live (Live tables numbers) (Tables tables)
+unfoldable pub modify_accepted : Bool → ℕ → ℕ → ModifyAnswer
+modify_accepted live tables numbers = Ok (cond live (Live tables numbers) (Tables tables))
 
 -- the call is accepted: it answers n tables and, live, k numbers, and leaves the state s' and the list list'
 pub record Modifies (h : Handle) (c : ModifyArguments) (s : St) (list : List ℕ) (n k : ℕ) (s' : St) (list' : List ℕ) : Type 0 where

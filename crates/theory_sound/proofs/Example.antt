@@ -1,5 +1,5 @@
 -- Theorems about the definitions of specs/Example.
-use Rattle.std.specs.Prelude.{◌≡◌, refl, T}
+use Rattle.std.specs.Prelude.{◌≡◌, refl, T, Some}
 use Rattle.std.proofs.Common.{arith}
 use Rattle.laws.specs.Size.{size_at}
 use Rattle.laws.specs.Test.{all_below, all_from}
@@ -15,7 +15,6 @@ use Rattle.theory_sound.proofs.Decide.{decide_sound}
 use Rattle.theory_sound.proofs.Step.{zero_stands, step_pool}
 use Rattle.theory_sound.proofs.Take.{take_step}
 use Rattle.theory_sound.specs.Example.{handle, fresh_example, mapped}
-use Rattle.std.specs.Prelude.{Some}
 
 -- what refusals 1 and 8 compute with: to unfold this is to unfold all that its line names
 unfoldable checks : Unit {0}

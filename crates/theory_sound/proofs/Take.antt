@@ -1,11 +1,11 @@
 -- Theorems about the definitions of specs/Take.
-use Rattle.std.specs.Prelude.{◌≡◌, List, ◌≢◌, ℕ, suc, ◌+◌, ◌*◌, ◌≤◌, ◌<◌, length, get_or, set}
+use Rattle.std.specs.Prelude.{◌≡◌, List, ◌≢◌, ℕ, suc, ◌+◌, ◌*◌, ◌≤◌, ◌<◌, length, get_or, set, Some}
 use Rattle.std.proofs.Common.{sym, ap, ◌∙◌, arith}
 use Rattle.std.proofs.Math.ListN.{length-set, get_or-eq_default}
 use Rattle.std.proofs.Math.Seq.{get_or-set_same, get_or-set_other}
 use Rattle.entry.specs.Word.{link_of}
 use Rattle.pool.specs.State.{St, st, word_at, number_at}
-use Rattle.pool.specs.Number.{level_of, number_of, Names, parent_back, slot_back, number_names, lowest_free, LowestFree, lowest_found, used}
+use Rattle.pool.specs.Number.{level_of, number_of, Names, parent_back, slot_back, number_names, lowest_free, LowestFree, lowest_found}
 use Rattle.pool.specs.Number.{level_back}
 use Rattle.pool_table.specs.Table.{put_table, length-table, take_at}
 use Rattle.pool.specs.declared.Handle.{Handle}
@@ -20,7 +20,6 @@ use Rattle.theory_sound.proofs.Generic.{pool_sound}
 use Rattle.theory_sound.specs.Lists.{TableInside, SameSize, store_here, store_other, put_here, put_other}
 use Rattle.theory_sound.specs.Step.{Stands, not_table, Step}
 use Rattle.theory_sound.proofs.Step.{stands_fits, used_inside}
-use Rattle.std.specs.Prelude.{Some}
 
 -- ---- the step
 

@@ -1,10 +1,9 @@
 -- Counts off the ledger when a table is taken, the count as a sum, and when a free table is found.
-use Rattle.std.specs.Prelude.{◌≡◌, refl, cond, List, [], ◌∷◌, ℕ, zero, suc, ◌<◌, eqb, length, get_or, set}
+use Rattle.std.specs.Prelude.{◌≡◌, refl, cond, List, [], ◌∷◌, ℕ, zero, suc, ◌<◌, eqb, length, get_or, set, Some}
 use Rattle.std.proofs.Common.{ap, arith, length-set}
 use Rattle.std.proofs.Math.Dec.{eqb-suc-zero}
 use Rattle.laws.specs.Sum.{sum, sum_shift}
 use Rattle.pool.specs.Number.{first_from, lowest_free, used, free, used-free}
-use Rattle.std.specs.Prelude.{Some}
 
 -- ---- a free table is entered
 

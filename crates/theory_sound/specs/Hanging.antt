@@ -5,7 +5,6 @@ use Rattle.entry.specs.Sub.{sub_of}
 use Rattle.entry.specs.declared.Sub.{Sub}
 use Rattle.entry.specs.declared.Sub.TheVariants.{Table}
 use Rattle.pool.specs.State.{St, tables, word_at}
-use Rattle.pool.specs.Number.{used}
 use Rattle.pool.specs.declared.Handle.{Handle}
 use Rattle.theory_sound.specs.Clauses.{InUse, level_at}
 

@@ -3,7 +3,6 @@
 use Rattle.std.specs.Prelude.{◌≡◌, ℕ, ◌+◌, ◌%◌, ◌<◌}
 use Rattle.std.proofs.Common.{sym, ap, ◌∙◌}
 use Rattle.pool.specs.State.{St, word_at}
-use Rattle.pool.specs.Number.{used}
 use Rattle.pool.specs.Refuse.{Shaped}
 use Rattle.pool.specs.Sound.{flag_set}
 use Rattle.pool.specs.declared.Handle.{Handle}

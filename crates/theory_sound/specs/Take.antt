@@ -1,14 +1,12 @@
 -- The second step on lists, a split: the lowest free table is taken, filled with leaves, entered and linked in the place of a leaf.
-use Rattle.std.specs.Prelude.{◌≡◌, refl, List, ℕ, suc}
+use Rattle.std.specs.Prelude.{◌≡◌, refl, List, ℕ, suc, Some}
 use Rattle.std.proofs.Common.{sym}
 use Rattle.pool.specs.State.{St}
-use Rattle.pool.specs.Number.{number_of, lowest_free, LowestFree, lowest_found}
-use Rattle.pool.specs.Number.{free}
+use Rattle.pool.specs.Number.{number_of, lowest_free, LowestFree, lowest_found, free}
 use Rattle.pool_table.specs.Table.{take_at, taken, take_table, take_some}
 use Rattle.pool.specs.declared.Handle.{Handle}
 use Rattle.theory_sound.specs.Alloc.{free-take}
 use Rattle.theory_sound.specs.Codec.{number_pos}
-use Rattle.std.specs.Prelude.{Some}
 
 -- ---- what is taken, and the counts; nothing is asked of the pool
 

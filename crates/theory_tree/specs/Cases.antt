@@ -3,7 +3,6 @@
 use Rattle.std.specs.Prelude.{◌≡◌, true, List, [], ◌∷◌, ℕ}
 use Rattle.theory_forest.specs.Tree.{Tree, leaf, node}
 use Rattle.theory_forest.specs.Nodes.{nodes}
-use Rattle.theory_tree.specs.Page.{first}
 use Rattle.theory_tree.specs.Rules.{Map}
 use Rattle.theory_tree.specs.Root.{map_made}
 use Rattle.theory_tree.specs.Order.{run}

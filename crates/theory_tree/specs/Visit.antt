@@ -2,7 +2,6 @@
 -- first if there is no table. Map and modify are visits.
 use Rattle.std.specs.Prelude.{◌≡◌, Bool, true, false, cond, ltb}
 use Prim.Native.Nat.{ℕ, zero, suc, ◌+◌}
-use Rattle.std.proofs.Common.{arith}
 use Rattle.laws.specs.Sum.{sum}
 use Rattle.theory_forest.specs.Tree.{Tree, leaf, node, each_slot}
 use Rattle.theory_forest.specs.Nodes.{nodes}
@@ -17,8 +16,8 @@ pub data Rule : Type 0 where
 
 -- neither of the other two writes
 pub no_write : (met : Bool) (x : ℕ) → cond met down keep ≡ write x → ⊥
-no_write true x e = let z : ◌≡◌ {A = ℕ} 0 1 = cc in omega arith
-no_write false x e = let z : ◌≡◌ {A = ℕ} 0 1 = cc in omega arith
+no_write true x e = cc
+no_write false x e = cc
 
 -- ---- the table below an entry
 

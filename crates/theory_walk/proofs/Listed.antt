@@ -1,5 +1,5 @@
 -- Theorems about the definitions of specs/Listed.
-use Rattle.std.specs.Prelude.{◌≡◌, true, ◌≢◌, ℕ, ◌-◌, ◌^◌, ◌≤◌, ◌<◌, length}
+use Rattle.std.specs.Prelude.{◌≡◌, true, ◌≢◌, ℕ, ◌-◌, ◌^◌, ◌≤◌, ◌<◌, length, Ok}
 use Rattle.std.proofs.Common.{sym, ◌∙◌, arith, le-leb, lt-ltb}
 use mathlib.Core.List.{List}
 use Rattle.laws.specs.Size.{span}
@@ -22,7 +22,6 @@ use Rattle.theory_walk.proofs.Walked.{never_away}
 use Rattle.theory_walk.specs.Alike.{Alike}
 use Rattle.theory_walk.proofs.Alike.{looks_up, entry_alike}
 use Rattle.theory_walk.specs.Listed.{Accepts, list_accepted, Walks, LinesShow}
-use Rattle.std.specs.Prelude.{Ok}
 
 -- the addresses of a region that was verified lie in the span
 spans : (range : VaRange) (level : ℕ) (r : MemoryRegion) → RegionInSpan range level r → (a : ℕ) → r.start.0 ≤ a → a < r.end.0

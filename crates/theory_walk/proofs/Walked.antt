@@ -75,7 +75,7 @@ module _ {h : Handle} {s : St} (shape : Shaped h s) (P : SoundPool h s) (va : �
 
   pub never_away : reach base (tables s) s.words va h.level ≢ away
   unfolding reached_at
-  never_away e = let z : ◌≡◌ {A = ℕ} 0 1 = cc (sym reach_tree ∙ e) in omega arith
+  never_away e = cc (sym reach_tree ∙ e)
 
   pub walk_of_tree : walk base (tables s) s.words va h.level
       ≡ says va (reached_at (walk_tree (slots_taken va) (suc (3 - h.level)) (root_tree h s)))

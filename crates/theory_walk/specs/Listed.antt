@@ -1,14 +1,14 @@
 -- An accepted list against the Arm walk: its lines ascend, share no address, cover the region exactly, and each says what the walk meets at
 -- every address of it. Leans on `Alike`, `Walked`, list_lines' `Cover`.
-use Rattle.std.specs.Prelude.{◌≡◌, true, ℕ, ◌*◌, ◌≤◌, ◌<◌, leb, length}
+use Rattle.std.specs.Prelude.{◌≡◌, true, ℕ, ◌*◌, ◌≤◌, ◌<◌, leb, length, Err, Ok}
 use Rattle.std.proofs.Math.Path.{refl}
-use Rattle.std.proofs.Common.{ap, arith}
+use Rattle.std.proofs.Common.{ap}
 use mathlib.Core.List.{List}
 use Rattle.laws.specs.Test.{by_bool}
 use Rattle.region.specs.Region.{rounded}
 use Rattle.region.specs.declared.MemoryRegion.{MemoryRegion}
 use Rattle.pool.specs.State.{St, tables}
-use Rattle.pool.specs.Refuse.{shaped, first_refused, granted}
+use Rattle.pool.specs.Refuse.{shaped, first_refused, granted, Outcome}
 use Rattle.pool.specs.Sound.{soundb}
 use Rattle.pool.specs.declared.Handle.{Handle}
 use Rattle.pool.specs.declared.Refusal.{Refusal}
@@ -16,11 +16,8 @@ use Rattle.arm.specs.Arm.{at, says, reach}
 use Rattle.look_up.specs.Call.{answer, look_up_call}
 use Rattle.list_lines.specs.Lines.{Line, lines_of}
 use Rattle.list_lines.specs.Cover.{nth_line, InLine}
-use Rattle.list.specs.Call.{verify_ends, listing, put, list_lines, list_sound, list_call}
+use Rattle.list.specs.Call.{verify_ends, listing, put, list_lines, list_sound, list_call, Listed}
 use Rattle.theory_walk.specs.Alike.{Alike}
-use Rattle.std.specs.Prelude.{Err, Ok}
-use Rattle.list.specs.Call.{Listed}
-use Rattle.pool.specs.Refuse.{Outcome}
 
 -- ---- when a list is accepted
 
@@ -33,7 +30,7 @@ pub record Accepts (h : Handle) (s : St) (start end : ℕ) (list : List ℕ) (co
 
 never : {r : Refusal} {l after : List ℕ} {count : ℕ} → listing (Err r) l ≡ listing (Ok count) after → ⊥
 never {r} {count = count} e =
-    let q : ◌≡◌ {A = Listed} (Err r) (Ok count) = ap (λ x. x.answer) e in let z : ◌≡◌ {A = ℕ} 0 1 = cc in omega arith
+    let q : ◌≡◌ {A = Listed} (Err r) (Ok count) = ap (λ x. x.answer) e in cc
 
 module _ {h : Handle} {s : St} {start end : ℕ} {list : List ℕ} {count : ℕ} {after : List ℕ} where
   pub list_accepted : list_call h s start end list ≡ listing (Ok count) after → Accepts h s start end list count after

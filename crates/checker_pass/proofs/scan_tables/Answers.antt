@@ -1,5 +1,5 @@
 -- `scan_tables`: each way through the code by its law.
-use Rattle.checker_pass.proofs.scan_tables.Goals.{In-Passed}
+use Rattle.checker_pass.proofs.scan_tables.Goals.{In-Some}
 use mathlib.Core.Path.{◌≡◌, sym, ap, ap₂, ◌∙◌, subst⁻¹}
 use Prim.Native.Nat.{ℕ, ◌+◌, ◌*◌, ◌-◌, ◌≤◌}
 use native.Mathlib.Omega.{arith}
@@ -18,12 +18,12 @@ use Rattle.checker_pass.specs.Tables.{tables_passed, tables_failed, number_fails
 use Rattle.checker_pass.proofs.scan_tables.Goals as goal
 
 -- a run that passed: its words pass, its count is theirs and at most 128
-passed : (c : In-Passed)
+passed : (c : In-Some)
     → let a = c.args in
     let s = (st a.words.now a.ledger.now) in
     let k = c.tables.k in
     let r = c.loop-r.r in
-    T (run_passes a.handle s k r) × (c.in-Passed.count ≡ run_links s k r) × (c.in-Passed.count ≤ 128)
+    T (run_passes a.handle s k r) × (c.in-Some.count ≡ run_links s k r) × (c.in-Some.count ≤ 128)
 unfolding run_passes run_links
 passed c =
     let a = c.args in
@@ -34,53 +34,18 @@ passed c =
     let set = c.flag_set-set.ensures in
     let run = c.scan_run-run.ensures
     ∙ ap₂ (λ (m l : ℕ). run_of m (number_at s k) (part_of (512 * k + 128 * r) l a.words.now)) set size in
-    let p = run_passed (flag_set a.handle) (number_at s k) (run_words s k r) run _ c.in-Passed.is in
+    let p = run_passed (flag_set a.handle) (number_at s k) (run_words s k r) run _ c.in-Some.is in
     let long = length_part (512 * k + 128 * r) 128 a.words.now (omega (arith, c.requires.sized)) in
     (rw p.0 tt, p.1, omega (arith, p.1, count-below (number_at s k) (run_words s k r)))
 
 pub tables-init : goal.tables-init
 tables-init c = (omega arith, all_none _, sym (sum_empty _), omega arith)
 
-pub table_holds-requires : goal.table_holds-requires
-table_holds-requires c = (c.requires, omega arith)
-
 pub loop-r-init : goal.loop-r-init
 loop-r-init c =
     let a = c.args in
     let e = sum_empty (run_links (st a.words.now a.ledger.now) c.tables.k) in
-    (omega arith, all_none _, (let q = c.tables.invariant.2 in omega arith), omega arith)
-
-pub overflow_mul-a : goal.overflow_mul-a
-unfolding max_tables
-overflow_mul-a c = let p = c.requires in omega (arith, p.sized, p.limit)
-
-pub overflow_mul-a-in-loop-r : goal.overflow_mul-a-in-loop-r
-unfolding max_tables
-overflow_mul-a-in-loop-r c = let p = c.requires in omega (arith, p.sized, p.limit)
-
-pub overflow_add-a : goal.overflow_add-a
-unfolding max_tables
-overflow_add-a c = let p = c.requires in omega (arith, p.sized, p.limit)
-
-pub overflow_add-e : goal.overflow_add-e
-unfolding max_tables
-overflow_add-e c = let p = c.requires in omega (arith, p.sized, p.limit)
-
-pub offset_bounds-words-a : goal.offset_bounds-words-a
-unfolding max_tables
-offset_bounds-words-a c = let p = c.requires in omega (arith, p.sized, p.limit)
-
-pub slice_bounds-scan_run-count : goal.slice_bounds-scan_run-count
-unfolding max_tables
-slice_bounds-scan_run-count c = let p = c.requires in omega (arith, p.sized, p.limit)
-
-pub slice_bounds-scan_run-start : goal.slice_bounds-scan_run-start
-unfolding max_tables
-slice_bounds-scan_run-start c = let p = c.requires in omega (arith, p.sized, p.limit)
-
-pub slice_bounds-scan_run-end : goal.slice_bounds-scan_run-end
-unfolding max_tables
-slice_bounds-scan_run-end c = let p = c.requires in omega (arith, p.sized, p.limit)
+    (all_none _, (let q = c.tables.invariant.2 in omega arith), omega arith)
 
 pub scan_run-run-requires : goal.scan_run-run-requires
 unfolding flag_set
@@ -90,20 +55,19 @@ pub overflow_add-links : goal.overflow_add-links
 unfolding max_tables
 overflow_add-links c =
     let p = c.requires in
-    let few = (passed (goal.at.overflow_add-links c).In-Passed).2 in
-    omega (arith, p.limit, c.loop-r.invariant.3)
+    let few = (passed (goal.at.overflow_add-links c).In-Some).2 in
+    omega (arith, p.limit, c.loop-r.invariant.2)
 
 pub loop-r-preserved : goal.loop-r-preserved
 loop-r-preserved c =
     let a = c.args in
     let s = (st a.words.now a.ledger.now) in
     let k = c.tables.k in
-    let run = passed (goal.at.loop-r-preserved c).In-Passed in
+    let run = passed (goal.at.loop-r-preserved c).In-Some in
     let more = sum_more c.loop-r.r (run_links s k) in (
-      omega arith,
-      all_more c.loop-r.r (run_passes a.handle s k) c.loop-r.invariant.1 run.0,
-      omega (arith, c.loop-r.invariant.2, run.1),
-      omega (arith, c.loop-r.invariant.3, run.2),
+      all_more c.loop-r.r (run_passes a.handle s k) c.loop-r.invariant.0 run.0,
+      omega (arith, c.loop-r.invariant.1, run.1),
+      omega (arith, c.loop-r.invariant.2, run.2),
     )
 
 pub tables-preserved : goal.tables-preserved
@@ -113,14 +77,14 @@ tables-preserved c =
     let s = (st a.words.now a.ledger.now) in
     let four : c.loop-r.r ≡ 4 = omega arith in
     let more = sum_more c.tables.k (table_links s) in
-    let known = c.loop-r.invariant.2 in (
+    let known = c.loop-r.invariant.1 in (
       omega arith,
       all_more c.tables.k (table_passes a.handle s) c.tables.invariant.1
           (table_passes_lem a.handle s c.tables.k
           (sym c.table_holds.ensures ∙ c.if-not-table_holds.false)
-          (rw four at c.loop-r.invariant.1)),
+          (rw four at c.loop-r.invariant.0)),
       omega (arith, rw four at known),
-      omega (arith, c.loop-r.invariant.3),
+      omega (arith, c.loop-r.invariant.2),
     )
 
 pub returns-then-n-k : goal.returns-then-n-k

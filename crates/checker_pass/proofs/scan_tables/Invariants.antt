@@ -10,12 +10,9 @@ use Rattle.checker_pass.proofs.scan_tables.Given as goal
 
 abbrev pub invariant-loop-r : goal.invariant-loop-r
 invariant-loop-r l =
-    (l.r ≤ 4) × T (all_below l.r (run_passes l.handle (st l.words l.ledger) l.k))
+    T (all_below l.r (run_passes l.handle (st l.words l.ledger) l.k))
     × (l.links ≡ sum l.k (table_links (st l.words l.ledger)) + sum l.r (run_links (st l.words l.ledger) l.k))
     × (l.links ≤ 512 * l.k + 128 * l.r)
-
-abbrev pub decreases-loop-r : goal.decreases-loop-r
-decreases-loop-r l = 4 - l.r
 
 abbrev pub invariant-tables : goal.invariant-tables
 invariant-tables l =

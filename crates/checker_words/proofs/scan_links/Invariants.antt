@@ -1,12 +1,9 @@
 use mathlib.Core.Path.{◌≡◌}
-use Prim.Native.Nat.{◌-◌, ◌≤◌}
-use lib.ListN.{length, take}
+use Prim.Native.Nat.{◌≤◌}
+use lib.ListN.{take}
 use Rattle.checker_words.specs.Words.{leaves, links as linksIn}
 use Rattle.checker_words.proofs.scan_links.Given as goal
 
-abbrev pub invariant-loop-i : goal.invariant-loop-i
-invariant-loop-i l =
-    (l.i ≤ length l.run) × (l.links ≤ l.i) × (l.any ≡ leaves (take l.i l.run)) × (l.links ≡ linksIn (take l.i l.run))
-
-abbrev pub decreases-loop-i : goal.decreases-loop-i
-decreases-loop-i l = length l.run - l.i
+abbrev pub invariant-loop-word : goal.invariant-loop-word
+invariant-loop-word l =
+    (l.links ≤ l.word-index) × (l.any ≡ leaves (take l.word-index l.run)) × (l.links ≡ linksIn (take l.word-index l.run))

@@ -2,6 +2,7 @@
 use Rattle.list.proofs.list.Goals.{Else-not-is_shaped}
 use mathlib.Core.Bool.{true}
 use mathlib.Core.Path.{◌≡◌, sym, ◌∙◌}
+use Rattle.std.proofs.lemmas.Result.{err_from_is_err_and}
 use Rattle.pool.specs.State.{st}
 use Rattle.pool.specs.Refuse.{shaped, Shaped, shaped-says}
 use Rattle.list.specs.Call.{list_misshaped, list_region, list_unsound, list_sound_lem, verified_length}
@@ -20,11 +21,13 @@ returns-then-not-is_shaped c =
     list_misshaped a.handle (st a.words.now a.ledger.now) a.start.0 a.end.0 a.list.now
     (sym c.is_shaped.ensures ∙ c.if-not-is_shaped.true)
 
-pub returns-in-Refused : goal.returns-in-Refused
-returns-in-Refused c =
+pub returns-in_err-verify_ends : goal.returns-in_err-verify_ends
+returns-in_err-verify_ends c =
     let a = c.args in
-    list_region a.handle (st a.words.now a.ledger.now) a.start.0 a.end.0 a.list.now
-    (good (goal.at.returns-in-Refused c).Else-not-is_shaped) c.verify_ends-verified.ensures _ c.in-Refused.is
+    let p = err_from_is_err_and c.from_residual.result c.from_residual.ensures.1 in
+    rw (p.1, p.2)
+    (list_region a.handle (st a.words.now a.ledger.now) a.start.0 a.end.0 a.list.now
+    (good (goal.at.returns-in_err-verify_ends c).Else-not-is_shaped) c.verify_ends.ensures _ c.in_err-verify_ends.was)
 
 pub is_sound-requires : goal.is_sound-requires
 is_sound-requires c = shape (goal.at.is_sound-requires c).Else-not-is_shaped
@@ -34,8 +37,8 @@ returns-then-not-is_sound c =
     let a = c.args in
     list_unsound a.handle (st a.words.now a.ledger.now) a.start.0 a.end.0 a.list.now
     (good (goal.at.returns-then-not-is_sound c).Else-not-is_shaped)
-    c.verify_ends-verified.ensures
-    c.in_default.is
+    c.verify_ends.ensures
+    c.in_ok-verify_ends.was
     (sym c.is_sound.ensures ∙ c.if-not-is_sound.true)
 
 pub list_lines-requires : goal.list_lines-requires
@@ -46,7 +49,7 @@ list_lines-requires c =
       p.some,
       p.level,
       verified_length a.handle a.start.0 a.end.0
-          (sym c.verify_ends-verified.ensures ∙ c.in_default.is) c.new.ensures,
+          (sym c.verify_ends.ensures ∙ c.in_ok-verify_ends.was) c.new.ensures,
     )
 
 pub returns : goal.returns
@@ -55,7 +58,7 @@ returns c =
     c.list_lines.ensures
     ∙ list_sound_lem a.handle (st a.words.now a.ledger.now) a.start.0 a.end.0 a.list.now
     (good (goal.at.returns c).Else-not-is_shaped)
-    c.verify_ends-verified.ensures
-    c.in_default.is
+    c.verify_ends.ensures
+    c.in_ok-verify_ends.was
     (sym c.is_sound.ensures ∙ c.if-not-is_sound.false)
     c.new.ensures

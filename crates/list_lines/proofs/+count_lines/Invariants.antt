@@ -7,11 +7,8 @@ use Rattle.list_lines.proofs.+count_lines.Given as goal
 
 abbrev pub invariant-loop-chunk : goal.invariant-loop-chunk
 invariant-loop-chunk l =
-    l.count + length (each (lines_at l.handle.base.0 l.tables l.words l.k l.level) (chunks_of l.rest))
-    ≡ length (each (lines_at l.handle.base.0 l.tables l.words l.k l.level) (chunks_of l.initial.rest))
-
-abbrev pub decreases-loop-chunk : goal.decreases-loop-chunk
-decreases-loop-chunk l = length (chunks_of l.rest)
+    l.count + length (each (lines_at l.handle.base.0 l.tables l.words l.k l.level) (chunks_of l.chunk-iterator))
+    ≡ length (each (lines_at l.handle.base.0 l.tables l.words l.k l.level) (chunks_of l.initial.chunk-iterator))
 
 abbrev pub decreases-count_lines : goal.decreases-count_lines
 decreases-count_lines l = 3 - l.level

@@ -8,14 +8,11 @@ use Rattle.list_lines.proofs.+visit_range.Given as goal
 
 abbrev pub invariant-loop-chunk : goal.invariant-loop-chunk
 invariant-loop-chunk l =
-    (l.to + 4 * length (each (lines_at l.handle.base.0 l.tables l.words l.k l.level) (chunks_of l.rest))
-    ≡ l.from + 4 * length (each (lines_at l.handle.base.0 l.tables l.words l.k l.level) (chunks_of l.initial.rest)))
+    (l.to + 4 * length (each (lines_at l.handle.base.0 l.tables l.words l.k l.level) (chunks_of l.chunk-iterator))
+    ≡ l.from + 4 * length (each (lines_at l.handle.base.0 l.tables l.words l.k l.level) (chunks_of l.initial.chunk-iterator)))
     × (length l.list ≡ length l.initial.list)
-    × (put_part l.to (numbers (each (lines_at l.handle.base.0 l.tables l.words l.k l.level) (chunks_of l.rest))) l.list
-    ≡ put_part l.from (numbers (each (lines_at l.handle.base.0 l.tables l.words l.k l.level) (chunks_of l.initial.rest))) l.initial.list)
-
-abbrev pub decreases-loop-chunk : goal.decreases-loop-chunk
-decreases-loop-chunk l = length (chunks_of l.rest)
+    × (put_part l.to (numbers (each (lines_at l.handle.base.0 l.tables l.words l.k l.level) (chunks_of l.chunk-iterator))) l.list
+    ≡ put_part l.from (numbers (each (lines_at l.handle.base.0 l.tables l.words l.k l.level) (chunks_of l.initial.chunk-iterator))) l.initial.list)
 
 abbrev pub decreases-visit_range : goal.decreases-visit_range
 decreases-visit_range l = 3 - l.level

@@ -38,5 +38,5 @@ unfolding fresh root_number
 returns c =
     let a = c.args in
     ap₂ (λ (w l : List ℕ). out (Ok tt) (st w (set l 0 (4 + a.handle.level))))
-    c.zero_words.ensures c.zero_numbers.ensures
+    c.zero.ensures c.zero-2.ensures
     ∙ make_accepted a.handle (st a.words.now a.ledger.now) (sym c.is_shaped.ensures ∙ c.if-not-is_shaped.false)

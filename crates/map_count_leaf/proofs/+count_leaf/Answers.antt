@@ -55,17 +55,17 @@ returns-then-level-ge2 t c =
     let down = c.in-Down.is in
     leaf_low a.level a.map a.word r down (down_high a.level a.map a.word r down) (omega arith)
 
-pub overflow_sub-stop : goal.overflow_sub-stop
-overflow_sub-stop t c = omega (arith, (facts c.args.level c.args.map _ c.requires c.chunk_end-stop.ensures).above)
+pub overflow_sub-after : goal.overflow_sub-after
+overflow_sub-after t c = omega (arith, (facts c.args.level c.args.map _ c.requires c.chunk_end.ensures).above)
 
-pub overflow_add-frame : goal.overflow_add-frame
-overflow_add-frame t c =
-    let f = facts c.args.level c.args.map _ c.requires c.chunk_end-stop.ensures in
+pub overflow_add-after : goal.overflow_add-after
+overflow_add-after t c =
+    let f = facts c.args.level c.args.map _ c.requires c.chunk_end.ensures in
     omega (arith, f.above, f.under, c.requires.0.room)
 
 pub count_leaf-requires : goal.count_leaf-requires
 count_leaf-requires t c =
-    let f = facts c.args.level c.args.map _ c.requires c.chunk_end-stop.ensures in (
+    let f = facts c.args.level c.args.map _ c.requires c.chunk_end.ensures in (
       omega arith,
       subst⁻¹ (λ (m : Map). Fit m × (m.region.start.0 < m.region.end.0)) c.chunk_of-first.ensures (f.fit, f.above),
     )
@@ -73,25 +73,25 @@ count_leaf-requires t c =
 pub overflow_add-result : goal.overflow_add-result
 overflow_add-result t c =
     let a = c.args in
-    let f = facts a.level a.map _ c.requires c.chunk_end-stop.ensures in
+    let f = facts a.level a.map _ c.requires c.chunk_end.ensures in
     omega (arith, deeper_fits a.level a.map _ c.part_of-part.result c.count_leaf.result f (cc))
 
 pub count_rest-requires : goal.count_rest-requires
 count_rest-requires t c =
-    let f = facts c.args.level c.args.map _ c.requires c.chunk_end-stop.ensures in
+    let f = facts c.args.level c.args.map _ c.requires c.chunk_end.ensures in
     subst⁻¹ (λ (m : Map). m.region.end.0 - m.region.start.0 ≤ 2 ^ 48) c.chunk_of-rest.ensures
     (omega (arith, f.above, f.length))
 
 pub overflow_add-result-2 : goal.overflow_add-result-2
 overflow_add-result-2 t c =
     let a = c.args in
-    let f = facts a.level a.map _ c.requires c.chunk_end-stop.ensures in
-    let rest : c.count_rest.result ≡ rests (3 - (a.level + 1)) (rest_of a.map c.chunk_end-stop.result) = cc in
+    let f = facts a.level a.map _ c.requires c.chunk_end.ensures in
+    let rest : c.count_rest.result ≡ rests (3 - (a.level + 1)) (rest_of a.map c.chunk_end.result) = cc in
     omega (
       arith,
       deeper_fits a.level a.map _ c.part_of-part.result c.count_leaf.result f (cc),
       rest,
-      rests_fit (a.level + 1) (rest_of a.map c.chunk_end-stop.result),
+      rests_fit (a.level + 1) (rest_of a.map c.chunk_end.result),
       f.above,
       f.length,
     )
@@ -99,7 +99,7 @@ overflow_add-result-2 t c =
 pub returns : goal.returns
 returns t c =
     let a = c.args in
-    let stop = c.chunk_end-stop.ensures in
+    let stop = c.chunk_end.ensures in
     let down = leaf_down a.level a.map a.word c.rule_of-rule.ensures c.in-Down.is (omega arith) in
     ap₂ (λ (x y : ℕ). 1 + x + y)
     (c.count_leaf.ensures

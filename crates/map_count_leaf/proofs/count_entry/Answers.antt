@@ -1,7 +1,6 @@
 -- `count_entry`: each way through the code by its law.
 use Rattle.std.proofs.Common.{◌≡◌, ℕ, ◌+◌, ◌-◌, ◌^◌, ◌≤◌, ◌<◌, sym, ap, ◌∙◌, arith}
 use mathlib.Core.Path.{subst⁻¹}
-use Rattle.region.specs.Region.{region}
 use Rattle.map_rules.specs.declared.Map.{Map}
 use Rattle.map_rules.specs.Rules.{rule_of, chunk_map}
 use Rattle.map_rules.specs.Fit.{Fit}
@@ -15,7 +14,7 @@ use Rattle.map_count_leaf.proofs.count_entry.Goals.{Start}
 
 -- the chunk
 abbrev chunk : Start → Map
-chunk c = chunk_map c.args.map (region c.args.start.0 c.args.end.0) c.args.frame.0
+chunk c = chunk_map c.args.map c.args.region c.args.frame.0
 
 -- what `rule_of` and `count_leaf` ask of the map of a chunk
 abbrev Ready : Map → Type 0

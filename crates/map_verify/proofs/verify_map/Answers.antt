@@ -7,6 +7,7 @@ use Rattle.entry.specs.Word.{only}
 use Rattle.pool.specs.Sound.{flag_set}
 use Rattle.region_verify.specs.Verify.{end_fits}
 use Rattle.map_verify.specs.Verify.{frame_asked, ask_end, ask_invalid, ask_set, ask_region, ask_frame}
+use Rattle.std.proofs.lemmas.Result.{err_from_is_err_and}
 use Rattle.map_verify.proofs.verify_map.Goals as goal
 
 ends : (c : Else-not-end_fits) → end_fits c.args.end ≡ true
@@ -34,12 +35,14 @@ returns-then-not-are_from c =
     (ap (λ (x : ℕ). only x a.map.flags) (sym c.flag_set.ensures) ∙ sym c.are_from.ensures
     ∙ c.if-not-are_from.true)
 
-pub returns-in_default : goal.returns-in_default
-returns-in_default c =
+pub returns-in_err-verify_region : goal.returns-in_err-verify_region
+returns-in_err-verify_region c =
     let a = c.args in
-    ask_region a.handle a.end a.map (ends (goal.at.returns-in_default c).Else-not-end_fits)
-    c.if-map-eq1.false (from (goal.at.returns-in_default c).Else-not-are_from)
-    c.verify_region-outcome.ensures _ c.in_default.is
+    let refused = c.in_err-verify_region.was in
+    let passed_on = err_from_is_err_and c.from_residual.result c.from_residual.ensures.1 in
+    rw (passed_on.1, passed_on.2)
+    (sym refused ∙ ask_region a.handle a.end a.map (ends (goal.at.returns-in_err-verify_region c).Else-not-end_fits)
+    c.if-map-eq1.false (from (goal.at.returns-in_err-verify_region c).Else-not-are_from) c.verify_region.ensures _ refused)
 
 pub returns : goal.returns
 returns c =
@@ -48,4 +51,4 @@ returns c =
     ∙ ap (λ (x : ℕ). frame_asked a.map.frame.0 x) c.len.ensures
     ∙ ask_frame a.handle a.end a.map (ends (goal.at.returns c).Else-not-end_fits)
     c.if-map-eq1.false (from (goal.at.returns c).Else-not-are_from)
-    c.verify_region-outcome.ensures c.in-Accepted.is
+    c.verify_region.ensures c.in_ok-verify_region.was

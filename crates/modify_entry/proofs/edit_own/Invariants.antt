@@ -1,16 +1,10 @@
-use mathlib.Core.Path.{◌≡◌}
-use Prim.Native.Nat.{◌-◌}
-use lib.ListN.{length}
-use Rattle.region.specs.Region.{region}
-use Rattle.region.specs.Each.{each_chunk}
+use Rattle.std.proofs.Common.{◌≡◌, length}
+use Rattle.region.specs.Each.{each_left}
 use Rattle.modify_entry.specs.Own.{noted, own_chunk}
 use Rattle.modify_entry.proofs.edit_own.Given as goal
 
-abbrev pub invariant-loop-at : goal.invariant-loop-at
-invariant-loop-at l =
-    (length l.words ≡ length l.initial.words) × (length l.list ≡ length l.initial.list)
-    × (each_chunk l.level (own_chunk l.k l.level l.edit) (region l.at l.edit.region.end.0) (noted l.words l.list l.count)
-    ≡ each_chunk l.level (own_chunk l.k l.level l.edit) l.edit.region (noted l.initial.words l.initial.list l.before))
-
-abbrev pub decreases-loop-at : goal.decreases-loop-at
-decreases-loop-at l = l.edit.region.end.0 - l.at
+abbrev pub invariant-loop-chunk : goal.invariant-loop-chunk
+invariant-loop-chunk l =
+    (length l.words ≡ length l.initial.words)
+    × (each_left (own_chunk l.k l.level l.edit) l.chunk-iterator (noted l.words l.list l.count)
+    ≡ each_left (own_chunk l.k l.level l.edit) l.initial.chunk-iterator (noted l.initial.words l.initial.list l.before))

@@ -1,6 +1,5 @@
 use mathlib.Core.Path.{◌≡◌}
-use Prim.Native.Nat.{ℕ, ◌-◌, ◌≤◌, ◌+◌}
-use lib.ListN.{length}
+use Prim.Native.Nat.{ℕ, ◌-◌, ◌+◌}
 use Rattle.laws.specs.Slot.{iter}
 use Rattle.pool.specs.State.{St, st}
 use Rattle.pool.specs.declared.Handle.{Handle}
@@ -13,11 +12,7 @@ below level handle = λ j t. free_tree (3 - (level + 1)) handle j t
 
 abbrev pub invariant-loop-i : goal.invariant-loop-i
 invariant-loop-i l =
-    (l.i ≤ 512) × (length l.words ≡ length l.initial.words) × (length l.ledger ≡ length l.initial.ledger)
-    × (st l.words l.ledger ≡ iter (free_slot (below l.level l.handle) l.handle l.k l.level) l.i (st l.initial.words l.initial.ledger))
-
-abbrev pub decreases-loop-i : goal.decreases-loop-i
-decreases-loop-i l = 512 - l.i
+    st l.words l.ledger ≡ iter (free_slot (below l.level l.handle) l.handle l.k l.level) l.i (st l.initial.words l.initial.ledger)
 
 abbrev pub decreases-free : goal.decreases-free
 decreases-free l = 3 - l.level

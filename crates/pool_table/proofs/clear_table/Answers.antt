@@ -12,7 +12,7 @@ use Rattle.pool_table.proofs.clear_table.Goals as goal
 pub returns : goal.returns
 returns c =
     let a = c.args in
-    let part = c.zero_words in
+    let part = c.zero in
     ap (λ (w : List ℕ). st w (set a.ledger.now a.k 0))
-    (zeroed_part a.k a.words.now part.new.words (omega arith) part.ensures)
+    (zeroed_part a.k a.words.now part.new.numbers (omega arith) part.ensures)
     ∙ clear_is a.k (st a.words.now a.ledger.now)

@@ -1,14 +1,12 @@
 -- Page image, the whole call: one table's 512 words, little-endian, into 4096 bytes. Refusals 1 (a table number not below n counts), 11.
-use Rattle.std.specs.Prelude.{◌≡◌, true, false, cond, List, ℕ, ◌*◌, ◌≤◌, ◌<◌, ltb, eqb, length}
+use Rattle.std.specs.Prelude.{◌≡◌, true, false, cond, List, ℕ, ◌*◌, ◌≤◌, ◌<◌, ltb, eqb, length, Err}
 use borrow.Author.Tests.{lt-ltb, le-ltb, eq-eqb, ne_eqb}
 use Rattle.laws.specs.Part.{part_of}
 use Rattle.pool.specs.State.{St, tables}
-use Rattle.pool.specs.Refuse.{shaped, granted}
+use Rattle.pool.specs.Refuse.{shaped, granted, Outcome}
 use Rattle.image_bytes.specs.Image.{image_of}
 use Rattle.pool.specs.declared.Handle.{Handle}
 use Rattle.pool.specs.declared.Refusal.TheVariants.{Shape, Short}
-use Rattle.std.specs.Prelude.{Err}
-use Rattle.pool.specs.Refuse.{Outcome}
 
 -- the answer and the page
 pub record Imaged : Type 0 where

@@ -12,6 +12,7 @@ use map_rules::{Map, Rule};
 use pool::Handle;
 
 // The new tables for every chunk of the map in table k of level 2: one for each entry that is no table and is split.
+#[tactic(auto, unfolding(address_slot::specs::Slot::entry_index))]
 fn count_last(words: &[u64], ledger: &[u32], handle: Handle, k: usize, map: Map) -> u64
     requires { (length words.now ≡ 512 * length ledger.now) × (k < length ledger.now) × Fit map }
     ensures { result ≡ closed 1 handle (st words.now ledger.now) k map }
@@ -37,6 +38,7 @@ fn count_last(words: &[u64], ledger: &[u32], handle: Handle, k: usize, map: Map)
 }
 
 // The new tables for every chunk of the map in table k: only entries that exist are visited.
+#[tactic(auto, unfolding(address_slot::specs::Slot::entry_index))]
 fn count_new(words: &[u64], ledger: &[u32], handle: Handle, k: usize, level: usize, map: Map) -> u64
     requires { (length words.now ≡ 512 * length ledger.now) × (k < length ledger.now) × (level ≤ 3) × Fit map }
     ensures { result ≡ closed (3 - level) handle (st words.now ledger.now) k map }
@@ -74,6 +76,7 @@ fn count_new(words: &[u64], ledger: &[u32], handle: Handle, k: usize, level: usi
 
 // The new tables for a map in the root where they are more than are free, else 0. The tables are looked into only where the entries that
 // the region meets are more.
+#[tactic(auto, using(crate::specs::Laws::over_none, crate::specs::Laws::over_some))]
 pub fn count_over(words: &[u64], ledger: &[u32], handle: Handle, map: Map, free: u64) -> u64
     requires { (length words.now ≡ 512 * length ledger.now) × (0 < length ledger.now) × (handle.level ≤ 3) × Fit map }
     ensures { result ≡ over free (closed (3 - handle.level) handle (st words.now ledger.now) 0 map) }

@@ -39,6 +39,7 @@ pub fn count_most(level: usize, start: u64, end: u64) -> u64
 }
 
 // The entries of this level that are split in a region that begins with one, where rule 2 fits nothing.
+#[tactic(auto, using(crate::proofs::Masks::masks), unfolding(map_count_spec::specs::Closed::rest_at, map_count_spec::specs::Closed::last_part))]
 fn count_at(level: usize, map: Map) -> u64
     ensures { result ≡ rest_at level map }
 {
@@ -75,6 +76,7 @@ pub fn count_rest(level: usize, map: Map) -> u64
 
 // Whether rule 2, where it doesn't fit the chunk, fits no part of it: a hole without address below the chunk's frame, or a block at a
 // multiple of its size. Asked of chunks that begin with an entry of the next level.
+#[tactic(auto, using(crate::proofs::Masks::misses))]
 pub fn is_missed(level: usize, map: Map, word: u64) -> bool
     requires { level < 2 }
     ensures { result ≡ missedb level map word }
@@ -97,6 +99,7 @@ pub fn is_missed(level: usize, map: Map, word: u64) -> bool
 }
 
 // A split's word for the address, where it is a block.
+#[tactic(auto, using(crate::proofs::Masks::parts))]
 fn part_of(level: usize, word: u64, va: u64) -> u64
     requires { level + 1 < 3 }
     ensures { result ≡ child_word level word va }

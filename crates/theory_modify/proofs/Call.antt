@@ -16,7 +16,8 @@ use Rattle.modify_entry.specs.declared.Edit.{Edit}
 use Rattle.modify_entry.specs.Own.{Numbered, numbered}
 use Rattle.modify_range.specs.Range.{Work, work}
 use Rattle.modify_verify.specs.Verify.{asked_edit, verify_survey, survey_full, survey_off, survey_broken, survey_short, survey_accepted}
-use Rattle.modify.specs.Call.{ModifyAnswer, Modifying, modifying, refused, answer_of, edit_tables, modify_sound, sound_not, sound_refused, sound_edited}
+use Rattle.modify.specs.Call.{ModifyAnswer, Modifying, modifying, refused, answer_of, edit_tables, modify_sound, sound_not, sound_refused}
+use Rattle.modify.specs.Call.{sound_edited}
 use Rattle.modify.specs.Call.{call_misshaped, call-refused, call-asked, nothing}
 use Rattle.theory_forest.specs.Tree.{Tree}
 use Rattle.theory_sound.specs.Codec.{shaped_placed, root_tree}

@@ -1,10 +1,8 @@
 -- `count_entry`: each way through the code by its law.
-use Rattle.std.proofs.Common.{◌≡◌, ℕ, ◌+◌, ◌-◌, ◌^◌, ◌≤◌, ◌<◌, sym, ap, ◌∙◌, arith}
-use mathlib.Core.Path.{subst⁻¹}
+use Rattle.std.proofs.Common.{◌≡◌, ℕ, ◌+◌, ◌-◌, sym, ap, ◌∙◌, arith}
 use Rattle.map_rules.specs.declared.Map.{Map}
 use Rattle.map_rules.specs.Rules.{rule_of, chunk_map}
-use Rattle.map_rules.specs.Fit.{Fit}
-use Rattle.map_count_spec.specs.Closed.{rests, closed_leaf}
+use Rattle.map_count_spec.specs.Closed.{rests}
 use Rattle.map_count_spec.specs.Missed.{missedb, down_misses, missed_starts, missed_says}
 use Rattle.map_count_spec.specs.Count.{leaf_missed}
 use Rattle.map_count_spec.specs.Ends.{leaf_none, rests_fit, length-fits}
@@ -16,29 +14,10 @@ use Rattle.map_count_leaf.proofs.count_entry.Goals.{Start}
 abbrev chunk : Start → Map
 chunk c = chunk_map c.args.map c.args.region c.args.frame.0
 
--- what `rule_of` and `count_leaf` ask of the map of a chunk
-abbrev Ready : Map → Type 0
-Ready m = Fit m × (m.region.start.0 < m.region.end.0)
-
-pub rule_of-rule-requires : goal.rule_of-rule-requires
-rule_of-rule-requires c = subst⁻¹ Ready c.chunk_of-chunk.ensures (c.requires.0, c.requires.1.some)
-
 pub returns-in_default : goal.returns-in_default
 returns-in_default c =
     let m = chunk (goal.at.returns-in_default c).Start in
     leaf_none c.args.level m c.args.word (cc) (no_down c.rule_of-rule.result c.in_default.not-Down)
-
-pub is_missed-requires : goal.is_missed-requires
-is_missed-requires c = c.requires.2
-
-pub overflow_add-level : goal.overflow_add-level
-overflow_add-level c = omega (arith, c.requires.2)
-
-pub count_rest-requires : goal.count_rest-requires
-count_rest-requires c =
-    let m = chunk (goal.at.count_rest-requires c).Start in
-    subst⁻¹ (λ (m : Map). m.region.end.0 - m.region.start.0 ≤ 2 ^ 48) c.chunk_of-chunk.ensures
-    (length-fits c.args.level m c.requires.0 c.requires.1.some)
 
 pub overflow_add-result : goal.overflow_add-result
 overflow_add-result c =
@@ -58,12 +37,3 @@ returns-then-is_missed c =
     let missed = missed_says a.level m a.word (down_misses a.level m a.word (omega (arith, c.requires.2)) down) yes-missed in
     ap (λ (x : ℕ). 1 + x) rest
     ∙ leaf_missed a.level m a.word c.requires.2 c.requires.1 (missed_starts a.level m a.word yes-missed) missed down
-
-pub count_leaf-requires : goal.count_leaf-requires
-count_leaf-requires c =
-    let p = c.requires in subst⁻¹ Ready c.chunk_of-looked.ensures (p.0, p.1.some)
-
-pub returns : goal.returns
-returns c =
-    let a = c.args in
-    c.count_leaf.ensures ∙ ap (λ (m : Map). closed_leaf (3 - a.level) m a.word) c.chunk_of-looked.ensures

@@ -1,96 +1,37 @@
-// A command by its number, with its values: the part of the pool that it works on, and the call.
-use crate::calls;
-use bench_session::commands::{CHECK, EXPECT, MAKE};
-use bench_session::{Answer, Args, Bench, Handle};
-use bench_view::MOST_TABLES;
+// A command on the pool that it is lent: a call, or what is shown or written by hand.
+use crate::room::Pool;
+use bench_session::{Answer, Ask, Command};
 use std::io;
-use text_access::face::TABLE_WORDS;
-use text_words::MOST_VALUES;
 
-// A command on the pool, its words and its ledger. `answer` stays if it is no call.
-fn on_pool(
-    out: &impl Print,
-    command: u64,
-    count: usize,
-    words: &mut [u64],
-    ledger: &mut [u32],
-    handle: Handle,
-    args: Args,
-    answer: Answer,
-) -> io::Result<Answer> {
-    if command < CHECK {
-        bench_session::by_hand(out, command, count, words, ledger, args)?;
-        return Ok(answer);
+// Does what a line asks, and says it. What a call answered; None where the command is no call.
+pub fn run(out: &impl Print, ask: &Ask, pool: &mut Pool<'_>) -> io::Result<Option<Answer>> {
+    let arguments = ask.arguments();
+    match ask.command {
+        Command::Expect | Command::Words | Command::Ledger | Command::Put | Command::Enter =>
+            by_hand(out, ask, pool).map(|()| None),
+        Command::Check => pool.check(out).map(Some),
+        Command::Look => pool.look(out, arguments).map(Some),
+        Command::List => pool.list(out, arguments).map(Some),
+        Command::Image => pool.image(out, arguments).map(Some),
+        Command::Make => pool.make(out).map(Some),
+        Command::Map | Command::Unmap => pool.map(out, arguments).map(Some),
+        Command::Modify => pool.modify(out, arguments, false).map(Some),
+        Command::Live => pool.modify(out, arguments, true).map(Some),
+        Command::Compact => pool.compact(out).map(Some),
     }
-    if command < MAKE {
-        return calls::read(out, command, words, ledger, handle, args);
-    }
-    calls::write(out, command, words, ledger, handle, args)
 }
 
-// A command on the first so many tables of the words, and as many numbers of the ledger. `answer` stays if there are fewer.
-fn lend(
-    out: &impl Print,
-    command: u64,
-    count: usize,
-    words: &mut [u64],
-    ledger: &mut [u32],
-    tables: usize,
-    handle: Handle,
-    args: Args,
-    answer: Answer,
-) -> io::Result<Answer> {
-    if ledger.len() < tables {
-        return Ok(answer);
+// Shows the pool, or writes it by hand; any other command leaves it alone.
+fn by_hand(out: &impl Print, ask: &Ask, pool: &mut Pool<'_>) -> io::Result<()> {
+    let [first, second, third, ..] = ask.arguments();
+    match ask.command {
+        Command::Words if ask.values[0].is_none() => bench_view::say_words_not_zero(
+            out, pool.words,
+        ),
+        Command::Words => bench_view::say_words(out, pool.words, first, second, third),
+        Command::Ledger => bench_view::say_ledger(out, pool.ledger),
+        Command::Put => bench_view::say(out, bench_view::put(pool.words, first, second, third)),
+        Command::Enter => bench_view::say(out, bench_view::enter(pool.ledger, first, second)),
+        _ => Ok(()),
     }
-    if words.len() / TABLE_WORDS < tables {
-        return Ok(answer);
-    }
-    on_pool(
-        out,
-        command,
-        count,
-        &mut words[..TABLE_WORDS * tables],
-        &mut ledger[..tables],
-        handle,
-        args,
-        answer,
-    )
-}
-
-// A command by its number, in a line of the script.
-pub fn run(
-    out: &impl Print,
-    command: u64,
-    count: usize,
-    words: &mut [u64],
-    ledger: &mut [u32],
-    bench: Bench,
-    values: &[u64; MOST_VALUES],
-    number: u64,
-) -> io::Result<Bench> {
-    if command == EXPECT {
-        return bench_session::expect(out, bench, values, count, number);
-    }
-    let args = bench_session::args_of(values);
-    let tables = bench_session::tables_of(command, bench.tables, args.first);
-    if MOST_TABLES < tables {
-        bench_session::say_no_pool(out, number, tables)?;
-        return Ok(bench.missed());
-    }
-    let old = bench.handle;
-    let last = bench.answer;
-    let handle = bench_session::handle_of(command, old, args);
-    let answer = lend(
-        out,
-        command,
-        count,
-        words,
-        ledger,
-        tables as usize,
-        handle,
-        args,
-        last,
-    )?;
-    Ok(bench_session::after(command, bench, tables, handle, answer))
 }

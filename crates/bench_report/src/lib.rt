@@ -1,13 +1,13 @@
-// Answers in words that a person reads, written to standard output.
-// Leans on text_forms for the texts, on text_access for a byte. No function needs anything of its caller.
+// Answers in words that a person reads: an entry, what a walk finds, a list that a call filled, a page image.
+// Leans on text_forms for an address, on entry for a word, on look_up for what a walk finds. No function needs anything of its caller.
 #![tactic(auto)]
 
-mod entry;
+mod entry_row;
 mod listing;
+mod looked;
 mod page;
-mod refusal;
 
-pub use entry::{say_entry, say_looked};
-pub use listing::{LIST_NUMBERS, say_lines, say_numbers};
+pub use entry_row::{EntryRow, Flags};
+pub use listing::{LINE_NUMBERS, MOST_LINES, say_lines, say_page_numbers};
+pub use looked::LookedAt;
 pub use page::say_page;
-pub use refusal::say_refusal;

@@ -1,17 +1,15 @@
-// What the bench keeps from line to line, what it says beside the calls, and what a script expects of an answer.
-// Leans on text_script for a line, on text_forms, bench_report and bench_view for the words.
+// What the bench keeps from line to line: what a line asks, what a call answered, whether that is as a script expects.
+// Leans on text_script for a line's values, on bench_report and bench_view for the words, on ptb_answer for a refusal's number.
 // No function needs anything of its caller.
 #![tactic(auto)]
 
-mod command;
-pub mod commands;
-mod compare;
+mod answers;
+mod asking;
+mod commands;
 mod expected;
-mod say;
 mod state;
 
-pub use command::{after, args_of, by_hand, handle_of, tables_of};
-pub use compare::expect;
-pub use expected::{Answer, answered};
-pub use say::{DONE, ENTRIES, IN_USE, close, complain, echo, say_answer, say_no_pool};
-pub use state::{Args, Bench, Handle};
+pub use answers::{Accepted, Answer, say_answer};
+pub use asking::{Ask, Unclear, asked};
+pub use commands::Command;
+pub use state::{Bench, Made};

@@ -1,80 +1,99 @@
 // What the bench keeps from line to line: its pool, what the last call answered, and its tallies.
-use crate::expected::{Answer, NO_CALL};
-use std::num::wrapping_add_u64;
+ghost use Rattle.std.specs.Prelude.{◌≤◌};
+ghost use Rattle.bench_view.specs.declared.TheConstants.{MOST_TABLES};
 
-// The handle of a pool.
-#[derive(Clone, Copy)]
-pub struct Handle {
-    pub base: u64,
-    pub level: u64,
-    pub range: u64,
-}
+use crate::answers::{Answer, say_answer};
+use crate::asking::{Ask, Unclear};
+use crate::commands::Command;
+use crate::expected::agrees;
+use bench_view::MOST_TABLES;
+use pool::Handle;
+use std::io;
+use text_forms::AnswerValues;
+use text_script::Values;
 
-// The values of a command, by their place.
+// A pool that make is asked for, or has made: how many tables it has, no more than there is room for, and its handle.
 #[derive(Clone, Copy)]
-pub struct Args {
-    pub first: u64,
-    pub second: u64,
-    pub third: u64,
-    pub fourth: u64,
-    pub fifth: u64,
+pub struct Made {
+    pub tables: usize,
+    pub handle: Handle,
+    ghost has_room: { tables ≤ MOST_TABLES },
 }
 
 // What the bench keeps.
-#[derive(Drop)]
+#[derive(Default, Drop)]
 pub struct Bench {
-    // The tables of the pool, 0 before the first make.
-    pub tables: u64,
-    // The handle that the pool was made with.
-    pub handle: Handle,
+    // The pool that the last accepted make made.
+    made: Option<Made>,
     // What the last call answered.
-    pub answer: Answer,
+    last: Option<Answer>,
     // How many answers were as expected.
-    pub held: u64,
+    held: u64,
     // How many answers were not as expected.
-    pub failed: u64,
+    failed: u64,
     // How many lines were not understood.
-    pub wrong: u64,
+    unclear: u64,
 }
 
 impl Bench {
-    // Before the first line: no pool, and no call.
-    pub fn new() -> Self {
-        let handle = Handle {
-            base: 0,
-            level: 0,
-            range: 0,
-        };
-        let answer = Answer {
-            refusal: NO_CALL,
-            first: 0,
-            second: 0,
-            third: 0,
-            fourth: 0,
-        };
-        Self {
-            tables: 0,
-            handle,
-            answer,
-            held: 0,
-            failed: 0,
-            wrong: 0,
+    // The pool that a command works on: make's is the one that it asks for.
+    pub fn pool_for(&self, ask: &Ask) -> Result<Made, Unclear<'static>> {
+        if ask.command != Command::Make {
+            return self.made.ok_or(Unclear::NoPool);
+        }
+        let [tables, base, level, range, ..] = ask.arguments();
+        if MOST_TABLES < tables {
+            return Err(Unclear::NoRoom);
+        }
+        Ok(Made {
+            tables: tables as usize,
+            handle: pool_handle::handle_of(base, level, range),
+        })
+    }
+
+    // Keeps what a call answered, and the pool that make made.
+    pub fn keep(&mut self, command: Command, made: Made, answer: Answer) {
+        self.last = Some(answer);
+        if command == Command::Make && answer.is_ok() {
+            self.made = Some(made);
         }
     }
 
-    // After a line that expects an answer.
-    pub fn compared(mut self, held: bool) -> Self {
-        if held {
-            self.held = wrapping_add_u64(self.held, 1);
-        } else {
-            self.failed = wrapping_add_u64(self.failed, 1);
+    // Says whether the last answer is as a line expects, and what it was if it is not.
+    pub fn expect(&mut self, out: &impl Print, number: u64, values: &Values) -> io::Result<()> {
+        if self.last.is_some_and(|answer| agrees(answer, values)) {
+            self.held = self.held.wrapping_add(1);
+            return out.println("  as expected");
         }
-        self
+        self.failed = self.failed.wrapping_add(1);
+        println!(out; "  line {number}: NOT AS EXPECTED, the call before answered")?;
+        match self.last {
+            None => out.println("  nothing: no call came before"),
+            Some(Ok(accepted)) => println!(out;
+                "  accepted, with{}",
+                AnswerValues(accepted.values())
+            ),
+            Some(refused) => say_answer(out, refused),
+        }
     }
 
-    // After a line that is not understood.
-    pub fn missed(mut self) -> Self {
-        self.wrong = wrapping_add_u64(self.wrong, 1);
-        self
+    // Says why a line is not understood.
+    pub fn complain(
+        &mut self,
+        out: &impl Print,
+        number: u64,
+        unclear: Unclear<'_>,
+    ) -> io::Result<()> {
+        self.unclear = self.unclear.wrapping_add(1);
+        unclear.say(out, number)
+    }
+
+    // Says the tallies.
+    pub fn close(&self, out: &impl Print) -> io::Result<()> {
+        out.println("")?;
+        println!(out;
+            "answers as expected: {}, not as expected: {}, lines not understood: {}",
+            self.held, self.failed, self.unclear
+        )
     }
 }

@@ -1,93 +1,108 @@
-// The kinds of line, and what each says. Up to DIFFERENT the numbers are also those of the tallies.
+// The kinds of line that the list has, and what each says.
+ghost use Rattle.std.specs.Prelude.{◌≤◌};
+ghost use Rattle.replay_lines.specs.declared.numbers.TheConstants.{NUMBERS};
 
-// The call make: its handle, and what it is lent, are those of the calls from there on.
-pub const MAKE: usize = 0;
+use crate::numbers::Fault;
+use std::fmt;
 
-// No call: other words, ledger numbers and another handle are lent from there on.
-pub const LEND: usize = 1;
+// How many kinds of line there are.
+pub const KINDS: usize = 11;
 
-// No call: another hand writes a word.
-pub const WORD: usize = 2;
+// What a line of the list does.
+#[derive(Clone, Copy, Debug, PartialEq, Eq)]
+pub enum Kind {
+    // The call make: its handle, and what it is lent, are those of the calls from there on.
+    Make,
+    // No call: other words, ledger numbers and another handle are lent from there on.
+    Lend,
+    // No call: another hand writes a word.
+    Word,
+    // No call: another hand writes a ledger number.
+    Number,
+    // The call map.
+    Map,
+    // The call modify.
+    Modify,
+    // The call compact.
+    Compact,
+    // The call look up.
+    LookUp,
+    // The call list.
+    List,
+    // The call page image.
+    Page,
+    // The call check.
+    Check,
+}
 
-// No call: another hand writes a ledger number.
-pub const NUMBER: usize = 3;
+impl Kind {
+    // Every kind, in the order of the tallies.
+    pub const ALL: [Kind; KINDS] = [
+        Kind::Make,
+        Kind::Lend,
+        Kind::Word,
+        Kind::Number,
+        Kind::Map,
+        Kind::Modify,
+        Kind::Compact,
+        Kind::LookUp,
+        Kind::List,
+        Kind::Page,
+        Kind::Check,
+    ];
 
-// The call map.
-pub const MAP: usize = 4;
-
-// The call modify.
-pub const MODIFY: usize = 5;
-
-// The call compact.
-pub const COMPACT: usize = 6;
-
-// The call look up.
-pub const LOOK_UP: usize = 7;
-
-// The call list.
-pub const LIST: usize = 8;
-
-// The call page image.
-pub const PAGE: usize = 9;
-
-// The call check.
-pub const CHECK: usize = 10;
-
-// No kind of line: the tally of the lines that differ.
-pub const DIFFERENT: usize = 11;
-
-// No line of the list.
-pub const NO_LINE: usize = 12;
-
-// A line that is passed over.
-pub const COMMENT: usize = 13;
-
-// No line: the end of the input.
-pub const END: usize = 14;
-
-// How many numbers a line has that says no call: more than any call, so that no line has them.
-const NO_COUNT: usize = 12;
-
-// How much of the list a page image is lent: one number, for its sum.
-const PAGE_ROOM: usize = 1;
-
-// The kind of a line by the letter that it begins with.
-pub fn kind_of(letter: u8) -> usize {
-    match letter {
-        b'n' => MAKE,
-        b'o' => LEND,
-        b'w' => WORD,
-        b'g' => NUMBER,
-        b'm' => MAP,
-        b'e' => MODIFY,
-        b'c' => COMPACT,
-        b'u' => LOOK_UP,
-        b'l' => LIST,
-        b'p' => PAGE,
-        b's' => CHECK,
-        b'#' => COMMENT,
-        _ => NO_LINE,
+    // How many numbers a line of the kind has, as the head of the stored list says.
+    pub fn numbers(self) -> usize
+        ensures { result ≤ NUMBERS }
+    {
+        match self {
+            Kind::Modify => 6,
+            Kind::Make | Kind::Lend | Kind::Map => 5,
+            Kind::List => 3,
+            Kind::Word | Kind::Number | Kind::Page => 2,
+            Kind::LookUp => 1,
+            Kind::Compact | Kind::Check => 0,
+        }
     }
 }
 
-// How many numbers the call of a line has, by its kind, as the head of the stored list says.
-pub fn asked(kind: usize) -> usize {
-    match kind {
-        MAKE | LEND | MAP => 5,
-        MODIFY => 6,
-        LIST => 3,
-        WORD | NUMBER | PAGE => 2,
-        LOOK_UP => 1,
-        COMPACT | CHECK => 0,
-        _ => NO_COUNT,
+impl TryFrom<u8> for Kind {
+    type Error = Fault;
+
+    // The kind of a line by the letter that it begins with.
+    fn try_from(letter: u8) -> Result<Kind, Fault> {
+        match letter {
+            b'n' => Ok(Kind::Make),
+            b'o' => Ok(Kind::Lend),
+            b'w' => Ok(Kind::Word),
+            b'g' => Ok(Kind::Number),
+            b'm' => Ok(Kind::Map),
+            b'e' => Ok(Kind::Modify),
+            b'c' => Ok(Kind::Compact),
+            b'u' => Ok(Kind::LookUp),
+            b'l' => Ok(Kind::List),
+            b'p' => Ok(Kind::Page),
+            b's' => Ok(Kind::Check),
+            _ => Err(Fault::NoKind),
+        }
     }
 }
 
-// How much of the list a call is lent, if its first number is this.
-pub fn room_of(kind: usize, first: u64) -> usize {
-    match kind {
-        MODIFY | LIST => first as usize,
-        PAGE => PAGE_ROOM,
-        _ => 0,
+impl fmt::Display for Kind {
+    // The name of the kind in the tallies.
+    fn fmt<W: fmt::Write>(&self, f: &mut fmt::Formatter<W>) -> fmt::Result {
+        f.write_str(match self {
+            Kind::Make => "make",
+            Kind::Lend => "lent anew",
+            Kind::Word => "words by hand",
+            Kind::Number => "ledger numbers by hand",
+            Kind::Map => "map",
+            Kind::Modify => "modify",
+            Kind::Compact => "compact",
+            Kind::LookUp => "look up",
+            Kind::List => "list",
+            Kind::Page => "page image",
+            Kind::Check => "check",
+        })
     }
 }

@@ -1,37 +1,89 @@
-// A stored list of calls with their answers: its lines by kind, and the tallies of what agrees.
-// Leans on text_script for a line, on text_forms for a name, on text_access for what another hand writes.
-// No function needs anything of its caller, and each fails only where a read or a write fails.
+// A stored list of calls with their replies: its lines, what each lends and asks, and the tallies of what agrees.
+// Leans on text_script for a line, on text_words for a digit, on text_access for the sizes of a reply.
+// No function needs anything of its caller, and each fails only where a read fails.
 #![tactic(auto)]
 
-mod call;
-mod hand;
-pub mod kind;
+mod entry;
+mod kind;
+mod lent;
 mod numbers;
-mod tally;
+mod reply;
+mod tallies;
 
-pub use call::{Call, call_of, none};
-pub use hand::{put_number, put_word};
-pub use numbers::{PLACES, UNWRITTEN, UNWRITTEN_BYTE};
+pub use entry::{Entry, NoEntry};
+pub use kind::Kind;
+pub use lent::{Handle, Lent};
+pub use numbers::{Fault, NUMBERS};
+pub use reply::{NO_CALL, Reply, UNWRITTEN};
 use std::io;
 use std::io::Read;
-pub use tally::{TALLIES, close, compare};
-use text_script::{LINE_BYTES, Line};
+pub use tallies::{Difference, Tallies};
+use text_script::LINE_BYTES;
 
-// In place of a refusal's number: no call was made.
-pub const NO_CALL: u64 = 99;
+// What a comment begins with.
+const COMMENT: u8 = b'#';
 
-// The kind of the next line of the input. Its numbers go over zeroes.
-pub fn next(input: &mut impl Read, line: &mut [u64; PLACES]) -> io::Result<usize> {
+// A line of the input.
+#[derive(Clone, Copy, Debug, PartialEq, Eq)]
+pub enum Line {
+    // A line that is passed over.
+    Comment,
+    // A line of the list.
+    Entry(Entry),
+    // A line that is neither.
+    Other(NoEntry),
+}
+
+// A line by its bytes and its length, which is larger where not all bytes were kept.
+fn line_of(text: &[u8; LINE_BYTES], length: usize) -> Line {
+    let kept = &text[..length.min(LINE_BYTES)];
+    if kept.first() == Some(&COMMENT) {
+        return Line::Comment;
+    }
+    match Entry::try_from(kept) {
+        Ok(entry) if LINE_BYTES < length => Line::Other(NoEntry {
+            fault: Fault::TooLong,
+            said: entry.said,
+        }),
+        Ok(entry) => Line::Entry(entry),
+        Err(other) => Line::Other(other),
+    }
+}
+
+// The next line of the input, None at its end.
+pub fn next(input: &mut impl Read) -> io::Result<Option<Line>> {
     let mut text = [0u8; LINE_BYTES];
-    let Line::Length(length) = text_script::read_line(input, &mut text)? else {
-        return Ok(kind::END);
-    };
-    let kind = kind::kind_of(text[0]);
-    if kind == kind::COMMENT {
-        return Ok(kind);
+    let length = text_script::read_line(input, &mut text)?;
+    Ok(length.map(|length| line_of(&text, length)))
+}
+
+#[cfg(test)]
+mod tests {
+    use super::*;
+
+    // What is kept of a reply is what stands before the fault, a dash as UNWRITTEN.
+    #[test]
+    fn keeps_of_a_bad_reply_what_was_read(rt: HostRuntime) {
+        let mut input = b"c=1 2-3 4\n\r\nu A=0\n# c\nm 1 2=0\nx=1\nc=1 2 3 4 5 6".as_slice();
+        let bad = [
+            (Fault::TooLarge, Reply::from([1, 2, UNWRITTEN, 0, 0, 0])),
+            (Fault::NoKind, Reply::default()),
+            (Fault::NoDigit, Reply::default()),
+        ];
+        for (fault, said) in bad {
+            let line = next(&mut input).ok().flatten();
+            assert_eq!(rt; line, Some(Line::Other(NoEntry { fault, said })));
+        }
+        assert_eq!(rt; next(&mut input).ok().flatten(), Some(Line::Comment));
+        let other = |fault: Fault| Some(Line::Other(NoEntry::from(fault)));
+        assert_eq!(rt; next(&mut input).ok().flatten(), other(Fault::WrongCount));
+        assert_eq!(rt; next(&mut input).ok().flatten(), other(Fault::NoKind));
+        let entry = Entry {
+            kind: Kind::Compact,
+            numbers: [0; NUMBERS],
+            said: Reply::from([1, 2, 3, 4, 5, 6]),
+        };
+        assert_eq!(rt; next(&mut input).ok().flatten(), Some(Line::Entry(entry)));
+        assert_eq!(rt; next(&mut input).ok().flatten(), None);
     }
-    if numbers::numbers_of(&text, length, kind::asked(kind), line) != PLACES {
-        return Ok(kind::NO_LINE);
-    }
-    Ok(kind)
 }

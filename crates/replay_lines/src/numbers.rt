@@ -1,96 +1,80 @@
-// A line of the list: a letter, the call's numbers, each after a blank, and after an equals sign the answer's: its number, four
-// values, the sum. All are hexadecimal; a dash stands for a value that the call does not write. Each number has its place: the
-// call's six from 0 on, the answer's six from ANSWER on.
-use text_script::LINE_BYTES;
-use text_words::{DECIMAL, HEXADECIMAL, HEXADECIMAL_FULL, NO_DIGIT};
+// The numbers of one part of a line, of the call or of the reply. All are hexadecimal, in small letters.
+use crate::reply::UNWRITTEN;
 
-// What stands in an answer and in a list before a call.
-pub const UNWRITTEN: u64 = 0x5555_5555_5555_5555;
+// The most numbers that a part of a line has.
+pub const NUMBERS: usize = 6;
 
-// What stands in a page before a call.
-pub const UNWRITTEN_BYTE: u8 = 0x55;
+// The base of a number.
+const HEXADECIMAL: u64 = 16;
 
-// The place after the call's numbers, where none stands.
-const CALL_END: usize = 6;
-
-// The place of the answer's number.
-pub const ANSWER: usize = 7;
-
-// The place of the answer's first value.
-pub const VALUES: usize = 8;
-
-// The place of the sum.
-pub const SUM: usize = 12;
-
-// How many places a line has; one that is a line of the list reaches the last.
-pub const PLACES: usize = 13;
-
-// In place of the place that a line reaches: it is no line of the list.
-const NO_LINE: usize = 14;
-
-// The value of a digit; NO_DIGIT for any other byte.
-fn digit_of(byte: u8) -> u64 {
-    match byte {
-        b'0'..=b'9' => (byte - b'0') as u64,
-        b'a'..=b'f' => (byte - b'a') as u64 + DECIMAL,
-        _ => NO_DIGIT,
-    }
+// Why a line is no line of the list.
+#[derive(Clone, Copy, Debug, PartialEq, Eq)]
+pub enum Fault {
+    // It begins with no kind's letter.
+    NoKind,
+    // It has a byte that stands for nothing, or a digit before the first number.
+    NoDigit,
+    // It has a number above 2^64 - 1, or a digit after a dash.
+    TooLarge,
+    // A part of it has too few numbers for its kind, or too many.
+    WrongCount,
+    // It has no equals sign, and so no reply.
+    NoReply,
+    // Not all of its bytes were kept.
+    TooLong,
 }
 
-// A number with one more digit.
-fn append(numbers: &mut [u64; PLACES], count: usize, digit: u64) -> usize {
-    if count == 0 {
-        return NO_LINE;
-    }
-    if PLACES < count {
-        return NO_LINE;
-    }
-    let value = numbers[count - 1];
-    if HEXADECIMAL_FULL <= value {
-        return NO_LINE;
-    }
-    if HEXADECIMAL <= digit {
-        return NO_LINE;
-    }
-    numbers[count - 1] = value * HEXADECIMAL + digit;
-    count
+// The numbers that were read of a part of a line: `count` of them, zeroes after these.
+#[derive(Clone, Copy, Debug, Default, PartialEq, Eq)]
+pub struct Numbers {
+    pub values: [u64; NUMBERS],
+    count: usize,
 }
 
-// A number begins at the next place, of the call's or of the answer's.
-fn begin(numbers: &mut [u64; PLACES], count: usize, value: u64) -> usize {
-    if count == CALL_END {
-        return NO_LINE;
-    }
-    if PLACES <= count {
-        return NO_LINE;
-    }
-    numbers[count] = value;
-    count + 1
+// A number with one more digit; a capital is no digit here.
+fn append(number: u64, byte: u8) -> Result<u64, Fault> {
+    let digit = text_words::digit_of(byte)
+        .filter(|_| !byte.is_ascii_uppercase())
+        .ok_or(Fault::NoDigit)?;
+    let shifted = number.checked_mul(HEXADECIMAL).ok_or(Fault::TooLarge)?;
+    shifted.checked_add(digit).ok_or(Fault::TooLarge)
 }
 
-// The place that is reached after one more byte of a line whose call has so many numbers: a blank or a dash begins a number, the
-// equals sign the first of the answer, any other byte is one more digit.
-fn step(numbers: &mut [u64; PLACES], count: usize, asked: usize, byte: u8) -> usize {
-    match byte {
-        b' ' => begin(numbers, count, 0),
-        b'=' => { if count == asked { ANSWER + 1 } else { NO_LINE } }
-        b'-' => begin(numbers, count, UNWRITTEN),
-        _ => append(numbers, count, digit_of(byte)),
+impl Numbers {
+    // A number begins.
+    pub fn begin(&mut self, value: u64) -> Result<(), Fault> {
+        let place = self.values.get_mut(self.count).ok_or(Fault::WrongCount)?;
+        *place = value;
+        self.count += 1;
+        Ok(())
     }
-}
 
-// The place that a line reaches after its letter: PLACES, or it is no line of the list. Its numbers go over zeroes.
-pub fn numbers_of(
-    text: &[u8; LINE_BYTES],
-    length: usize,
-    asked: usize,
-    numbers: &mut [u64; PLACES],
-) -> usize {
-    let mut count = 0;
-    let mut place = 1;
-    while place < length {
-        count = step(numbers, count, asked, text_access::byte_at(text, place));
-        place += 1;
+    // The last number has one more digit.
+    fn go_on(&mut self, byte: u8) -> Result<(), Fault> {
+        let last = self.count.checked_sub(1).ok_or(Fault::NoDigit)?;
+        let number = self.values.get_mut(last).ok_or(Fault::WrongCount)?;
+        *number = append(*number, byte)?;
+        Ok(())
     }
-    count
+
+    // One more byte of the part: a blank begins a number, a dash one that the call does not write, any other is a digit.
+    fn step(&mut self, byte: u8) -> Result<(), Fault> {
+        match byte {
+            b' ' => self.begin(0),
+            b'-' => self.begin(UNWRITTEN),
+            _ => self.go_on(byte),
+        }
+    }
+
+    // Reads a part of a line that has so many numbers. What was read before a fault stays.
+    pub fn read(&mut self, part: &[u8], numbers: usize) -> Result<(), Fault> {
+        for &byte in part {
+            self.step(byte)?;
+        }
+        if self.count == numbers {
+            Ok(())
+        } else {
+            Err(Fault::WrongCount)
+        }
+    }
 }

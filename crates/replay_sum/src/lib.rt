@@ -1,20 +1,6 @@
 // The sum of what a call leaves: xorshift64 of the sum so far and the next number. Each step is one to one, so another number in
-// one place always shows. Leans on text_access for a byte. No function needs anything of its caller.
+// one place always shows. No function needs anything of its caller.
 #![tactic(auto)]
-
-use text_access::face::{PAGE_BYTES, TABLE_WORDS};
-
-// The tables, and so the ledger numbers, that a call can be lent.
-pub const TABLES: usize = 12;
-
-// The words that a call can be lent.
-pub const WORDS: usize = TABLES * TABLE_WORDS;
-
-// The numbers of a list that a call can be lent.
-pub const LIST_NUMBERS: usize = 2048;
-
-// The bytes that a page image can be lent: one more than a page has.
-pub const IMAGE_BYTES: usize = PAGE_BYTES + 1;
 
 // What a sum begins with.
 const START: u64 = 0x9E37_79B9_7F4A_7C15;
@@ -28,72 +14,49 @@ const SECOND_SHIFT: u64 = 7;
 // The third shift of xorshift64, to the left.
 const THIRD_SHIFT: u64 = 17;
 
-// The sum with one more number.
-fn mix(sum: u64, number: u64) -> u64 {
-    let with = sum ^ number;
-    let left = with ^ (with << FIRST_SHIFT);
-    let right = left ^ (left >> SECOND_SHIFT);
-    right ^ (right << THIRD_SHIFT)
-}
+// A sum of numbers, in their order.
+#[derive(Clone, Copy)]
+struct Sum(u64);
 
-// A sum with the first so many words.
-fn words(start: u64, words: &[u64], length: usize) -> u64 {
-    let mut sum = start;
-    let mut place = 0;
-    while place < length {
-        if words.len() <= place {
-            return sum;
-        }
-        sum = mix(sum, words[place]);
-        place += 1;
+impl Sum {
+    // The sum with one more number.
+    fn with(self, number: u64) -> Sum {
+        let with = self.0 ^ number;
+        let left = with ^ (with << FIRST_SHIFT);
+        let right = left ^ (left >> SECOND_SHIFT);
+        Sum(right ^ (right << THIRD_SHIFT))
     }
-    sum
-}
 
-// A sum with the first so many ledger numbers.
-fn ledger(start: u64, ledger: &[u32; TABLES], length: usize) -> u64 {
-    let mut sum = start;
-    let mut place = 0;
-    while place < length {
-        if TABLES <= place {
-            return sum;
-        }
-        sum = mix(sum, wide(ledger[place]));
-        place += 1;
+    // The sum with all numbers of a slice: words, ledger numbers or bytes.
+    fn with_all<T: Copy + Into<u64>>(self, numbers: &[T]) -> Sum {
+        numbers
+            .iter()
+            .fold(self, |sum, number| sum.with((*number).into()))
     }
-    sum
 }
 
-// The sum of all that a call leaves: so much of the list, the words and the ledger as it was lent.
-pub fn left(
-    list: &[u64; LIST_NUMBERS],
-    room: usize,
-    words: &[u64; WORDS],
-    length: usize,
-    numbers: &[u32; TABLES],
-    count: usize,
-) -> u64 {
-    let listed = self::words(START, list, room);
-    ledger(self::words(listed, words, length), numbers, count)
+// The sum of all that a call leaves: the list, the words and the ledger as they were lent.
+pub fn left(list: &[u64], words: &[u64], ledger: &[u32]) -> u64 {
+    Sum(START).with_all(list).with_all(words).with_all(ledger).0
 }
 
-// A ledger number as a number to sum. The cast stands alone, so that the loop has fewer temporaries.
-fn wide(number: u32) -> u64 {
-    number as u64
+// The sum of the bytes of a page.
+pub fn page(page: &[u8]) -> u64 {
+    Sum(START).with_all(page).0
 }
 
-// The sum of the first so many bytes of a page.
-pub fn page(page: &[u8; IMAGE_BYTES], length: usize) -> u64 {
-    let mut sum = START;
-    let mut place = 0;
-    while place < length {
-        sum = mix(sum, widest(text_access::byte_at(page, place)));
-        place += 1;
+#[cfg(test)]
+mod tests {
+    use super::*;
+
+    // The sums are those of another program, by the steps that the head of the stored list says.
+    #[test]
+    fn sums_by_the_steps_of_the_list(rt: HostRuntime) {
+        assert_eq!(rt; page(&[]), 0x9E37_79B9_7F4A_7C15);
+        assert_eq!(rt; page(&[1, 2, 3]), 0xC019_C8B2_5290_0F5F);
+        assert_eq!(rt;
+            left(&[5], &[7, 0xFFFF_FFFF_FFFF_FFFF, 1], &[0xFFFF_FFFF]),
+            0xA639_B350_613D_2F4E
+        );
     }
-    sum
-}
-
-// A byte as a number to sum. The cast stands alone, so that the loop has fewer temporaries.
-fn widest(byte: u8) -> u64 {
-    byte as u64
 }

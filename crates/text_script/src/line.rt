@@ -11,35 +11,23 @@ const LONGEST: usize = 0x1_0000_0000;
 // The lines after which a program takes its input as ended, whatever follows.
 pub const MOST_LINES: u64 = 0xFFFF_FFFF;
 
-// A line: how many bytes it has, those that are not kept too; or that there is none, at the end of the input.
-#[derive(Drop)]
-pub enum Line {
-    Length(usize),
-    End,
-}
-
-// The next line, without its end; a carriage return is passed over.
-pub fn read_line(input: &mut impl Read, text: &mut [u8; LINE_BYTES]) -> io::Result<Line> {
+// The next line without its end: how many bytes it has, those that are not kept too, or None at the end of the input. A carriage
+// return is passed over.
+pub fn read_line(input: &mut impl Read, text: &mut [u8; LINE_BYTES]) -> io::Result<Option<usize>> {
     let mut one = [0u8; 1];
     let mut length = 0;
-    let mut passed = 0;
-    while passed < LONGEST {
-        passed += 1;
+    for _ in 0..LONGEST {
         if input.read(&mut one)? == 0 {
-            if length == 0 {
-                return Ok(Line::End);
+            return Ok((length != 0).then_some(length));
+        }
+        match one[0] {
+            b'\n' => return Ok(Some(length)),
+            b'\r' => {}
+            byte => {
+                text_access::put(text, length, byte);
+                length += 1;
             }
-            return Ok(Line::Length(length));
         }
-        let byte = one[0];
-        if byte == b'\n' {
-            return Ok(Line::Length(length));
-        }
-        if byte == b'\r' {
-            continue;
-        }
-        text_access::put_byte(text, length, byte);
-        length += 1;
     }
-    Ok(Line::Length(length))
+    Ok(Some(length))
 }

@@ -1,6 +1,0 @@
--- `say_answer` ends: it goes through the places up to PLACES, 13.
-use Rattle.std.proofs.Common.{◌-◌}
-use Rattle.replay_lines.proofs.tally.say_answer.Given as goal
-
-abbrev pub decreases-loop-place : goal.decreases-loop-place
-decreases-loop-place g l = 13 - l.place

@@ -1,6 +1,0 @@
--- `page` ends: it stops at the length.
-use Rattle.std.proofs.Common.{◌-◌}
-use Rattle.replay_sum.proofs.page.Given as goal
-
-abbrev pub decreases-loop-place : goal.decreases-loop-place
-decreases-loop-place l = l.length - l.place

@@ -1,0 +1,2 @@
+-- Definitions that the contracts of `text_words` cite.
+pub mod Says

@@ -51,9 +51,12 @@ pub fn descend(
         ≡ below handle k level i (st words.old ledger.old) }
 {
     let word = words[512 * k + i];
-    match entry::subtable(handle.base, ledger.len(), level, word) {
-        Sub::Table(j) => Some(j),
-        Sub::Leaf => split_entry(words, ledger, handle, k, level, i),
-        Sub::Outside => None,
-    }
+    let kind = entry::subtable(handle.base, ledger.len(), level, word);
+    let Sub::Table(j) = kind else {
+        let Sub::Leaf = kind else {
+            return None;
+        };
+        return split_entry(words, ledger, handle, k, level, i);
+    };
+    Some(j)
 }

@@ -11,6 +11,7 @@ use entry::Sub;
 use pool::{Handle, Refusal};
 
 // Compacts what hangs from table k, at this level: each entry's subtree first, and then its table is freed if it is empty.
+#[tactic(auto, using(compact_spec::specs::Compact::compact_last))]
 pub fn compact_subtables(
     words: &mut [u64],
     ledger: &mut [u32],

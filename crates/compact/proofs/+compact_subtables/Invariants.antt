@@ -1,4 +1,4 @@
-use Rattle.std.proofs.Common.{◌≡◌, ◌+◌, ◌-◌, ◌≤◌, length}
+use Rattle.std.proofs.Common.{◌≡◌, ◌+◌, ◌-◌}
 use Rattle.laws.specs.Slot.{iter}
 use Rattle.pool.specs.State.{st}
 use Rattle.compact_spec.specs.Compact.{compact_entry, compact_table}
@@ -8,12 +8,8 @@ abbrev pub decreases-compact_subtables : goal.decreases-compact_subtables
 decreases-compact_subtables l = 3 - l.level
 
 -- one call of the level below is `compact_table` there
-abbrev pub invariant-loop-next : goal.invariant-loop-next
-invariant-loop-next l =
-    (l.next ≤ 512) × (length l.words ≡ length l.initial.words) × (length l.ledger ≡ length l.initial.ledger)
-    × (st l.words l.ledger
-    ≡ iter (compact_entry (λ j t. compact_table (3 - (l.level + 1)) l.handle j t) l.handle l.k l.level) l.next
-    (st l.initial.words l.initial.ledger))
-
-abbrev pub decreases-loop-next : goal.decreases-loop-next
-decreases-loop-next l = 512 - l.next
+abbrev pub invariant-loop-i : goal.invariant-loop-i
+invariant-loop-i l =
+    st l.words l.ledger
+    ≡ iter (compact_entry (λ j t. compact_table (3 - (l.level + 1)) l.handle j t) l.handle l.k l.level) l.i
+    (st l.initial.words l.initial.ledger)

@@ -1,0 +1,2 @@
+-- `Empty`: whether all words of a table are 0.
+mod Empty

@@ -43,7 +43,12 @@ fn leaf(level: usize, word: u64, va: VirtualAddress) -> Looked
 }
 
 // From the root down until a word ends the walk.
-fn walk_from(words: &[u64], tables: usize, handle: Handle, va: VirtualAddress) -> Result<Looked, Refusal>
+fn walk_from(
+    words: &[u64],
+    tables: usize,
+    handle: Handle,
+    va: VirtualAddress,
+) -> Result<Looked, Refusal>
     requires { (1 ≤ tables) × (length words.now ≡ 512 * tables) × (handle.level ≤ 3) }
     ensures { result ≡ answer (walk handle.base.0 tables words.now va.0 handle.level) }
 {
@@ -66,7 +71,12 @@ fn walk_from(words: &[u64], tables: usize, handle: Handle, va: VirtualAddress) -
 }
 
 // What the walk of the address answers.
-pub fn look_up(words: &[u64], ledger: &[u32], handle: Handle, va: VirtualAddress) -> Result<Looked, Refusal>
+pub fn look_up(
+    words: &[u64],
+    ledger: &[u32],
+    handle: Handle,
+    va: VirtualAddress,
+) -> Result<Looked, Refusal>
     ensures { result ≡ look_up_call handle (st words.now ledger.now) va.0 }
 {
     if !pool_handle::is_shaped(words, ledger, handle) {

@@ -10,7 +10,8 @@ use Rattle.laws.specs.Test.{eq_or, le_or}
 use Rattle.address_slot.specs.Slot.{chunk_end}
 use Rattle.region.specs.Region.{region, parted, next_chunk}
 use Rattle.region.specs.Chunks.{chunks, met, met_none, met-step, chunks_none, chunks-step, Tiles, none, more}
-use Rattle.region.specs.Chunks.{chunks_tile}
+use Rattle.region.specs.Chunks.{chunks_tile, chunks_of, next_gives}
+use Rattle.region.specs.declared.ChunkedIterator.{ChunkedIterator}
 use Rattle.region.specs.declared.MemoryRegion.{MemoryRegion}
 use Rattle.entry.specs.Sub.{sub_of, sub_leaf}
 use Rattle.entry.specs.declared.Sub.{Sub}

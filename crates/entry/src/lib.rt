@@ -68,12 +68,12 @@ pub fn kind_of(level: usize, word: u64) -> Kind
 }
 
 // The word that refers to a table of the pool: its address + 3.
+#[tactic(auto, unfolding(crate::specs::Word::link_of))]
 pub fn link(base: PhysicalAddress, table: usize) -> u64
     ensures { result ≡ link_of base.0 table % 2 ^ 64 }
 {
     let offset = (table as u64) % 0x10_0000_0000_0000 * 4096;
-    let at = std::num::wrapping_add_u64(base.0, offset);
-    std::num::wrapping_add_u64(at, 3)
+    base.0.wrapping_add(offset).wrapping_add(3)
 }
 
 // The table that a word at this level leads to, in a pool of so many tables.

@@ -2,7 +2,6 @@
 #![tactic(auto)]
 
 ghost use Rattle.std.specs.Prelude.{◌≡◌, ◌-◌, ◌/◌, ◌≤◌, ◌<◌, ◌^◌, ◌+◌};
-ghost use Rattle.region.specs.Chunks.{met};
 ghost use Rattle.map_count_spec.specs.Closed.{rest_at, rests, mets, closed_leaf};
 ghost use Rattle.map_count_spec.specs.Missed.{missedb};
 ghost use Rattle.map_rules.specs.Rules.{chunk_map};
@@ -14,26 +13,15 @@ use address::{PhysicalAddress, VirtualAddress};
 use map_rules::{Map, Rule};
 use region::MemoryRegion;
 
-// The entries of this level that the region meets.
-#[tactic(auto, using(crate::proofs::Ways::entries_met))]
-fn entries_met(level: usize, start: u64, end: u64) -> u64
-    ensures { result ≡ met level start end }
-{
-    if end <= start {
-        return 0;
-    }
-    address_slot::entry_number(level, end - 1) - address_slot::entry_number(level, start) + 1
-}
-
 // The entries of this level, and of those below down to level 2, that the region meets: no map of it needs more tables.
 #[tactic(auto, using(crate::proofs::Ways::count_most))]
-pub fn count_most(level: usize, start: u64, end: u64) -> u64
-    requires { end - start ≤ 2 ^ 48 }
-    ensures { result ≡ mets (3 - level) start end }
+pub fn count_most(level: usize, region: MemoryRegion) -> u64
+    requires { region.end.0 - region.start.0 ≤ 2 ^ 48 }
+    ensures { result ≡ mets (3 - level) region.start.0 region.end.0 }
 {
     let mut count = 0;
     for below in level..address::LEAF_LEVEL {
-        count += entries_met(below, start, end);
+        count += region.entries_met(below);
     }
     count
 }
@@ -43,19 +31,18 @@ pub fn count_most(level: usize, start: u64, end: u64) -> u64
 fn count_at(level: usize, map: Map) -> u64
     ensures { result ≡ rest_at level map }
 {
-    let start = map.region.start.0;
-    let end = map.region.end.0;
+    let region = map.region;
     if !map.blocks {
-        return entries_met(level, start, end);
+        return region.entries_met(level);
     }
     let last = address::granularity_at_level(level) - 1;
     if map.frame.0 & last != 0 {
-        return entries_met(level, start, end);
+        return region.entries_met(level);
     }
-    if end <= start {
+    if region.end.0 <= region.start.0 {
         return 0;
     }
-    if end & last == 0 {
+    if region.end.0 & last == 0 {
         return 0;
     }
     1

@@ -1,41 +1,21 @@
 // The values of each answer.
-ghost use Rattle.std.specs.Prelude.{◌≡◌, [], ◌∷◌};
+ghost use Rattle.std.specs.Prelude.{◌≡◌, ◌≤◌, [], ◌∷◌, length};
 ghost use Rattle.pool.specs.Refuse.{carried};
 ghost use Rattle.look_up.specs.Call.{found_values};
 ghost use Rattle.ptb_answer.specs.Answer.{over_front, modified_values};
 
 use crate::Values;
-use address::PhysicalAddress;
 use look_up::Looked;
 use modify::Modified;
 use pool::Refusal;
 
-// One value.
-#[tactic(auto, unfolding(crate::specs::Answer::over_front))]
-fn put_one(answer: &mut [u64; 4], first: u64)
-    ensures { answer.new ≡ over_front (first ∷ []) answer.old }
+// Values over the front of `answer`.
+#[tactic(auto, using(crate::proofs::Front::front))]
+fn put_front(answer: &mut [u64; 4], values: &[u64])
+    requires { length values.now ≤ 4 }
+    ensures { answer.new ≡ over_front values.now answer.old }
 {
-    answer[0] = first;
-}
-
-// Two values.
-#[tactic(auto, using(crate::specs::Answer::over_two))]
-fn put_two(answer: &mut [u64; 4], first: u64, second: u64)
-    ensures { answer.new ≡ over_front (first ∷ second ∷ []) answer.old }
-{
-    answer[0] = first;
-    answer[1] = second;
-}
-
-// What a walk finds: kind (0 hole, 1 block, 2 page), level, flags, frame.
-#[tactic(auto, using(crate::specs::Answer::over_four))]
-fn put_found(answer: &mut [u64; 4], kind: u64, level: usize, flags: u64, frame: PhysicalAddress)
-    ensures { answer.new ≡ over_front (kind ∷ level ∷ flags ∷ frame.0 ∷ []) answer.old }
-{
-    answer[0] = kind;
-    answer[1] = level as u64;
-    answer[2] = flags;
-    answer[3] = frame.0;
+    answer[..values.len()].copy_from_slice(values);
 }
 
 // A call that has nothing more to say than that it was done.
@@ -51,7 +31,7 @@ impl Values for usize {
     ghost values = { λ count. count ∷ [] };
 
     fn put(self, answer: &mut [u64; 4]) {
-        put_one(answer, self as u64);
+        put_front(answer, &[self as u64]);
     }
 }
 
@@ -61,9 +41,15 @@ impl Values for Looked {
 
     fn put(self, answer: &mut [u64; 4]) {
         match self {
-            Looked::Hole(level, flags) => put_found(answer, 0, level, flags, PhysicalAddress(0)),
-            Looked::Block(level, flags, frame) => put_found(answer, 1, level, flags, frame),
-            Looked::Page(level, flags, frame) => put_found(answer, 2, level, flags, frame),
+            Looked::Hole(level, flags) => put_front(answer, &[0, level as u64, flags, 0]),
+            Looked::Block(level, flags, frame) => put_front(
+                answer,
+                &[1, level as u64, flags, frame.0],
+            ),
+            Looked::Page(level, flags, frame) => put_front(
+                answer,
+                &[2, level as u64, flags, frame.0],
+            ),
         }
     }
 }
@@ -74,8 +60,8 @@ impl Values for Modified {
 
     fn put(self, answer: &mut [u64; 4]) {
         match self {
-            Modified::Tables(tables) => put_one(answer, tables as u64),
-            Modified::Live(tables, numbers) => put_two(answer, tables as u64, numbers as u64),
+            Modified::Tables(tables) => put_front(answer, &[tables as u64]),
+            Modified::Live(tables, numbers) => put_front(answer, &[tables as u64, numbers as u64]),
         }
     }
 }
@@ -88,15 +74,15 @@ impl Values for Refusal {
     fn put(self, answer: &mut [u64; 4]) {
         match self {
             Refusal::Shape | Refusal::Unsound => {}
-            Refusal::End(end) => put_one(answer, end),
-            Refusal::InvalidFlags(flags) => put_one(answer, flags),
-            Refusal::FlagSet(flags) => put_one(answer, flags),
-            Refusal::RegionBackwards(region) => put_two(answer, region.start.0, region.end.0),
-            Refusal::AddressRange(address) => put_one(answer, address.0),
-            Refusal::Frame(frame) => put_one(answer, frame.0),
-            Refusal::WantOfRoom(needed, free) => put_two(answer, needed, free),
-            Refusal::HouseRule(word) => put_one(answer, word),
-            Refusal::Short(needed) => put_one(answer, needed),
+            Refusal::End(end) => put_front(answer, &[end]),
+            Refusal::InvalidFlags(flags) => put_front(answer, &[flags]),
+            Refusal::FlagSet(flags) => put_front(answer, &[flags]),
+            Refusal::RegionBackwards(region) => put_front(answer, &[region.start.0, region.end.0]),
+            Refusal::AddressRange(address) => put_front(answer, &[address.0]),
+            Refusal::Frame(frame) => put_front(answer, &[frame.0]),
+            Refusal::WantOfRoom(needed, free) => put_front(answer, &[needed, free]),
+            Refusal::HouseRule(word) => put_front(answer, &[word]),
+            Refusal::Short(needed) => put_front(answer, &[needed]),
         }
     }
 }

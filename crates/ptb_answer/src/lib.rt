@@ -1,7 +1,7 @@
 // What a caller outside sees of an answer: its number is returned, its values go over the front of `answer`.
 #![tactic(auto)]
 
-ghost use Rattle.std.specs.Prelude.{◌≡◌, List, ℕ, [], ◌∷◌};
+ghost use Rattle.std.specs.Prelude.{◌≡◌, List, ℕ};
 ghost use Rattle.ptb_answer.specs.Answer.{slip, over_front, told_by};
 
 mod each;

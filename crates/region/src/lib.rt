@@ -4,7 +4,7 @@
 ghost use Rattle.std.specs.Prelude.{◌≡◌, ◌-◌};
 ghost use Rattle.std.specs.Iterator.{item_count};
 ghost use Rattle.region.specs.Region.{rounded, whole, parted, next_chunk};
-ghost use Rattle.region.specs.Chunks.{chunks_of};
+ghost use Rattle.region.specs.Chunks.{met, chunks_of};
 
 use address::VirtualAddress;
 
@@ -48,6 +48,18 @@ impl MemoryRegion {
         ensures { result ≡ whole level self }
     {
         (self.start.0 | self.end.0) & (address::granularity_at_level(level) - 1) == 0
+    }
+
+    // The entries of this level that the region meets.
+    pub fn entries_met(self, level: usize) -> u64
+        ensures { result ≡ met level self.start.0 self.end.0 }
+    {
+        if self.end.0 <= self.start.0 {
+            return 0;
+        }
+        address_slot::entry_number(level, self.end.0 - 1)
+            - address_slot::entry_number(level, self.start.0)
+            + 1
     }
 
     // The chunks of the region at this level.

@@ -1,0 +1,2 @@
+-- `Front`: values written over the front of a list.
+pub mod Front

@@ -1,5 +1,5 @@
 -- The lines of a list: every entry that a region meets (`visit_range` of the crate), and a law for each way through the code.
-use Rattle.std.specs.Prelude.{◌≡◌, List, [], ◌∷◌, ◌++◌, ◌⊎◌, ◌≢◌, length, set, take, drop}
+use Rattle.std.specs.Prelude.{◌≡◌, Some, None, List, [], ◌∷◌, ◌++◌, ◌⊎◌, ◌≢◌, length, set, take, drop}
 use Rattle.std.proofs.Math.Path.{refl, sym}
 use Rattle.std.proofs.Common.{ap, ap₂, ◌∙◌, append_assoc, inl, inr, length-append, take-append-drop, take_at, drop-drop, length-take-le}
 use Prim.Native.Nat.{ℕ, zero, suc, ◌+◌, ◌*◌, ◌-◌, ◌≤◌, ◌<◌}
@@ -8,9 +8,10 @@ use Rattle.std.proofs.Math.Seq.{drop-append-add}
 use Rattle.laws.specs.Part.{put_part}
 use Rattle.laws.specs.Test.{eq_or, le_or}
 use Rattle.address_slot.specs.Slot.{chunk_end}
-use Rattle.region.specs.Region.{region}
+use Rattle.region.specs.Region.{region, parted, next_chunk}
 use Rattle.region.specs.Chunks.{chunks, met, met_none, met-step, chunks_none, chunks-step, Tiles, none, more}
-use Rattle.region.specs.Chunks.{chunks_tile}
+use Rattle.region.specs.Chunks.{chunks_tile, chunks_of, next_gives}
+use Rattle.region.specs.declared.ChunkedIterator.{ChunkedIterator}
 use Rattle.region.specs.declared.MemoryRegion.{MemoryRegion}
 use Rattle.entry.specs.Sub.{sub_of, sub_leaf}
 use Rattle.entry.specs.declared.Sub.{Sub}
@@ -105,6 +106,13 @@ unfoldable pub lines_of : Handle → St → MemoryRegion → List Line
 lines_of h s r = lines_from h.base.0 (tables s) s.words (3 - h.level) 0 r
 
 -- ---- chunk by chunk
+
+pub next_chunk_lem : (c : ChunkedIterator) (r : MemoryRegion) (a : ChunkedIterator) → parted (Some r) a ≡ next_chunk c
+    → chunks_of c ≡ r ∷ chunks_of a
+next_chunk_lem c r a e = next_gives c a e
+
+pub next_none : (c a : ChunkedIterator) → parted None a ≡ next_chunk c → chunks_of c ≡ []
+next_none c a e = (next_gives c a e).0
 
 -- ---- numbers in a lent list
 

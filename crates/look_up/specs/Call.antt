@@ -1,5 +1,5 @@
 -- The call look up: refusals 1, 6, 8 in this order, else what the Arm walk answers. Leans on `Arm`.
-use Rattle.std.specs.Prelude.{◌≡◌, Bool, true, false, cond, List, [], ◌∷◌, leb, ltb, Result, Err, Ok}
+use Rattle.std.specs.Prelude.{◌≡◌, Bool, true, false, cond, List, [], ◌∷◌, leb, ltb}
 use Rattle.std.proofs.Math.Path.{sym, ap, ap₂}
 use Rattle.std.proofs.Common.{◌∙◌}
 use Prim.Native.Nat.{ℕ, suc, ◌*◌, ◌-◌, ◌%◌, ◌^◌}
@@ -18,6 +18,7 @@ use Rattle.arm.specs.Arm.{frame_of, flags_in, Walked, hole, block, page, outside
 use Rattle.arm.specs.Walk.{says_hole, says_block, says_page}
 use Rattle.look_up.specs.declared.Looked.{Looked}
 use Rattle.look_up.specs.declared.Looked.TheVariants.{Hole, Block, Page}
+use Rattle.std.specs.Prelude.{Result, Err, Ok}
 use Rattle.pool.specs.declared.Refusal.{Refusal}
 
 -- what look up answers
@@ -29,11 +30,15 @@ abbrev pub returned : LookUpAnswer → ℕ
 returned (Ok found) = 0
 returned (Err r) = number r
 
--- the values of an answer: kind (0 hole, 1 block, 2 page), level, flags, frame (0 for a hole); of a refusal, what it carries
+-- the values of what a walk finds: kind (0 hole, 1 block, 2 page), level, flags, frame (0 for a hole)
+abbrev pub found_values : Looked → List ℕ
+found_values (Hole level flags) = 0 ∷ level ∷ flags ∷ 0 ∷ []
+found_values (Block level flags frame) = 1 ∷ level ∷ flags ∷ frame.0 ∷ []
+found_values (Page level flags frame) = 2 ∷ level ∷ flags ∷ frame.0 ∷ []
+
+-- the values of an answer: of what was found; of a refusal, what it carries
 abbrev pub values : LookUpAnswer → List ℕ
-values (Ok (Hole level flags)) = 0 ∷ level ∷ flags ∷ 0 ∷ []
-values (Ok (Block level flags frame)) = 1 ∷ level ∷ flags ∷ frame.0 ∷ []
-values (Ok (Page level flags frame)) = 2 ∷ level ∷ flags ∷ frame.0 ∷ []
+values (Ok found) = found_values found
 values (Err r) = carried r
 
 -- the walk as an answer: refusal 8 where a table word on its path points outside the pool

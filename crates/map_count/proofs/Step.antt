@@ -36,6 +36,9 @@ module _ (level : ℕ) (f : Map → ℕ) (m : Map) (n : ℕ) {c d : ChunkedItera
       let p = before.fit in
       rw (← cut) (chunk_fit c.level c.range.start.0 c.range.end.0 frame (left m c frame) p step.left p.from p.to p.frame p.room)
 
+  level_kept : d.level ≡ level
+  level_kept = ap (λ (i : ChunkedIterator). i.level) step.rest ∙ before.here
+
   -- what is left after it
   module _ {size : ℕ} (is : size ≡ r.end.0 - r.start.0) where
     rest_fit : Fit (left m d (frame + size))
@@ -58,10 +61,10 @@ module _ (level : ℕ) (f : Map → ℕ) (m : Map) (n : ℕ) {c d : ChunkedItera
 
     -- the chunk's summand is what the code adds
     pub step_adds : {x : ℕ} → f (chunk_map m r frame) ≡ x → Counting level f m (n + x) d (frame + size)
-    step_adds e = record { here = ap (λ (i : ChunkedIterator). i.level) step.rest ∙ before.here; fit = rest_fit; sum = omega (arith, sums, before.sum) }
+    step_adds e = record { here = level_kept; fit = rest_fit; sum = omega (arith, sums, before.sum) }
 
     pub step_skips : f (chunk_map m r frame) ≡ 0 → Counting level f m n d (frame + size)
-    step_skips e = record { here = ap (λ (i : ChunkedIterator). i.level) step.rest ∙ before.here; fit = rest_fit; sum = omega (arith, sums, before.sum) }
+    step_skips e = record { here = level_kept; fit = rest_fit; sum = omega (arith, sums, before.sum) }
 
     pub step_most : {x : ℕ} → f (chunk_map m r frame) ≡ x → n + x ≤ sum_chunks level f m
     step_most e = omega (arith, sums, before.sum)

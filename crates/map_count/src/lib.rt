@@ -24,12 +24,10 @@ fn count_last(words: &[u64], ledger: &[u32], handle: Handle, k: usize, map: Map)
         let chunk = map_rules::chunk_of(map, region, frame);
         frame.0 += region.len();
         let word = words[512 * k + i];
-        let kind = entry::subtable(handle.base, ledger.len(), 2, word);
-        let Sub::Leaf = kind else {
+        let Sub::Leaf = entry::subtable(handle.base, ledger.len(), 2, word) else {
             continue;
         };
-        let rule = map_rules::rule_of(2, chunk, word);
-        let Rule::Down = rule else {
+        let Rule::Down = map_rules::rule_of(2, chunk, word) else {
             continue;
         };
         count += 1;
@@ -56,20 +54,17 @@ fn count_new(words: &[u64], ledger: &[u32], handle: Handle, k: usize, level: usi
         let first = frame;
         frame.0 += region.len();
         let word = words[512 * k + i];
-        let kind = entry::subtable(handle.base, ledger.len(), level, word);
-        let Sub::Table(j) = kind else {
-            let Sub::Leaf = kind else {
-                continue;
-            };
-            count += map_count_leaf::count_entry(level, map, region, first, word);
-            continue;
-        };
-        let chunk = map_rules::chunk_of(map, region, first);
-        let rule = map_rules::rule_of(level, chunk, word);
-        let Rule::Down = rule else {
-            continue;
-        };
-        count += count_new(words, ledger, handle, j, level + 1, chunk);
+        match entry::subtable(handle.base, ledger.len(), level, word) {
+            Sub::Table(j) => {
+                let chunk = map_rules::chunk_of(map, region, first);
+                let Rule::Down = map_rules::rule_of(level, chunk, word) else {
+                    continue;
+                };
+                count += count_new(words, ledger, handle, j, level + 1, chunk);
+            }
+            Sub::Leaf => count += map_count_leaf::count_entry(level, map, region, first, word),
+            Sub::Outside => {}
+        }
     }
     count
 }

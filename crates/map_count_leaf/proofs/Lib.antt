@@ -1,3 +1,3 @@
--- `Tags`: what stands where a match on `Rule` takes the other arms.
+-- A match on a rule, and the laws that the check takes.
 pub mod Tags
-pub mod Masks
+pub mod Ways

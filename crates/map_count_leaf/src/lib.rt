@@ -15,7 +15,7 @@ use map_rules::{Map, Rule};
 use region::MemoryRegion;
 
 // The entries of this level that the region meets.
-#[tactic(auto, using(region::specs::Chunks::met_none, region::specs::Chunks::met_some, region::specs::Chunks::met_most, map_count_spec::specs::Ends::met_order))]
+#[tactic(auto, using(crate::proofs::Ways::entries_met))]
 fn entries_met(level: usize, start: u64, end: u64) -> u64
     ensures { result ≡ met level start end }
 {
@@ -26,7 +26,7 @@ fn entries_met(level: usize, start: u64, end: u64) -> u64
 }
 
 // The entries of this level, and of those below down to level 2, that the region meets: no map of it needs more tables.
-#[tactic(auto, using(map_count_spec::specs::Ends::mets_open, map_count_spec::specs::Ends::mets_done, map_count_spec::specs::Ends::mets_fit))]
+#[tactic(auto, using(crate::proofs::Ways::count_most))]
 pub fn count_most(level: usize, start: u64, end: u64) -> u64
     requires { end - start ≤ 2 ^ 48 }
     ensures { result ≡ mets (3 - level) start end }
@@ -39,7 +39,7 @@ pub fn count_most(level: usize, start: u64, end: u64) -> u64
 }
 
 // The entries of this level that are split in a region that begins with one, where rule 2 fits nothing.
-#[tactic(auto, using(crate::proofs::Masks::masks), unfolding(map_count_spec::specs::Closed::rest_at, map_count_spec::specs::Closed::last_part))]
+#[tactic(auto, using(crate::proofs::Ways::count_at), unfolding(map_count_spec::specs::Closed::rest_at))]
 fn count_at(level: usize, map: Map) -> u64
     ensures { result ≡ rest_at level map }
 {
@@ -62,7 +62,7 @@ fn count_at(level: usize, map: Map) -> u64
 }
 
 // The entries of this level and of those below that are split in a region that begins with one, where rule 2 fits nothing.
-#[tactic(auto, using(map_count_spec::specs::Ends::rests_open, map_count_spec::specs::Ends::rests_done, map_count_spec::specs::Ends::rests_fit))]
+#[tactic(auto, using(crate::proofs::Ways::count_rest))]
 pub fn count_rest(level: usize, map: Map) -> u64
     requires { map.region.end.0 - map.region.start.0 ≤ 2 ^ 48 }
     ensures { result ≡ rests (3 - level) map }
@@ -76,7 +76,7 @@ pub fn count_rest(level: usize, map: Map) -> u64
 
 // Whether rule 2, where it doesn't fit the chunk, fits no part of it: a hole without address below the chunk's frame, or a block at a
 // multiple of its size. Asked of chunks that begin with an entry of the next level.
-#[tactic(auto, using(crate::proofs::Masks::misses))]
+#[tactic(auto, using(crate::proofs::Ways::is_missed))]
 pub fn is_missed(level: usize, map: Map, word: u64) -> bool
     requires { level < 2 }
     ensures { result ≡ missedb level map word }
@@ -99,7 +99,7 @@ pub fn is_missed(level: usize, map: Map, word: u64) -> bool
 }
 
 // A split's word for the address, where it is a block.
-#[tactic(auto, using(crate::proofs::Masks::parts))]
+#[tactic(auto, using(crate::proofs::Ways::part_of))]
 fn part_of(level: usize, word: u64, va: u64) -> u64
     requires { level + 1 < 3 }
     ensures { result ≡ child_word level word va }
@@ -118,8 +118,7 @@ fn count_leaf(level: usize, map: Map, word: u64) -> u64
     requires { Fit map × (map.region.start.0 < map.region.end.0) }
     ensures { result ≡ closed_leaf (3 - level) map word }
 {
-    let rule = map_rules::rule_of(level, map, word);
-    let Rule::Down = rule else {
+    let Rule::Down = map_rules::rule_of(level, map, word) else {
         return 0;
     };
     if 2 <= level {
@@ -147,8 +146,7 @@ pub fn count_entry(
     ensures { result ≡ closed_leaf (3 - level) (chunk_map map region frame.0) word }
 {
     let chunk = map_rules::chunk_of(map, region, frame);
-    let rule = map_rules::rule_of(level, chunk, word);
-    let Rule::Down = rule else {
+    let Rule::Down = map_rules::rule_of(level, chunk, word) else {
         return 0;
     };
     if is_missed(level, chunk, word) {

@@ -24,29 +24,29 @@ module _ (m : Map) (frame : ℕ) {it on : ChunkedIterator} {r : MemoryRegion} (f
       (subst⁻¹ (λ (x : ℕ). Fit (chunk_map m (region from x) frame)) step.stops cut)
 
   -- the frame rises by the chunk's length
-  pub rest_fits : {length : ℕ} → length ≡ r.end.0 - r.start.0 → Fit (chunk_map m on.range (frame + length))
-  rest_fits {length} e =
+  pub rest_fits : Fit (chunk_map m on.range (frame + (r.end.0 - r.start.0)))
+  rest_fits =
       let c = chunk_fits in
       let within = step_fits step in
-      let left : Fit (chunk_map m (region r.end.0 it.range.end.0) (frame + length)) = record {
+      let left : Fit (chunk_map m (region r.end.0 it.range.end.0) (frame + (r.end.0 - r.start.0))) = record {
         from = c.to;
         to = fit.to;
         some = within.1;
-        frame = omega (arith, c.from, c.to, c.frame, e, within.0);
-        room = omega (arith, within.0, within.1, fit.room, step.starts, e);
+        frame = omega (arith, c.from, c.to, c.frame, within.0);
+        room = omega (arith, within.0, within.1, fit.room, step.starts);
         flags = fit.flags;
       } in
-      subst⁻¹ (λ (d : ChunkedIterator). Fit (chunk_map m d.range (frame + length))) step.rest left
+      subst⁻¹ (λ (d : ChunkedIterator). Fit (chunk_map m d.range (frame + (r.end.0 - r.start.0)))) step.rest left
 
-  pub each_next : (level : ℕ) (f : Map → St → St) (s : St) {length : ℕ} → it.level ≡ level → length ≡ r.end.0 - r.start.0
-      → each_map_chunk level f (chunk_map m on.range (frame + length)) (f (chunk_map m r frame) s)
+  pub each_next : (level : ℕ) (f : Map → St → St) (s : St) → it.level ≡ level
+      → each_map_chunk level f (chunk_map m on.range (frame + (r.end.0 - r.start.0))) (f (chunk_map m r frame) s)
       ≡ each_map_chunk level f (chunk_map m it.range frame) s
-  each_next level f s {length} at e =
+  each_next level f s at =
       let from = it.range.start.0 in
       let end = it.range.end.0 in
       let stops : r.end.0 ≡ chunk_end level from end = step.stops ∙ ap (λ (l : ℕ). chunk_end l from end) at in
       let after = f (chunk_map m r frame) s in
-      ap₂ (λ (d : ChunkedIterator) (x : ℕ). each_map_chunk level f (chunk_map m d.range (frame + x)) after) step.rest e
+      ap (λ (d : ChunkedIterator). each_map_chunk level f (chunk_map m d.range (frame + (r.end.0 - r.start.0))) after) step.rest
       ∙ ap₂ (λ (x y : ℕ). each_map_chunk level f (chunk_map m (region y end) (frame + (y - x))) (f (chunk_map m (region x y) frame) s))
       step.starts stops
       ∙ sym (map-each-step level f m from end frame s step.left)

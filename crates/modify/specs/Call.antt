@@ -78,7 +78,8 @@ module _ (h : Handle) (e : Edit) (s : St) (list : List ℕ) {t : St} {l : List �
   unfolding answer_of
   done_live q u = rw u (done true q)
 
-  pub done_still : e.live ≡ false → {count : ℕ} → count ≡ used t.ledger → modifying (Ok (modified.Tables count)) t l ≡ edit_tables h e s list
+  pub done_still : e.live ≡ false → {count : ℕ} → count ≡ used t.ledger
+      → modifying (Ok (modified.Tables count)) t l ≡ edit_tables h e s list
   unfolding answer_of
   done_still q u = rw u (done false q)
 

@@ -23,8 +23,7 @@ pub fn edit_word(level: usize, edit: Edit, word: u64) -> u64
     ensures { result ≡ edit_word level edit word }
 {
     let new = (word | edit.set) & !edit.clear;
-    let kind = entry::kind_of(level, word);
-    match kind {
+    match entry::kind_of(level, word) {
         Kind::Table => word,
         Kind::Block => new,
         Kind::Page => new,

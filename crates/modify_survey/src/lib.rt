@@ -79,8 +79,7 @@ fn survey_part(level: usize, region: MemoryRegion, word: u64, seen: Survey) -> S
         splits: seen.splits + count_splits(level, region),
         ..seen
     };
-    let kind = entry::kind_of(level, word);
-    let Kind::Block = kind else {
+    let Kind::Block = entry::kind_of(level, word) else {
         return more;
     };
     add_breach(more, word)
@@ -138,15 +137,11 @@ pub fn survey_range(
         let i = address_slot::entry_index(level, chunk.start.0);
         let part = modify_entry::chunk_edit(edit, chunk);
         let word = words[512 * k + i];
-        let kind = entry::subtable(handle.base, ledger.len(), level, word);
-        let Sub::Table(j) = kind else {
-            let Sub::Leaf = kind else {
-                continue;
-            };
-            seen = survey_entry(handle, level, part, word, seen);
-            continue;
+        seen = match entry::subtable(handle.base, ledger.len(), level, word) {
+            Sub::Table(j) => survey_range(words, ledger, handle, j, level + 1, part, seen),
+            Sub::Leaf => survey_entry(handle, level, part, word, seen),
+            Sub::Outside => seen,
         };
-        seen = survey_range(words, ledger, handle, j, level + 1, part, seen);
     }
     seen
 }

@@ -1,7 +1,6 @@
 -- `count_new`: each way through the code by its law.
 use Rattle.std.proofs.Common.{◌≡◌, ℕ, ◌+◌, ◌^◌, ◌<◌, sym, ap, ◌∙◌, arith}
 use mathlib.Core.Path.{subst⁻¹}
-use Rattle.entry.proofs.Tags.{is_outside}
 use Rattle.entry.specs.Sub.{sub-below}
 use Rattle.region.specs.Region.{Step, step_of, none_left}
 use Rattle.pool.specs.State.{St, st}
@@ -66,69 +65,68 @@ overflow_add-frame t c =
     let f = (step_fit _ _ _ _ step _ c.loop-region.invariant).room in
     omega (arith, c.len.ensures)
 
-pub loop-region-preserved-in_default-kind : goal.loop-region-preserved-in_default-kind
-loop-region-preserved-in_default-kind t c =
+pub loop-region-preserved : goal.loop-region-preserved
+loop-region-preserved t c =
     let a = c.args in
-    let at = (goal.at.loop-region-preserved-in_default-kind t c).After-len in
-    let outside = is_outside c.subtable-kind.result c.in_default.not-Table c.in_default-kind.not-Leaf in
+    let at = (goal.at.loop-region-preserved t c).After-len in
     skips at
-    (entry_outside a.handle (st a.words.now a.ledger.now) a.k a.level (chunk at) c.entry_index-i.ensures c.subtable-kind.ensures outside)
+    (entry_outside a.handle (st a.words.now a.ledger.now) a.k a.level (chunk at) c.entry_index-i.ensures c.subtable.ensures c.in-Outside.is)
 
 pub count_entry-count-requires : goal.count_entry-count-requires
 count_entry-count-requires t c =
     let at = (goal.at.count_entry-count-requires t c).After-len in (fits at, one at, omega arith)
 
-pub overflow_add-count : goal.overflow_add-count
-overflow_add-count t c =
+pub overflow_add-count-in-Leaf : goal.overflow_add-count-in-Leaf
+overflow_add-count-in-Leaf t c =
     let a = c.args in
-    let at = (goal.at.overflow_add-count t c).After-len in
-    let here = entry_leaf a.handle (st a.words.now a.ledger.now) a.k a.level (chunk at) c.entry_index-i.ensures c.subtable-kind.ensures
+    let at = (goal.at.overflow_add-count-in-Leaf t c).After-len in
+    let here = entry_leaf a.handle (st a.words.now a.ledger.now) a.k a.level (chunk at) c.entry_index-i.ensures c.subtable.ensures
     c.in-Leaf.is (omega arith) in
     omega (arith, small at c.count_entry-count.result (here ∙ sym c.count_entry-count.ensures))
+
+pub loop-region-preserved-in-Leaf : goal.loop-region-preserved-in-Leaf
+loop-region-preserved-in-Leaf t c =
+    let a = c.args in
+    let at = (goal.at.loop-region-preserved-in-Leaf t c).After-len in
+    adds at c.count_entry-count.result
+    (entry_leaf a.handle (st a.words.now a.ledger.now) a.k a.level (chunk at) c.entry_index-i.ensures c.subtable.ensures c.in-Leaf.is
+    (omega arith) ∙ sym c.count_entry-count.ensures)
+
+pub rule_of-requires : goal.rule_of-requires
+rule_of-requires t c =
+    let at = (goal.at.rule_of-requires t c).After-len in
+    subst⁻¹ (λ (m : Map). Fit m × (m.region.start.0 < m.region.end.0)) c.chunk_of-chunk.ensures (fits at, (one at).some)
 
 pub loop-region-preserved-in_default : goal.loop-region-preserved-in_default
 loop-region-preserved-in_default t c =
     let a = c.args in
     let at = (goal.at.loop-region-preserved-in_default t c).After-len in
-    adds at c.count_entry-count.result
-    (entry_leaf a.handle (st a.words.now a.ledger.now) a.k a.level (chunk at) c.entry_index-i.ensures c.subtable-kind.ensures c.in-Leaf.is
-    (omega arith) ∙ sym c.count_entry-count.ensures)
-
-pub rule_of-rule-requires : goal.rule_of-rule-requires
-rule_of-rule-requires t c =
-    let at = (goal.at.rule_of-rule-requires t c).After-len in
-    subst⁻¹ (λ (m : Map). Fit m × (m.region.start.0 < m.region.end.0)) c.chunk_of-chunk.ensures (fits at, (one at).some)
-
-pub loop-region-preserved-in_default-rule : goal.loop-region-preserved-in_default-rule
-loop-region-preserved-in_default-rule t c =
-    let a = c.args in
-    let at = (goal.at.loop-region-preserved-in_default-rule t c).After-len in
-    let none = no_down c.rule_of-rule.result c.in_default-rule.not-Down in
+    let none = no_down c.rule_of.result c.in_default.not-Down in
     skips at
-    (entry_none a.handle (st a.words.now a.ledger.now) a.k a.level (chunk at) c.entry_index-i.ensures c.subtable-kind.ensures
-    (ruled _ _ _ _ c.rule_of-rule.ensures c.chunk_of-chunk.ensures) none)
+    (entry_none a.handle (st a.words.now a.ledger.now) a.k a.level (chunk at) c.entry_index-i.ensures c.subtable.ensures
+    (ruled _ _ _ _ c.rule_of.ensures c.chunk_of-chunk.ensures) none)
 
 pub count_new-count-requires : goal.count_new-count-requires
 count_new-count-requires t c =
     let at = (goal.at.count_new-count-requires t c).After-len in
-    let inside = sub-below c.args.handle.base.0 _ c.args.level _ _ (sym c.subtable-kind.ensures ∙ c.in-Table.is) in
+    let inside = sub-below c.args.handle.base.0 _ c.args.level _ _ (sym c.subtable.ensures ∙ c.in-Table.is) in
     (omega arith, (c.requires.0, inside, omega arith, subst⁻¹ Fit c.chunk_of-chunk.ensures (fits at)))
 
-pub overflow_add-count-in-loop-region : goal.overflow_add-count-in-loop-region
-overflow_add-count-in-loop-region t c =
+pub overflow_add-count : goal.overflow_add-count
+overflow_add-count t c =
     let a = c.args in
-    let at = (goal.at.overflow_add-count-in-loop-region t c).After-len in
-    let here = entry-table a.handle (st a.words.now a.ledger.now) a.k a.level (chunk at) c.entry_index-i.ensures c.subtable-kind.ensures
-    (ruled _ _ _ _ c.rule_of-rule.ensures c.chunk_of-chunk.ensures) _ c.in-Table.is c.in-Down.is in
+    let at = (goal.at.overflow_add-count t c).After-len in
+    let here = entry-table a.handle (st a.words.now a.ledger.now) a.k a.level (chunk at) c.entry_index-i.ensures c.subtable.ensures
+    (ruled _ _ _ _ c.rule_of.ensures c.chunk_of-chunk.ensures) _ c.in-Table.is c.in-Down.is in
     omega (arith, small at c.count_new-count.result (here ∙ sym (lower _ _ _ _ _ _ c.count_new-count.ensures c.chunk_of-chunk.ensures)))
 
-pub loop-region-preserved : goal.loop-region-preserved
-loop-region-preserved t c =
+pub loop-region-preserved-in-Table : goal.loop-region-preserved-in-Table
+loop-region-preserved-in-Table t c =
     let a = c.args in
-    let at = (goal.at.loop-region-preserved t c).After-len in
+    let at = (goal.at.loop-region-preserved-in-Table t c).After-len in
     adds at c.count_new-count.result
-    (entry-table a.handle (st a.words.now a.ledger.now) a.k a.level (chunk at) c.entry_index-i.ensures c.subtable-kind.ensures
-    (ruled _ _ _ _ c.rule_of-rule.ensures c.chunk_of-chunk.ensures) _ c.in-Table.is c.in-Down.is
+    (entry-table a.handle (st a.words.now a.ledger.now) a.k a.level (chunk at) c.entry_index-i.ensures c.subtable.ensures
+    (ruled _ _ _ _ c.rule_of.ensures c.chunk_of-chunk.ensures) _ c.in-Table.is c.in-Down.is
     ∙ sym (lower _ _ _ _ _ _ c.count_new-count.ensures c.chunk_of-chunk.ensures))
 
 pub returns : goal.returns

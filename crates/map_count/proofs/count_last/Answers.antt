@@ -34,31 +34,32 @@ loop-region-preserved-in_default c =
     let a = c.args in
     let at = (goal.at.loop-region-preserved-in_default c).In-Some in
     step_skips 2 (counts at) a.map c.loop-region.count (taken at) c.loop-region.frame.0 c.loop-region.invariant c.len.ensures
-    (last_table a.handle (st a.words.now a.ledger.now) a.k (chunk at) c.entry_index-i.ensures c.subtable-kind.ensures c.in_default.not-Leaf)
+    (last_table a.handle (st a.words.now a.ledger.now) a.k (chunk at) c.entry_index-i.ensures c.subtable.ensures c.in_default.not-Leaf)
 
-pub rule_of-rule-requires : goal.rule_of-rule-requires
-rule_of-rule-requires c =
-    let at = (goal.at.rule_of-rule-requires c).In-Some in
+pub rule_of-requires : goal.rule_of-requires
+rule_of-requires c =
+    let at = (goal.at.rule_of-requires c).In-Some in
     let one = step_chunk 2 (counts at) c.args.map c.loop-region.count (taken at) c.loop-region.frame.0 c.loop-region.invariant in
     subst⁻¹ (λ (m : Map). Fit m × (m.region.start.0 < m.region.end.0)) c.chunk_of-chunk.ensures (fits at, one.some)
 
-pub loop-region-preserved-in_default-rule : goal.loop-region-preserved-in_default-rule
-loop-region-preserved-in_default-rule c =
+pub loop-region-preserved-in_default-rule_of : goal.loop-region-preserved-in_default-rule_of
+loop-region-preserved-in_default-rule_of c =
     let a = c.args in
-    let at = (goal.at.loop-region-preserved-in_default-rule c).In-Some in
-    let none = no_down c.rule_of-rule.result c.in_default-rule.not-Down in
+    let at = (goal.at.loop-region-preserved-in_default-rule_of c).In-Some in
+    let none = no_down c.rule_of.result c.in_default-rule_of.not-Down in
     step_skips 2 (counts at) a.map c.loop-region.count (taken at) c.loop-region.frame.0 c.loop-region.invariant c.len.ensures
-    (last_none a.handle (st a.words.now a.ledger.now) a.k (chunk at) c.entry_index-i.ensures c.subtable-kind.ensures c.in-Leaf.is
-    (ruled _ _ _ _ c.rule_of-rule.ensures c.chunk_of-chunk.ensures) none)
+    (last_none a.handle (st a.words.now a.ledger.now) a.k (chunk at) c.entry_index-i.ensures c.subtable.ensures c.in-Leaf.is
+    (ruled _ _ _ _ c.rule_of.ensures c.chunk_of-chunk.ensures) none)
 
 pub overflow_add-count : goal.overflow_add-count
 overflow_add-count c =
     let a = c.args in
     let at = (goal.at.overflow_add-count c).In-Some in
     let s = st a.words.now a.ledger.now in
-    let one = last_down a.handle s a.k (chunk at) c.entry_index-i.ensures c.subtable-kind.ensures c.in-Leaf.is
-    (ruled _ _ _ _ c.rule_of-rule.ensures c.chunk_of-chunk.ensures) c.in-Down.is in
-    let most = step_most 2 (counts at) a.map c.loop-region.count (taken at) c.loop-region.frame.0 c.loop-region.invariant c.len.ensures one in
+    let one = last_down a.handle s a.k (chunk at) c.entry_index-i.ensures c.subtable.ensures c.in-Leaf.is
+    (ruled _ _ _ _ c.rule_of.ensures c.chunk_of-chunk.ensures) c.in-Down.is in
+    let most = step_most 2 (counts at) a.map c.loop-region.count (taken at) c.loop-region.frame.0 c.loop-region.invariant
+    c.len.ensures one in
     omega (arith, most, count_fit a.handle s a.k 2 a.map (omega arith), c.requires.2.some, c.requires.2.room)
 
 pub loop-region-preserved : goal.loop-region-preserved
@@ -66,8 +67,8 @@ loop-region-preserved c =
     let a = c.args in
     let at = (goal.at.loop-region-preserved c).In-Some in
     step_adds 2 (counts at) a.map c.loop-region.count (taken at) c.loop-region.frame.0 c.loop-region.invariant c.len.ensures
-    (last_down a.handle (st a.words.now a.ledger.now) a.k (chunk at) c.entry_index-i.ensures c.subtable-kind.ensures c.in-Leaf.is
-    (ruled _ _ _ _ c.rule_of-rule.ensures c.chunk_of-chunk.ensures) c.in-Down.is)
+    (last_down a.handle (st a.words.now a.ledger.now) a.k (chunk at) c.entry_index-i.ensures c.subtable.ensures c.in-Leaf.is
+    (ruled _ _ _ _ c.rule_of.ensures c.chunk_of-chunk.ensures) c.in-Down.is)
 
 pub returns : goal.returns
 returns c =

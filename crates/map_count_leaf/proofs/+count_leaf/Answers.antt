@@ -46,12 +46,12 @@ deeper_fits level m stop part n f e =
 
 pub returns-in_default : goal.returns-in_default
 returns-in_default t c =
-    leaf_none c.args.level c.args.map c.args.word c.rule_of-rule.ensures (no_down c.rule_of-rule.result c.in_default.not-Down)
+    leaf_none c.args.level c.args.map c.args.word c.rule_of.ensures (no_down c.rule_of.result c.in_default.not-Down)
 
 pub returns-then-level-ge2 : goal.returns-then-level-ge2
 returns-then-level-ge2 t c =
     let a = c.args in
-    let r = c.rule_of-rule.ensures in
+    let r = c.rule_of.ensures in
     let down = c.in-Down.is in
     leaf_low a.level a.map a.word r down (down_high a.level a.map a.word r down) (omega arith)
 
@@ -100,7 +100,7 @@ pub returns : goal.returns
 returns t c =
     let a = c.args in
     let stop = c.chunk_end.ensures in
-    let down = leaf_down a.level a.map a.word c.rule_of-rule.ensures c.in-Down.is (omega arith) in
+    let down = leaf_down a.level a.map a.word c.rule_of.ensures c.in-Down.is (omega arith) in
     ap₂ (λ (x y : ℕ). 1 + x + y)
     (c.count_leaf.ensures
     ∙ ap₂ (closed_leaf (3 - (a.level + 1))) (c.chunk_of-first.ensures ∙ ap (first_of a.map) stop) c.part_of-part.ensures)

@@ -17,7 +17,7 @@ chunk c = chunk_map c.args.map c.args.region c.args.frame.0
 pub returns-in_default : goal.returns-in_default
 returns-in_default c =
     let m = chunk (goal.at.returns-in_default c).Start in
-    leaf_none c.args.level m c.args.word (cc) (no_down c.rule_of-rule.result c.in_default.not-Down)
+    leaf_none c.args.level m c.args.word (cc) (no_down c.rule_of.result c.in_default.not-Down)
 
 pub overflow_add-result : goal.overflow_add-result
 overflow_add-result c =
@@ -30,7 +30,7 @@ returns-then-is_missed c =
     let a = c.args in
     let m = chunk (goal.at.returns-then-is_missed c).Start in
     let rest : c.count_rest.result ≡ rests (3 - (a.level + 1)) m = cc in
-    let down = sym (c.rule_of-rule.ensures ∙ ap (λ (m : Map). rule_of a.level m a.word) c.chunk_of-chunk.ensures) ∙ c.in-Down.is in
+    let down = sym (c.rule_of.ensures ∙ ap (λ (m : Map). rule_of a.level m a.word) c.chunk_of-chunk.ensures) ∙ c.in-Down.is in
     let yes-missed = sym (c.is_missed.ensures
     ∙ ap (λ (m : Map). missedb a.level m a.word) c.chunk_of-chunk.ensures)
     ∙ c.if-is_missed.true in

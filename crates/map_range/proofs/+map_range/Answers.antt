@@ -1,5 +1,5 @@
 -- `map_range`: each way through the code by its law.
-use Rattle.std.proofs.Common.{◌≡◌, ℕ, ◌+◌, ◌<◌, sym, ap, ◌∙◌, arith}
+use Rattle.std.proofs.Common.{◌≡◌, ℕ, ◌+◌, ◌-◌, ◌<◌, sym, ap, ◌∙◌, arith}
 use mathlib.Core.Path.{subst⁻¹}
 use Rattle.address_slot.specs.Slot.{entry_index}
 use Rattle.region.specs.Region.{step_of, none_left}
@@ -16,17 +16,18 @@ use Rattle.map_put.specs.Laws.{below_kept, below-nothing}
 use Rattle.map_put.specs.Range.{map_step, map_open, map_each_done, chunk_here, chunk_none, chunk-into}
 use Rattle.map_split.specs.Split.{below_inside}
 use Rattle.map_range.proofs.Chunk.{chunk_fits, rest_fits, each_next}
-use Rattle.map_range.proofs.+map_range.Goals.{After-len, In-Down}
+use Rattle.map_range.proofs.+map_range.Goals.{After-chunk_of-chunk, In-Down}
 use Rattle.map_range.proofs.+map_range.Goals as goal
 
 -- the map of what is left after a chunk
-abbrev left_of : (t : ℕ) → After-len t → Map
-left_of t c = chunk_map c.args.map c.next.new.self.range (c.loop-region.frame.0 + c.len.result)
+abbrev left_of : (t : ℕ) → After-chunk_of-chunk t → Map
+left_of t c = chunk_map c.args.map c.next.new.self.range (c.loop-region.frame.0 + (c.in-Some.region.end.0 - c.in-Some.region.start.0))
 
 -- a chunk and what is left, once its slot and its map are known
-record Facts (t : ℕ) (c : After-len t) : Type 0 where
+record Facts (t : ℕ) (c : After-chunk_of-chunk t) : Type 0 where
   level : c.next.new.self.level ≡ c.args.level
   left : Fit (left_of t c)
+  forwards : c.in-Some.region.start.0 < c.in-Some.region.end.0
   slot : c.entry_index-i.result < 512
   index : c.entry_index-i.result ≡ entry_index c.args.level c.chunk_of-chunk.result.region.start.0
   shape : Shaped c.args.handle (st c.loop-region.words c.loop-region.ledger)
@@ -36,7 +37,7 @@ record Facts (t : ℕ) (c : After-len t) : Type 0 where
       each_map_chunk a.level f (left_of t c) (f c.chunk_of-chunk.result (st c.loop-region.words c.loop-region.ledger))
       ≡ each_map_chunk a.level f a.map (st a.words.now a.ledger.now)
 
-facts : (t : ℕ) (c : After-len t) → Facts t c
+facts : (t : ℕ) (c : After-chunk_of-chunk t) → Facts t c
 unfolding entry_index
 facts t c =
     let a = c.args in
@@ -49,7 +50,8 @@ facts t c =
     let chunk = c.chunk_of-chunk.ensures in
     record {
       level = ap (λ (d : ChunkedIterator). d.level) step.rest ∙ inv.level;
-      left = rest_fits a.map frame inv.fit step c.len.ensures;
+      left = rest_fits a.map frame inv.fit step;
+      forwards = (step_fits step).0;
       slot = omega (arith, c.entry_index-i.ensures);
       index = c.entry_index-i.ensures ∙ ap (λ (m : Map). entry_index a.level m.region.start.0) (sym chunk);
       shape = shaped_keep a.handle (st a.words.now a.ledger.now) s c.requires.0 inv.words inv.ledger;
@@ -57,12 +59,12 @@ facts t c =
       some = subst⁻¹ (λ (m : Map). m.region.start.0 < m.region.end.0) chunk (step_fits step).0;
       next =
           ap (λ (m : Map). each_map_chunk a.level f (left_of t c) (f m s)) chunk
-          ∙ each_next a.map frame inv.fit step a.level f s inv.level c.len.ensures
+          ∙ each_next a.map frame inv.fit step a.level f s inv.level
           ∙ inv.same;
     }
 
 -- what is left to do after the chunk, where the step is known
-onwards : (t : ℕ) (c : After-len t) {x : St} → let a = c.args in let f = map_step a.handle a.k a.level in
+onwards : (t : ℕ) (c : After-chunk_of-chunk t) {x : St} → let a = c.args in let f = map_step a.handle a.k a.level in
     x ≡ f c.chunk_of-chunk.result (st c.loop-region.words c.loop-region.ledger)
     → each_map_chunk a.level f (left_of t c) x ≡ each_map_chunk a.level f a.map (st a.words.now a.ledger.now)
 onwards t c e =
@@ -73,34 +75,37 @@ onwards t c e =
 high : (t : ℕ) (c : In-Down t) → c.args.level < 3
 high t c = down_high c.args.level c.chunk_of-chunk.result _ c.rule_of-rule.ensures c.in-Down.is
 
+pub overflow_sub-frame : goal.overflow_sub-frame
+overflow_sub-frame t c = omega (arith, (facts t (goal.at.overflow_sub-frame t c).After-chunk_of-chunk).forwards)
+
 pub overflow_add-frame : goal.overflow_add-frame
 overflow_add-frame t c =
-    let f = facts t (goal.at.overflow_add-frame t c).After-len in
+    let f = facts t (goal.at.overflow_add-frame t c).After-chunk_of-chunk in
     omega (arith, f.left.room)
 
 pub overflow_add-word : goal.overflow_add-word
 overflow_add-word t c =
-    let f = facts t (goal.at.overflow_add-word t c).After-len in
+    let f = facts t (goal.at.overflow_add-word t c).After-chunk_of-chunk in
     omega (arith, f.slot, f.shape.sized)
 
 pub offset_bounds-words-k : goal.offset_bounds-words-k
 offset_bounds-words-k t c =
-    let f = facts t (goal.at.offset_bounds-words-k t c).After-len in
+    let f = facts t (goal.at.offset_bounds-words-k t c).After-chunk_of-chunk in
     omega (arith, f.slot, f.shape.sized)
 
 pub bounds-words-k : goal.bounds-words-k
 bounds-words-k t c =
-    let f = facts t (goal.at.bounds-words-k t c).After-len in
+    let f = facts t (goal.at.bounds-words-k t c).After-chunk_of-chunk in
     omega (arith, f.slot, f.shape.sized)
 
 pub rule_of-rule-requires : goal.rule_of-rule-requires
 rule_of-rule-requires t c =
-    let f = facts t (goal.at.rule_of-rule-requires t c).After-len in
+    let f = facts t (goal.at.rule_of-rule-requires t c).After-chunk_of-chunk in
     (f.fit, f.some)
 
 pub put_entry-changed-requires : goal.put_entry-changed-requires
 put_entry-changed-requires t c =
-    let f = facts t (goal.at.put_entry-changed-requires t c).After-len in (
+    let f = facts t (goal.at.put_entry-changed-requires t c).After-chunk_of-chunk in (
       f.shape,
       omega (arith, c.loop-region.invariant.ledger),
       f.slot,
@@ -109,7 +114,7 @@ put_entry-changed-requires t c =
 
 pub loop-region-preserved-in_default : goal.loop-region-preserved-in_default
 loop-region-preserved-in_default t c =
-    let place = (goal.at.loop-region-preserved-in_default t c).After-len in
+    let place = (goal.at.loop-region-preserved-in_default t c).After-chunk_of-chunk in
     let a = c.args in
     let inv = c.loop-region.invariant in
     let f = facts t place in
@@ -127,12 +132,12 @@ loop-region-preserved-in_default t c =
 
 pub descend-under-requires : goal.descend-under-requires
 descend-under-requires t c =
-    let f = facts t (goal.at.descend-under-requires t c).After-len in
+    let f = facts t (goal.at.descend-under-requires t c).After-chunk_of-chunk in
     (f.shape, high t (goal.at.descend-under-requires t c).In-Down, omega (arith, c.loop-region.invariant.ledger), f.slot)
 
 pub loop-region-preserved-in_default-under : goal.loop-region-preserved-in_default-under
 loop-region-preserved-in_default-under t c =
-    let place = (goal.at.loop-region-preserved-in_default-under t c).After-len in
+    let place = (goal.at.loop-region-preserved-in_default-under t c).After-chunk_of-chunk in
     let a = c.args in
     let f = facts t place in
     let s = st c.loop-region.words c.loop-region.ledger in
@@ -151,7 +156,7 @@ loop-region-preserved-in_default-under t c =
 
 pub map_range-below-requires : goal.map_range-below-requires
 map_range-below-requires t c =
-    let f = facts t (goal.at.map_range-below-requires t c).After-len in
+    let f = facts t (goal.at.map_range-below-requires t c).After-chunk_of-chunk in
     let low = high t (goal.at.map_range-below-requires t c).In-Down in
     let a = c.args in
     let s = st c.loop-region.words c.loop-region.ledger in
@@ -163,7 +168,7 @@ map_range-below-requires t c =
 
 pub loop-region-preserved : goal.loop-region-preserved
 loop-region-preserved t c =
-    let place = (goal.at.loop-region-preserved t c).After-len in
+    let place = (goal.at.loop-region-preserved t c).After-chunk_of-chunk in
     let low = high t (goal.at.loop-region-preserved t c).In-Down in
     let a = c.args in
     let f = facts t place in

@@ -69,7 +69,8 @@ loop-chunk-preserved t c =
     let lent = work (st under.new.words under.new.ledger) c.loop-chunk.list c.loop-chunk.count in
     let part = ap (λ (e : Edit). modify_range (3 - (a.level + 1)) a.handle j e lent) c.chunk_edit-part.ensures in
     let not_own = sym c.is_own.ensures ∙ c.if-is_own.false in
-    let into = step-into a.handle a.k a.level a.edit c.in-Some.chunk w c.entry_index-i.ensures not_own under.ensures j c.in-Some-descend.is in
+    let found = c.in-Some-descend.is in
+    let into = step-into a.handle a.k a.level a.edit c.in-Some.chunk w c.entry_index-i.ensures not_own under.ensures j found in
     let inv = c.loop-chunk.invariant in (
       rec.auto.words ∙ under.auto.words ∙ inv.0,
       rec.auto.ledger ∙ under.auto.ledger ∙ inv.1,

@@ -1,7 +1,6 @@
 -- `survey_range`: each way through the code by its law.
 use Rattle.std.proofs.Common.{◌≡◌, ◌+◌, ℕ, ◌-◌, ◌<◌, sym, ap, ◌∙◌, arith}
 use mathlib.Core.Path.{subst⁻¹}
-use Rattle.entry.proofs.Tags.{is_outside}
 use Rattle.entry.specs.Sub.{sub_found}
 use Rattle.region.specs.declared.MemoryRegion.{MemoryRegion}
 use Rattle.region.specs.Region.{Step, step_of}
@@ -44,14 +43,13 @@ module _ {t : ℕ} (c : In-Some t) where
     left_step step _ _ c.in-Some.ensures.steps c.loop-chunk.seen e ∙ c.loop-chunk.invariant.1,
   )
 
-pub loop-chunk-preserved-in_default-kind : goal.loop-chunk-preserved-in_default-kind
-loop-chunk-preserved-in_default-kind t c =
+pub loop-chunk-preserved : goal.loop-chunk-preserved
+loop-chunk-preserved t c =
     let a = c.args in
-    let at = (goal.at.loop-chunk-preserved-in_default-kind t c).In-Some in
-    let outside = is_outside _ c.in_default.not-Table c.in_default-kind.not-Leaf in
+    let at = (goal.at.loop-chunk-preserved t c).In-Some in
     again at c.loop-chunk.seen (same_adds c.in-Some.chunk c.loop-chunk.seen)
-    (step_outside a.handle (state at) a.k a.level a.edit c.in-Some.chunk c.loop-chunk.seen c.entry_index-i.ensures c.subtable-kind.ensures
-    outside)
+    (step_outside a.handle (state at) a.k a.level a.edit c.in-Some.chunk c.loop-chunk.seen c.entry_index-i.ensures c.subtable.ensures
+    c.in-Outside.is)
 
 pub survey_entry-seen-requires : goal.survey_entry-seen-requires
 survey_entry-seen-requires t c =
@@ -59,10 +57,10 @@ survey_entry-seen-requires t c =
     subst⁻¹ (λ (e : Edit). (e.region.start.0 < e.region.end.0) × Room e.region c.loop-chunk.seen) c.chunk_edit-part.ensures
     (some at, room at)
 
-pub loop-chunk-preserved-in_default : goal.loop-chunk-preserved-in_default
-loop-chunk-preserved-in_default t c =
+pub loop-chunk-preserved-in-Leaf : goal.loop-chunk-preserved-in-Leaf
+loop-chunk-preserved-in-Leaf t c =
     let a = c.args in
-    let at = (goal.at.loop-chunk-preserved-in_default t c).In-Some in
+    let at = (goal.at.loop-chunk-preserved-in-Leaf t c).In-Some in
     let s = state at in
     let seen = c.loop-chunk.seen in
     let r = c.in-Some.chunk in
@@ -70,29 +68,30 @@ loop-chunk-preserved-in_default t c =
     let done = c.survey_entry-seen.ensures ∙ ap (λ (e : Edit). survey_entry a.handle a.level e w seen) c.chunk_edit-part.ensures in
     let adds = subst⁻¹ (Adds r seen) done (entry_adds a.handle a.level (chunk_edit a.edit r) _ seen (some at)) in
     again at _ adds
-    (done ∙ step-entry a.handle s a.k a.level a.edit r seen c.entry_index-i.ensures c.subtable-kind.ensures c.in-Leaf.is)
+    (done ∙ step-entry a.handle s a.k a.level a.edit r seen c.entry_index-i.ensures c.subtable.ensures c.in-Leaf.is)
 
 pub survey_range-seen-requires : goal.survey_range-seen-requires
 survey_range-seen-requires t c =
     let at = (goal.at.survey_range-seen-requires t c).In-Some in
-    let found = sub_found _ _ _ _ _ (sym c.subtable-kind.ensures ∙ c.in-Table.is) in
+    let found = sub_found _ _ _ _ _ (sym c.subtable.ensures ∙ c.in-Table.is) in
     let fits = subst⁻¹ (λ (e : Edit). Room e.region c.loop-chunk.seen) c.chunk_edit-part.ensures (room at) in
     (omega (arith, found.high, c.decreases), (c.requires.0, found.below, omega (arith, found.high), fits))
 
-pub loop-chunk-preserved : goal.loop-chunk-preserved
-loop-chunk-preserved t c =
+pub loop-chunk-preserved-in-Table : goal.loop-chunk-preserved-in-Table
+loop-chunk-preserved-in-Table t c =
     let a = c.args in
-    let at = (goal.at.loop-chunk-preserved t c).In-Some in
+    let at = (goal.at.loop-chunk-preserved-in-Table t c).In-Some in
     let s = state at in
     let seen = c.loop-chunk.seen in
     let r = c.in-Some.chunk in
     let j = c.in-Table.j in
-    let found = sub_found _ _ _ _ _ (sym c.subtable-kind.ensures ∙ c.in-Table.is) in
-    let done = c.survey_range-seen.ensures ∙ ap (λ (e : Edit). survey_range (3 - (a.level + 1)) a.handle s j e seen) c.chunk_edit-part.ensures in
+    let found = sub_found _ _ _ _ _ (sym c.subtable.ensures ∙ c.in-Table.is) in
+    let below = survey_range (3 - (a.level + 1)) a.handle s j in
+    let done = c.survey_range-seen.ensures ∙ ap (λ (e : Edit). below e seen) c.chunk_edit-part.ensures in
     let adds = subst⁻¹ (Adds r seen) done (range_adds (3 - (a.level + 1)) a.handle s j (chunk_edit a.edit r) seen) in
     again at _ adds
     (done
-    ∙ step-table a.handle s a.k a.level a.edit r seen c.entry_index-i.ensures c.subtable-kind.ensures j c.in-Table.is found.high)
+    ∙ step-table a.handle s a.k a.level a.edit r seen c.entry_index-i.ensures c.subtable.ensures j c.in-Table.is found.high)
 
 pub returns : goal.returns
 returns t c =

@@ -28,7 +28,8 @@ fn row_of(run: &[[u64; LINE_NUMBERS]]) -> Option<EntryRow> {
     })
 }
 
-// The first lines of a list; empty entries of one level that follow each other share a line.
+// The first lines of a list, as many as the call counted, whose count no clause here bounds by the list; empty entries of one level that
+// follow each other share a line.
 pub fn say_lines(out: &impl Print, list: &[[u64; LINE_NUMBERS]], count: usize) -> io::Result<()> {
     let lines = &list[..count.min(list.len())];
     for run in lines.chunk_by(are_alike) {
@@ -39,7 +40,7 @@ pub fn say_lines(out: &impl Print, list: &[[u64; LINE_NUMBERS]], count: usize) -
     Ok(())
 }
 
-// The first page numbers of a list, a line each.
+// The first page numbers of a list, a line each, as many as the call counted.
 pub fn say_page_numbers(out: &impl Print, list: &[u64], count: usize) -> io::Result<()> {
     for number in list.iter().take(count) {
         println!(out; "  page number {number:#x}")?;

@@ -36,7 +36,8 @@ pub enum Command {
     Compact,
 }
 
-// Each command with the values that it takes, in the order of the enum; what may be left out stands in brackets.
+// Each command with the values that it takes, in the order of the enum; what may be left out stands in brackets. One text, since it is the
+// table in which a reader looks a command up.
 const USAGE: &[u8] = b"expect accepted|refused [VALUE] [VALUE] [VALUE] [VALUE] [VALUE]
 words [TABLE] [FIRST] [COUNT]
 ledger

@@ -4,7 +4,7 @@ use pool::Refusal;
 use text_access::face::ANSWER_VALUES;
 use text_script::{MOST_VALUES, Values};
 
-// What the word `accepted` stands for; `refused` stands for another number.
+// What the word `accepted` stands for; `refused` stands for another number. A script may write the number itself.
 const ACCEPTED: u64 = 0;
 
 // Whether the values that are expected are those that came; a fifth is held to the fourth once more.

@@ -71,7 +71,7 @@ fn put_line(list: &mut [u64], to: usize, chunk: MemoryRegion, word: u64, level: 
     list[to + 3] = level as u64;
 }
 
-// Writes the lines that the region gives in table k, from a place of the list on, and answers with the place after them.
+// Writes the lines that the region gives in table k, from a place of the list on, which is lent whole; answers with the place after them.
 pub fn visit_range(
     words: &[u64],
     tables: usize,

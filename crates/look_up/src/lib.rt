@@ -55,6 +55,7 @@ fn walk_from(
     let slots = look_up_fields::slots_of(va);
     let mut level = handle.level;
     let mut k = 0;
+    // A loop by hand: a leaf ends it, and behind a `for` over the levels an answer would stand that no walk gives.
     loop {
         let slot = slots[level] as usize;
         let word = words[512 * k + slot];

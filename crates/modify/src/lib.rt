@@ -68,7 +68,8 @@ fn modify_sound(
     Ok(edit_tables(words, ledger, handle, edit, list))
 }
 
-// Sets and clears bits in the valid blocks and pages of the region; live, lists the page number of each whose word changed.
+// Sets and clears bits in the valid blocks and pages of the region; live, lists the page number of each whose word changed. `live` stands
+// beside the list, as the call promises: not live, a list of any length stays as it is.
 #[tactic(auto, unfolding(crate::specs::Call::modify_call, pool::specs::Refuse::first_refused))]
 pub fn modify(
     words: &mut [u64],

@@ -38,7 +38,7 @@ pub fn chunk_edit(edit: Edit, region: MemoryRegion) -> Edit
     Edit { region, ..edit }
 }
 
-// Live, a number goes after the others in the list; answers with how many there are.
+// Live, a number goes after the others in the list, which is lent whole, with its count beside it; answers with how many there are.
 #[tactic(auto, unfolding(crate::specs::Own::put_number))]
 fn put_number(live: bool, list: &mut [u64], count: usize, number: u64) -> usize
     ensures { numbered result list.new ≡ put_number live number count list.old }

@@ -46,7 +46,7 @@ pub fn flag_set(handle: Handle) -> u64
     entry::EL1_FLAGS
 }
 
-// The number of the upper range, the highest there is; 0 is lower.
+// The number of the upper range, the highest there is; 0 is lower. The C names take range and level as numbers.
 const UPPER: u64 = 1;
 
 // A level past those that a root may have.

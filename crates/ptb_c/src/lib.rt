@@ -1,4 +1,5 @@
-// The archive for other languages: the functions of ptb, each exported by its name (include/ptb.h says what each is).
+// The archive for other languages: the functions of ptb, each exported by its name (include/ptb.h says what each is). They stand here too,
+// since a crate is a library or a static library.
 #![tactic(auto)]
 
 ghost use Rattle.std.specs.Prelude.{◌≡◌};

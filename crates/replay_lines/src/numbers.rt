@@ -31,7 +31,7 @@ pub struct Numbers {
     count: usize,
 }
 
-// A number with one more digit; a capital is no digit here.
+// A number with one more digit, or the list's own fault: other than in a script, a capital and an underscore are no digits.
 fn append(number: u64, byte: u8) -> Result<u64, Fault> {
     let digit = text_words::digit_of(byte)
         .filter(|_| !byte.is_ascii_uppercase())

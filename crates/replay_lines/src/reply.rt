@@ -6,7 +6,7 @@ use text_access::face::ANSWER_VALUES;
 // What stands in an answer and in a list before a call.
 pub const UNWRITTEN: u64 = 0x5555_5555_5555_5555;
 
-// What stands in each place of a reply where no call was made; no refusal has this number.
+// What stands in each place of a reply where no call was made, and is printed; no refusal has this number.
 const NONE: u64 = 99;
 
 // In place of a reply where no call was made.

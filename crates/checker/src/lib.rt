@@ -3,19 +3,20 @@
 
 ghost use Rattle.std.specs.Prelude.{◌≡◌};
 ghost use Rattle.pool.specs.State.{st};
+ghost use Rattle.pool.specs.Lent.{seen};
 ghost use Rattle.pool.specs.Refuse.{Shaped};
 ghost use Rattle.pool.specs.Sound.{soundb};
 ghost use Rattle.checker.specs.Call.{sound_count, check_call};
 
-use pool::{Handle, Refusal};
+use pool::{Handle, Pool, Refusal};
 
 // The tables in use, if the pool is sound: where every used table hangs, as many links as used tables but the root leave no other link.
-pub fn count_sound(words: &[u64], ledger: &[u32], handle: Handle) -> Option<usize>
-    requires { Shaped handle (st words.now ledger.now) }
-    ensures { result ≡ sound_count handle (st words.now ledger.now) }
+pub fn count_sound(pool: &Pool<'_>) -> Option<usize>
+    requires { Shaped pool.now.handle (seen pool.now) }
+    ensures { result ≡ sound_count pool.now.handle (seen pool.now) }
 {
-    let links = checker_pass::scan_tables(words, ledger, handle)?;
-    let used = pool_ledger::count_used(ledger);
+    let links = checker_pass::scan_tables(pool)?;
+    let used = pool_ledger::count_used(pool.ledger);
     if links + 1 != used {
         return None;
     }
@@ -24,11 +25,11 @@ pub fn count_sound(words: &[u64], ledger: &[u32], handle: Handle) -> Option<usiz
 
 // Whether the pool is sound.
 #[tactic(auto, unfolding(crate::specs::Call::sound_count))]
-pub fn is_sound(words: &[u64], ledger: &[u32], handle: Handle) -> bool
-    requires { Shaped handle (st words.now ledger.now) }
-    ensures { result ≡ soundb handle (st words.now ledger.now) }
+pub fn is_sound(pool: &Pool<'_>) -> bool
+    requires { Shaped pool.now.handle (seen pool.now) }
+    ensures { result ≡ soundb pool.now.handle (seen pool.now) }
 {
-    count_sound(words, ledger, handle).is_some()
+    count_sound(pool).is_some()
 }
 
 // The pool check.
@@ -39,7 +40,12 @@ pub fn check(words: &[u64], ledger: &[u32], handle: Handle) -> Result<(), Refusa
     if !pool_handle::is_shaped(words, ledger, handle) {
         return Err(Refusal::Shape);
     }
-    if is_sound(words, ledger, handle) {
+    let pool = Pool {
+        words,
+        ledger,
+        handle,
+    };
+    if is_sound(&pool) {
         Ok(())
     } else {
         Err(Refusal::Unsound)

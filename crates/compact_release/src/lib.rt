@@ -2,8 +2,10 @@
 #![tactic(auto)]
 
 ghost use Rattle.std.specs.Prelude.{◌≡◌, ◌*◌, ◌<◌, length};
-ghost use Rattle.pool.specs.State.{st};
+ghost use Rattle.pool.specs.Lent.{lent, Keeps};
 ghost use Rattle.compact_spec.specs.Compact.{all_zero, release_empty};
+
+use pool::PoolMut;
 
 // Whether a table's words are all zero.
 fn is_empty(table: &[u64]) -> bool
@@ -13,15 +15,16 @@ fn is_empty(table: &[u64]) -> bool
 }
 
 // Frees table j if it is empty, and zeroes slot i of table k, which refers to it.
-pub fn release_empty(words: &mut [u64], ledger: &mut [u32], k: usize, i: usize, j: usize)
-    requires { (length words.old ≡ 512 * length ledger.old) × (k < length ledger.old) × (i < 512) × (j < length ledger.old) }
-    ensures { st words.new ledger.new ≡ release_empty k i j (st words.old ledger.old) }
+pub fn release_empty(pool: &mut PoolMut<'_>, k: usize, i: usize, j: usize)
+    requires { (k < length pool.old.ledger.now) × (i < 512) × (j < length pool.old.ledger.now) }
+    ensures keeps { Keeps pool.old pool.new }
+    ensures leaves { lent pool.new ≡ release_empty k i j (lent pool.old) }
 {
     let a = 512 * j;
     let e = a + 512;
-    if !is_empty(&words[a..e]) {
+    if !is_empty(&pool.read().words[a..e]) {
         return;
     }
-    words[512 * k + i] = 0;
-    pool_table::clear_table(words, ledger, j);
+    pool.words[512 * k + i] = 0;
+    pool_table::clear_table(pool, j);
 }

@@ -3,59 +3,41 @@
 
 ghost use Rattle.std.specs.Prelude.{◌≡◌, [], ◌∷◌, ◌+◌, ◌*◌, ◌-◌, ◌^◌, ◌≤◌, ◌<◌, length};
 ghost use Rattle.laws.specs.Part.{put_part};
-ghost use Rattle.region.specs.Chunks.{met};
 ghost use Rattle.arm.specs.Arm.{fetch};
 ghost use Rattle.list_lines.specs.Lines.{line, numbers, lines_from, written, write_lines};
 
 use address::VirtualAddress;
 use entry::Sub;
-use pool::Handle;
+use pool::Pool;
 use region::MemoryRegion;
 
 // The word of table k that the address lies in.
-fn get_entry(words: &[u64], tables: usize, k: usize, level: usize, va: VirtualAddress) -> u64
-    requires { (length words.now ≡ 512 * tables) × (k < tables) }
-    ensures { result ≡ fetch words.now va.0 k level }
+fn get_entry(pool: &Pool<'_>, k: usize, level: usize, va: VirtualAddress) -> u64
+    requires { (k < length pool.now.ledger.now) }
+    ensures { result ≡ fetch pool.now.words.now va.0 k level }
 {
     let slot = address_slot::entry_index(level, va.0);
-    words[512 * k + slot]
-}
-
-// The entries of level 3 that a region meets.
-fn count_pages(region: MemoryRegion) -> usize
-    ensures { result ≡ met 3 region.start.0 region.end.0 }
-{
-    if region.end.0 <= region.start.0 {
-        return 0;
-    }
-    ((region.end.0 - 1) / 4096 - region.start.0 / 4096 + 1) as usize
+    pool.words[512 * k + slot]
 }
 
 // How many lines the region gives in table k. A table of pages is not read for it.
-pub fn count_lines(
-    words: &[u64],
-    tables: usize,
-    handle: Handle,
-    k: usize,
-    level: usize,
-    region: MemoryRegion,
-) -> usize
-    requires { (length words.now ≡ 512 * tables) × (k < tables) × (level ≤ 3)
-        × (length (lines_from handle.base.0 tables words.now (3 - level) k region) < 2 ^ 64) }
-    ensures { result ≡ length (lines_from handle.base.0 tables words.now (3 - level) k region) }
+pub fn count_lines(pool: &Pool<'_>, k: usize, level: usize, region: MemoryRegion) -> usize
+    requires { (k < length pool.now.ledger.now) × (level ≤ 3)
+        × (length (lines_from pool.now.handle.base.0 (length pool.now.ledger.now) pool.now.words.now (3 - level) k region) < 2 ^ 64) }
+    ensures { result ≡ length (lines_from pool.now.handle.base.0 (length pool.now.ledger.now) pool.now.words.now (3 - level) k region) }
 {
     if address::LEAF_LEVEL <= level {
-        return count_pages(region);
+        return region.entries_met(address::LEAF_LEVEL) as usize;
     }
     let mut count = 0;
     for chunk in region.split(level) {
-        let word = get_entry(words, tables, k, level, VirtualAddress(chunk.start.0));
-        let kind = entry::subtable(handle.base, tables, level, word);
+        let word = get_entry(pool, k, level, chunk.start);
+        let kind = entry::subtable(pool.handle.base, pool.ledger.len(), level, word);
         let Sub::Table(j) = kind else {
             count += 1;
             continue;
         };
-        count += count_lines(words, tables, handle, j, level + 1, chunk);
+        count += count_lines(pool, j, level + 1, chunk);
     }
     count
 }
@@ -73,30 +55,30 @@ fn put_line(list: &mut [u64], to: usize, chunk: MemoryRegion, word: u64, level: 
 
 // Writes the lines that the region gives in table k, from a place of the list on, which is lent whole; answers with the place after them.
 pub fn visit_range(
-    words: &[u64],
-    tables: usize,
-    handle: Handle,
+    pool: &Pool<'_>,
     k: usize,
     level: usize,
     region: MemoryRegion,
     list: &mut [u64],
     from: usize,
 ) -> usize
-    requires { (length words.now ≡ 512 * tables) × (k < tables) × (level ≤ 3)
-        × (from + 4 * length (lines_from handle.base.0 tables words.now (3 - level) k region) ≤ length list.old) }
+    requires { (k < length pool.now.ledger.now) × (level ≤ 3)
+        × (from + 4 * length (lines_from pool.now.handle.base.0 (length pool.now.ledger.now) pool.now.words.now (3 - level) k region)
+        ≤ length list.old) }
     ensures { written result list.new
-        ≡ write_lines from (lines_from handle.base.0 tables words.now (3 - level) k region) list.old }
+        ≡ write_lines from
+        (lines_from pool.now.handle.base.0 (length pool.now.ledger.now) pool.now.words.now (3 - level) k region) list.old }
 {
     let mut to = from;
     for chunk in region.split(level) {
-        let word = get_entry(words, tables, k, level, VirtualAddress(chunk.start.0));
-        let kind = entry::subtable(handle.base, tables, level, word);
+        let word = get_entry(pool, k, level, chunk.start);
+        let kind = entry::subtable(pool.handle.base, pool.ledger.len(), level, word);
         let Sub::Table(j) = kind else {
             put_line(list, to, chunk, word, level);
             to += 4;
             continue;
         };
-        to = visit_range(words, tables, handle, j, level + 1, chunk, list, to);
+        to = visit_range(pool, j, level + 1, chunk, list, to);
     }
     to
 }

@@ -1,14 +1,14 @@
 // Look up: the walk of one address.
 #![tactic(auto)]
 
-ghost use Rattle.std.specs.Prelude.{◌≡◌, ◌*◌, ◌≤◌, length};
+ghost use Rattle.std.specs.Prelude.{◌≡◌, ◌≤◌, length};
 ghost use Rattle.pool.specs.State.{st};
 ghost use Rattle.arm.specs.Arm.{at, says, walk};
 ghost use Rattle.look_up.specs.Call.{answer, spanned, look_up_call};
 
 use address::{PhysicalAddress, VirtualAddress};
 use entry::{Kind, Sub};
-use pool::{Handle, Refusal, VaRange};
+use pool::{Handle, Pool, Refusal, VaRange};
 
 // What a walk finds: kind, level, flags without bit 1, and the frame of the address's page. A hole has no frame.
 #[derive(Clone, Copy)]
@@ -43,23 +43,18 @@ fn leaf(level: usize, word: u64, va: VirtualAddress) -> Looked
 }
 
 // From the root down until a word ends the walk.
-fn walk_from(
-    words: &[u64],
-    tables: usize,
-    handle: Handle,
-    va: VirtualAddress,
-) -> Result<Looked, Refusal>
-    requires { (1 ≤ tables) × (length words.now ≡ 512 * tables) × (handle.level ≤ 3) }
-    ensures { result ≡ answer (walk handle.base.0 tables words.now va.0 handle.level) }
+fn walk_from(pool: &Pool<'_>, va: VirtualAddress) -> Result<Looked, Refusal>
+    requires { (1 ≤ length pool.now.ledger.now) × (pool.now.handle.level ≤ 3) }
+    ensures { result ≡ answer (walk pool.now.handle.base.0 (length pool.now.ledger.now) pool.now.words.now va.0 pool.now.handle.level) }
 {
     let slots = look_up_fields::slots_of(va);
-    let mut level = handle.level;
+    let mut level = pool.handle.level;
     let mut k = 0;
     // A loop by hand: a leaf ends it, and behind a `for` over the levels an answer would stand that no walk gives.
     loop {
         let slot = slots[level] as usize;
-        let word = words[512 * k + slot];
-        let kind = entry::subtable(handle.base, tables, level, word);
+        let word = pool.words[512 * k + slot];
+        let kind = entry::subtable(pool.handle.base, pool.ledger.len(), level, word);
         let Sub::Table(j) = kind else {
             if let Sub::Outside = kind {
                 return Err(Refusal::Unsound);
@@ -87,5 +82,10 @@ pub fn look_up(
     if !is_spanned(range, handle.level, va) {
         return Err(Refusal::AddressRange(va));
     }
-    walk_from(words, ledger.len(), handle, va)
+    let pool = Pool {
+        words,
+        ledger,
+        handle,
+    };
+    walk_from(&pool, va)
 }

@@ -2,53 +2,53 @@
 #![tactic(auto)]
 
 ghost use Rattle.std.specs.Prelude.{false, ◌≡◌, ◌*◌, ◌%◌, ◌<◌, length};
-ghost use Rattle.pool.specs.State.{st};
+ghost use Rattle.pool.specs.Lent.{lent, Keeps};
 ghost use Rattle.pool.specs.Refuse.{Shaped};
 ghost use Rattle.map_put.specs.Put.{drop_entry, by_rule};
 ghost use Rattle.map_put.specs.Laws.{Stays};
 
 use entry::Sub;
 use map_rules::Rule;
-use pool::Handle;
+use pool::PoolMut;
 
 // The subtree that a word referred to is freed.
-fn drop_entry(words: &mut [u64], ledger: &mut [u32], handle: Handle, level: usize, word: u64)
-    requires { (length words.old ≡ 512 * length ledger.old) × (level < 3) }
-    ensures { st words.new ledger.new
-        ≡ drop_entry handle level word (st words.old ledger.old) }
+fn drop_entry(pool: &mut PoolMut<'_>, level: usize, word: u64)
+    requires { (level < 3) }
+    ensures keeps { Keeps pool.old pool.new }
+    ensures leaves { lent pool.new
+        ≡ drop_entry pool.old.handle level word (lent pool.old) }
 {
-    let kind = entry::subtable(handle.base, ledger.len(), level, word);
+    let kind = entry::subtable(pool.handle.base, pool.ledger.len(), level, word);
     let Sub::Table(j) = kind else {
         return;
     };
-    pool_table::free(words, ledger, handle, j, level + 1);
+    pool_table::free(pool, j, level + 1);
 }
 
 // A rule that goes no lower, carried out on slot i of table k. Whether a table was taken or freed, now or before.
 pub fn put_entry(
-    words: &mut [u64],
-    ledger: &mut [u32],
-    handle: Handle,
+    pool: &mut PoolMut<'_>,
     k: usize,
     level: usize,
     i: usize,
     rule: Rule,
     changed: bool,
 ) -> bool
-    requires { Shaped handle (st words.old ledger.old) × (k < length ledger.old) × (i < 512) × Stays level rule }
-    ensures { (st words.new ledger.new
-        ≡ by_rule (λ j t. t) handle k level i rule (st words.old ledger.old))
-        × (result ≡ false → (changed ≡ false) × (ledger.new ≡ ledger.old)) }
+    requires { Shaped pool.old.handle (lent pool.old) × (k < length pool.old.ledger.now) × (i < 512) × Stays level rule }
+    ensures keeps { Keeps pool.old pool.new }
+    ensures leaves { (lent pool.new
+        ≡ by_rule (λ j t. t) pool.old.handle k level i rule (lent pool.old))
+        × (result ≡ false → (changed ≡ false) × (pool.new.ledger.now ≡ pool.old.ledger.now)) }
 {
     match rule {
         Rule::Write(x) => {
-            words[512 * k + i] = x;
+            pool.words[512 * k + i] = x;
             changed
         }
         Rule::Drop(x) => {
-            let word = words[512 * k + i];
-            words[512 * k + i] = x;
-            drop_entry(words, ledger, handle, level, word);
+            let word = pool.words[512 * k + i];
+            pool.words[512 * k + i] = x;
+            drop_entry(pool, level, word);
             true
         }
         Rule::Keep => changed,

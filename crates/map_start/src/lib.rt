@@ -2,14 +2,14 @@
 #![tactic(auto)]
 
 ghost use Rattle.std.specs.Prelude.{◌<◌, length};
-ghost use Rattle.pool.specs.State.{st};
+ghost use Rattle.pool.specs.Lent.{seen};
 ghost use Rattle.pool.specs.Refuse.{Shaped};
 ghost use Rattle.map_rules.specs.Fit.{Fit};
 ghost use Rattle.map_start.specs.Start.{LeadsTo, Serves};
 
 use entry::Sub;
 use map_rules::{Map, Rule};
-use pool::Handle;
+use pool::Pool;
 
 // A table, and its level.
 #[derive(Clone, Copy)]
@@ -19,16 +19,10 @@ pub struct Place {
 }
 
 // The table below table k, where the region lies in one entry and the map goes down by its link.
-fn next_table(
-    words: &[u64],
-    ledger: &[u32],
-    handle: Handle,
-    k: usize,
-    level: usize,
-    map: Map,
-) -> Option<usize>
-    requires { Shaped handle (st words.now ledger.now) × (k < length ledger.now) × (level < 3) × Fit map }
-    ensures { LeadsTo handle k level map (st words.now ledger.now) result }
+#[tactic(auto, unfolding(address_slot::specs::Slot::entry_index))]
+fn next_table(pool: &Pool<'_>, k: usize, level: usize, map: Map) -> Option<usize>
+    requires { Shaped pool.now.handle (seen pool.now) × (k < length pool.now.ledger.now) × (level < 3) × Fit map }
+    ensures { LeadsTo pool.now.handle k level map (seen pool.now) result }
 {
     let start = map.region.start.0;
     let end = map.region.end.0;
@@ -40,8 +34,8 @@ fn next_table(
         return None;
     }
     let i = address_slot::entry_index(level, start);
-    let word = words[512 * k + i];
-    let kind = entry::subtable(handle.base, ledger.len(), level, word);
+    let word = pool.words[512 * k + i];
+    let kind = entry::subtable(pool.handle.base, pool.ledger.len(), level, word);
     let Sub::Table(j) = kind else {
         return None;
     };
@@ -53,13 +47,13 @@ fn next_table(
 }
 
 // A table from which the map does what it does from the root, as low as links and rule 5 lead.
-pub fn lowest_table(words: &[u64], ledger: &[u32], handle: Handle, map: Map) -> Place
-    requires { Shaped handle (st words.now ledger.now) × Fit map }
-    ensures { Serves handle map (st words.now ledger.now) result.table result.level }
+pub fn lowest_table(pool: &Pool<'_>, map: Map) -> Place
+    requires { Shaped pool.now.handle (seen pool.now) × Fit map }
+    ensures { Serves pool.now.handle map (seen pool.now) result.table result.level }
 {
     let mut table = 0;
-    for level in handle.level..address::LEAF_LEVEL {
-        let next = next_table(words, ledger, handle, table, level, map);
+    for level in pool.handle.level..address::LEAF_LEVEL {
+        let next = next_table(pool, table, level, map);
         let Some(below) = next else {
             return Place { table, level };
         };

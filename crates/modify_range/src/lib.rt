@@ -2,12 +2,12 @@
 #![tactic(auto)]
 
 ghost use Rattle.std.specs.Prelude.{◌≡◌, ◌-◌, ◌≤◌, ◌<◌, length};
-ghost use Rattle.pool.specs.State.{st};
+ghost use Rattle.pool.specs.Lent.{lent, Keeps};
 ghost use Rattle.pool.specs.Refuse.{Shaped};
 ghost use Rattle.modify_range.specs.Range.{own, work, modify_range};
 
 use modify_entry::Edit;
-use pool::Handle;
+use pool::PoolMut;
 use region::MemoryRegion;
 
 // Whether a chunk's entry is one of the table's own: a whole entry that is no table.
@@ -25,33 +25,32 @@ fn is_own(level: usize, region: MemoryRegion, word: u64) -> bool
 // has.
 #[tactic(auto, unfolding(address_slot::specs::Slot::entry_index))]
 pub fn modify_range(
-    words: &mut [u64],
-    ledger: &mut [u32],
-    handle: Handle,
+    pool: &mut PoolMut<'_>,
     k: usize,
     level: usize,
     edit: Edit,
     list: &mut [u64],
     before: usize,
 ) -> usize
-    requires { Shaped handle (st words.old ledger.old) × (k < length ledger.old) × (level ≤ 3) }
-    ensures { work (st words.new ledger.new) list.new result
-        ≡ modify_range (3 - level) handle k edit (work (st words.old ledger.old) list.old before) }
+    requires { Shaped pool.old.handle (lent pool.old) × (k < length pool.old.ledger.now) × (level ≤ 3) }
+    ensures keeps { Keeps pool.old pool.new }
+    ensures leaves { work (lent pool.new) list.new result
+        ≡ modify_range (3 - level) pool.old.handle k edit (work (lent pool.old) list.old before) }
 {
     if address::LEAF_LEVEL <= level {
-        return modify_entry::edit_own(words, k, level, edit, list, before);
+        return modify_entry::edit_own(pool.words, k, level, edit, list, before);
     }
     let mut count = before;
     for chunk in edit.region.split(level) {
         let i = address_slot::entry_index(level, chunk.start.0);
-        if is_own(level, chunk, words[512 * k + i]) {
+        if is_own(level, chunk, pool.words[512 * k + i]) {
             continue;
         }
-        let Some(j) = map_split::descend(words, ledger, handle, k, level, i) else {
+        let Some(j) = map_split::descend(pool, k, level, i) else {
             continue;
         };
         let part = modify_entry::chunk_edit(edit, chunk);
-        count = modify_range(words, ledger, handle, j, level + 1, part, list, count);
+        count = modify_range(pool, j, level + 1, part, list, count);
     }
-    modify_entry::edit_own(words, k, level, edit, list, count)
+    modify_entry::edit_own(pool.words, k, level, edit, list, count)
 }

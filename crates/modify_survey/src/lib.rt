@@ -3,14 +3,14 @@
 #![tactic(auto)]
 
 ghost use Rattle.std.specs.Prelude.{◌≡◌, ◌+◌, ◌*◌, ◌-◌, ◌≤◌, ◌<◌, ◌^◌, length};
-ghost use Rattle.pool.specs.State.{st};
+ghost use Rattle.pool.specs.Lent.{seen};
 ghost use Rattle.modify_survey.specs.House.{house_rule, may_change};
 ghost use Rattle.modify_survey.specs.Survey.{splits_in, breach, survey_part, survey_whole, survey_entry, survey_range};
 ghost use Rattle.modify_survey.specs.Room.{Room};
 
 use entry::{Kind, Sub};
 use modify_entry::Edit;
-use pool::Handle;
+use pool::{Handle, Pool};
 use region::MemoryRegion;
 
 // What was found: the tables that the splits take, the numbers that a list would get, and the first word that breaks the house rule.
@@ -120,26 +120,18 @@ fn survey_entry(handle: Handle, level: usize, edit: Edit, word: u64, seen: Surve
 
 // Every chunk of the edit in table k, ascending: only entries that exist are visited.
 #[tactic(auto, unfolding(address_slot::specs::Slot::entry_index))]
-pub fn survey_range(
-    words: &[u64],
-    ledger: &[u32],
-    handle: Handle,
-    k: usize,
-    level: usize,
-    edit: Edit,
-    before: Survey,
-) -> Survey
-    requires { (length words.now ≡ 512 * length ledger.now) × (k < length ledger.now) × (level ≤ 3) × Room edit.region before }
-    ensures { result ≡ survey_range (3 - level) handle (st words.now ledger.now) k edit before }
+pub fn survey_range(pool: &Pool<'_>, k: usize, level: usize, edit: Edit, before: Survey) -> Survey
+    requires { (k < length pool.now.ledger.now) × (level ≤ 3) × Room edit.region before }
+    ensures { result ≡ survey_range (3 - level) pool.now.handle (seen pool.now) k edit before }
 {
     let mut seen = before;
     for chunk in edit.region.split(level) {
         let i = address_slot::entry_index(level, chunk.start.0);
         let part = modify_entry::chunk_edit(edit, chunk);
-        let word = words[512 * k + i];
-        seen = match entry::subtable(handle.base, ledger.len(), level, word) {
-            Sub::Table(j) => survey_range(words, ledger, handle, j, level + 1, part, seen),
-            Sub::Leaf => survey_entry(handle, level, part, word, seen),
+        let word = pool.words[512 * k + i];
+        seen = match entry::subtable(pool.handle.base, pool.ledger.len(), level, word) {
+            Sub::Table(j) => survey_range(pool, j, level + 1, part, seen),
+            Sub::Leaf => survey_entry(pool.handle, level, part, word, seen),
             Sub::Outside => seen,
         };
     }

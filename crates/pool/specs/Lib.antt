@@ -3,3 +3,4 @@ pub mod State
 pub mod Number
 pub mod Refuse
 pub mod Sound
+pub mod Lent

@@ -4,7 +4,10 @@
 ghost use Rattle.std.specs.Prelude.{◌≡◌};
 ghost use Rattle.pool.specs.Refuse.{number};
 
+mod lent;
+
 use address::{PhysicalAddress, VirtualAddress};
+pub use lent::{Pool, PoolMut};
 use region::MemoryRegion;
 use std::error::Error;
 use std::fmt;
@@ -59,56 +62,43 @@ impl Refusal {
             Refusal::Short(_) => 11,
         }
     }
+
+    // When it is given.
+    fn meaning(self) -> &'static str {
+        match self {
+            Refusal::Shape => {
+                "n is 0 or above 4096, lengths disagree, base not a multiple of 4096 or its end above 2^48, root level above 3, \
+                 or table number not below n"
+            }
+            Refusal::End(_) => "end is 0 or above 2^64 - 4096",
+            Refusal::InvalidFlags(_) => "a flag argument has bit 1",
+            Refusal::FlagSet(_) => "a flag outside the set, bit 0 to set, or a bit both set and cleared",
+            Refusal::RegionBackwards(_) => "rounded end below rounded start",
+            Refusal::AddressRange(_) => "an address outside the root's span",
+            Refusal::Frame(_) => "frame not a multiple of 4096, or frame + length above 2^48",
+            Refusal::Unsound => "pool not sound",
+            Refusal::WantOfRoom(_, _) => "more new tables needed than are free",
+            Refusal::HouseRule(_) => "live house rule broken",
+            Refusal::Short(_) => "list shorter than needed, or page image not 4096 bytes",
+        }
+    }
 }
 
-// What it means, and what it carries.
+// Its number, when it is given, and what it carries.
 impl fmt::Display for Refusal {
     fn fmt<W: fmt::Write>(&self, f: &mut fmt::Formatter<W>) -> fmt::Result {
+        write!(f, "refused {}: {}", self.number(), self.meaning())?;
         match *self {
-            Refusal::Shape => f.write_str(
-                "refused 1: n is 0 or above 4096, lengths disagree, base not a multiple of 4096 or its end above 2^48, root level above 3, \
-                 or table number not below n",
-            ),
-            Refusal::End(end) => write!(
-                f,
-                "refused 2: end is 0 or above 2^64 - 4096 (end {end:#x})"
-            ),
-            Refusal::InvalidFlags(flags) => write!(
-                f,
-                "refused 3: a flag argument has bit 1 (flags {flags:#x})"
-            ),
-            Refusal::FlagSet(flags) => write!(
-                f,
-                "refused 4: a flag outside the set, bit 0 to set, or a bit both set and cleared (flags {flags:#x})"
-            ),
-            Refusal::RegionBackwards(region) => write!(
-                f,
-                "refused 5: rounded end below rounded start (start {:#x}, end {:#x})",
-                region.start.0, region.end.0
-            ),
-            Refusal::AddressRange(address) => write!(
-                f,
-                "refused 6: an address outside the root's span (address {:#x})",
-                address.0
-            ),
-            Refusal::Frame(frame) => write!(
-                f,
-                "refused 7: frame not a multiple of 4096, or frame + length above 2^48 (frame {:#x})",
-                frame.0
-            ),
-            Refusal::Unsound => f.write_str("refused 8: pool not sound"),
-            Refusal::WantOfRoom(needed, free) => write!(
-                f,
-                "refused 9: more new tables needed than are free (needed {needed}, free {free})"
-            ),
-            Refusal::HouseRule(word) => write!(
-                f,
-                "refused 10: live house rule broken (word {word:#x})"
-            ),
-            Refusal::Short(needed) => write!(
-                f,
-                "refused 11: list shorter than needed, or page image not 4096 bytes (needed {needed})"
-            ),
+            Refusal::Shape | Refusal::Unsound => Ok(()),
+            Refusal::End(end) => write!(f, " (end {end:#x})"),
+            Refusal::InvalidFlags(flags) => write!(f, " (flags {flags:#x})"),
+            Refusal::FlagSet(flags) => write!(f, " (flags {flags:#x})"),
+            Refusal::RegionBackwards(region) => write!(f, " (start {:#x}, end {:#x})", region.start.0, region.end.0),
+            Refusal::AddressRange(address) => write!(f, " (address {:#x})", address.0),
+            Refusal::Frame(frame) => write!(f, " (frame {:#x})", frame.0),
+            Refusal::WantOfRoom(needed, free) => write!(f, " (needed {needed}, free {free})"),
+            Refusal::HouseRule(word) => write!(f, " (word {word:#x})"),
+            Refusal::Short(needed) => write!(f, " (needed {needed})"),
         }
     }
 }

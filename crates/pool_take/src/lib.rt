@@ -2,11 +2,11 @@
 #![tactic(auto)]
 
 ghost use Rattle.std.specs.Prelude.{◌≡◌, ◌+◌, ◌*◌, ◌≤◌, ◌<◌, ◌^◌, length};
-ghost use Rattle.pool.specs.State.{st};
+ghost use Rattle.pool.specs.Lent.{lent, Keeps};
 ghost use Rattle.pool.specs.Refuse.{Shaped};
 ghost use Rattle.pool_table.specs.Table.{rising, taken, take_table};
 
-use pool::Handle;
+use pool::PoolMut;
 
 // A table's words, from the first on, each one step above the one before.
 fn fill(table: &mut [u64], first: u64, step: u64)
@@ -20,25 +20,23 @@ fn fill(table: &mut [u64], first: u64, step: u64)
 
 // The lowest free table for slot i of table p: filled, entered, and only then linked.
 pub fn take_table(
-    words: &mut [u64],
-    ledger: &mut [u32],
-    handle: Handle,
+    pool: &mut PoolMut<'_>,
     p: usize,
     level: usize,
     i: usize,
     first: u64,
     step: u64,
 ) -> Option<usize>
-    requires { Shaped handle (st words.old ledger.old) × (level ≤ 3) × (p < length ledger.old) × (i < 512)
+    requires { Shaped pool.old.handle (lent pool.old) × (level ≤ 3) × (p < length pool.old.ledger.now) × (i < 512)
         × (first + 511 * step < 2 ^ 64) }
-    ensures { taken result (st words.new ledger.new)
-        ≡ take_table handle p level i (rising 512 first step) (st words.old ledger.old) }
+    ensures keeps { Keeps pool.old pool.new }
+    ensures leaves { taken result (lent pool.new) ≡ take_table pool.old.handle p level i (rising 512 first step) (lent pool.old) }
 {
-    let j = pool_ledger::lowest_free(ledger)?;
+    let j = pool_ledger::lowest_free(pool.read().ledger)?;
     let a = 512 * j;
     let e = a + 512;
-    fill(&mut words[a..e], first, step);
-    ledger[j] = (4 + level + 8 * (512 * p + i + 1)) as u32;
-    words[512 * p + i] = entry::link(handle.base, j);
+    fill(&mut pool.words[a..e], first, step);
+    pool.ledger[j] = (4 + level + 8 * (512 * p + i + 1)) as u32;
+    pool.words[512 * p + i] = entry::link(pool.handle.base, j);
     Some(j)
 }

@@ -15,6 +15,9 @@ good c = sym c.is_shaped.ensures ∙ c.if-not-is_shaped.false
 shape : (c : Else-not-is_shaped) → let a = c.args in Shaped a.handle (st a.words.now a.ledger.now)
 shape c = let a = c.args in shaped-says a.handle (st a.words.now a.ledger.now) (rw (good c) tt)
 
+pub invariant_of-pool : goal.invariant_of-pool
+invariant_of-pool c = record { sized = (shape (goal.at.invariant_of-pool c).Else-not-is_shaped).sized }
+
 pub returns-then-not-is_shaped : goal.returns-then-not-is_shaped
 returns-then-not-is_shaped c =
     let a = c.args in
@@ -45,7 +48,6 @@ pub list_lines-requires : goal.list_lines-requires
 list_lines-requires c =
     let a = c.args in
     let p = shape (goal.at.list_lines-requires c).Else-not-is_shaped in (
-      p.sized,
       p.some,
       p.level,
       verified_length a.handle a.start.0 a.end.0

@@ -14,6 +14,9 @@ good c = sym c.is_shaped.ensures ∙ c.if-not-is_shaped.false
 shape : (c : Else-not-is_shaped) → let a = c.args in Shaped a.handle (st a.words.now a.ledger.now)
 shape c = let a = c.args in shaped-says a.handle (st a.words.now a.ledger.now) (rw (good c) tt)
 
+pub invariant_of-pool : goal.invariant_of-pool
+invariant_of-pool c = record { sized = (shape (goal.at.invariant_of-pool c).Else-not-is_shaped).sized }
+
 pub returns-then-not-is_shaped : goal.returns-then-not-is_shaped
 returns-then-not-is_shaped c =
     let a = c.args in
@@ -29,7 +32,7 @@ returns-then-not-is_spanned c =
 pub walk_from-requires : goal.walk_from-requires
 walk_from-requires c =
     let p = shape (goal.at.walk_from-requires c).Else-not-is_shaped in
-    (p.some, p.sized, p.level)
+    (p.some, p.level)
 
 pub returns : goal.returns
 returns c =

@@ -3,7 +3,8 @@ use Rattle.std.proofs.Common.{◌≡◌, ℕ, ◌+◌, ◌^◌, ◌<◌, sym, ap
 use mathlib.Core.Path.{subst⁻¹}
 use Rattle.entry.specs.Sub.{sub-below}
 use Rattle.region.specs.Region.{Step, step_of, none_left}
-use Rattle.pool.specs.State.{St, st}
+use Rattle.pool.specs.Lent.{seen}
+use Rattle.pool.specs.State.{St}
 use Rattle.pool.specs.declared.Handle.{Handle}
 use Rattle.map_rules.specs.declared.Map.{Map}
 use Rattle.map_rules.specs.Rules.{chunk_map}
@@ -23,7 +24,7 @@ lower levels h s j m n e q = e ∙ ap (closed levels h s j) q
 module _ {t : ℕ} (c : After-len t) where
   -- what one chunk counts
   abbrev counts : Map → ℕ
-  counts = count_at c.args.handle (st c.args.words.now c.args.ledger.now) c.args.k c.args.level
+  counts = count_at c.args.pool.now.handle (seen c.args.pool.now) c.args.k c.args.level
 
   -- the chunk's own map
   abbrev chunk : Map
@@ -50,14 +51,14 @@ module _ {t : ℕ} (c : After-len t) where
   small : (x : ℕ) → counts chunk ≡ x → c.loop-region.count + x < 2 ^ 64
   small x e =
       let a = c.args in
-      let p = c.requires.3 in
+      let p = c.requires.2 in
       let most = step_most a.level counts a.map c.loop-region.count taken c.loop-region.frame.0 c.loop-region.invariant c.len.ensures e in
-      omega (arith, most, count_fit a.handle (st a.words.now a.ledger.now) a.k a.level a.map (omega arith), p.some, p.room)
+      omega (arith, most, count_fit a.pool.now.handle (seen a.pool.now) a.k a.level a.map (omega arith), p.some, p.room)
 
 pub returns-then-level-ge-LEAF_LEVEL : goal.returns-then-level-ge-LEAF_LEVEL
 returns-then-level-ge-LEAF_LEVEL t c =
     let a = c.args in
-    closed_done a.handle (st a.words.now a.ledger.now) a.k a.level a.map (omega arith)
+    closed_done a.pool.now.handle (seen a.pool.now) a.k a.level a.map (omega arith)
 
 pub overflow_add-frame : goal.overflow_add-frame
 overflow_add-frame t c =
@@ -70,7 +71,7 @@ loop-region-preserved t c =
     let a = c.args in
     let at = (goal.at.loop-region-preserved t c).After-len in
     skips at
-    (entry_outside a.handle (st a.words.now a.ledger.now) a.k a.level (chunk at) c.entry_index-i.ensures c.subtable.ensures c.in-Outside.is)
+    (entry_outside a.pool.now.handle (seen a.pool.now) a.k a.level (chunk at) c.entry_index-i.ensures c.subtable.ensures c.in-Outside.is)
 
 pub count_entry-count-requires : goal.count_entry-count-requires
 count_entry-count-requires t c =
@@ -80,7 +81,7 @@ pub overflow_add-count-in-Leaf : goal.overflow_add-count-in-Leaf
 overflow_add-count-in-Leaf t c =
     let a = c.args in
     let at = (goal.at.overflow_add-count-in-Leaf t c).After-len in
-    let here = entry_leaf a.handle (st a.words.now a.ledger.now) a.k a.level (chunk at) c.entry_index-i.ensures c.subtable.ensures
+    let here = entry_leaf a.pool.now.handle (seen a.pool.now) a.k a.level (chunk at) c.entry_index-i.ensures c.subtable.ensures
     c.in-Leaf.is (omega arith) in
     omega (arith, small at c.count_entry-count.result (here ∙ sym c.count_entry-count.ensures))
 
@@ -89,7 +90,7 @@ loop-region-preserved-in-Leaf t c =
     let a = c.args in
     let at = (goal.at.loop-region-preserved-in-Leaf t c).After-len in
     adds at c.count_entry-count.result
-    (entry_leaf a.handle (st a.words.now a.ledger.now) a.k a.level (chunk at) c.entry_index-i.ensures c.subtable.ensures c.in-Leaf.is
+    (entry_leaf a.pool.now.handle (seen a.pool.now) a.k a.level (chunk at) c.entry_index-i.ensures c.subtable.ensures c.in-Leaf.is
     (omega arith) ∙ sym c.count_entry-count.ensures)
 
 pub rule_of-requires : goal.rule_of-requires
@@ -103,20 +104,20 @@ loop-region-preserved-in_default t c =
     let at = (goal.at.loop-region-preserved-in_default t c).After-len in
     let none = no_down c.rule_of.result c.in_default.not-Down in
     skips at
-    (entry_none a.handle (st a.words.now a.ledger.now) a.k a.level (chunk at) c.entry_index-i.ensures c.subtable.ensures
+    (entry_none a.pool.now.handle (seen a.pool.now) a.k a.level (chunk at) c.entry_index-i.ensures c.subtable.ensures
     (ruled _ _ _ _ c.rule_of.ensures c.chunk_of-chunk.ensures) none)
 
 pub count_new-count-requires : goal.count_new-count-requires
 count_new-count-requires t c =
     let at = (goal.at.count_new-count-requires t c).After-len in
-    let inside = sub-below c.args.handle.base.0 _ c.args.level _ _ (sym c.subtable.ensures ∙ c.in-Table.is) in
-    (omega arith, (c.requires.0, inside, omega arith, subst⁻¹ Fit c.chunk_of-chunk.ensures (fits at)))
+    let inside = sub-below c.args.pool.now.handle.base.0 _ c.args.level _ _ (sym c.subtable.ensures ∙ c.in-Table.is) in
+    (omega arith, (inside, omega arith, subst⁻¹ Fit c.chunk_of-chunk.ensures (fits at)))
 
 pub overflow_add-count : goal.overflow_add-count
 overflow_add-count t c =
     let a = c.args in
     let at = (goal.at.overflow_add-count t c).After-len in
-    let here = entry-table a.handle (st a.words.now a.ledger.now) a.k a.level (chunk at) c.entry_index-i.ensures c.subtable.ensures
+    let here = entry-table a.pool.now.handle (seen a.pool.now) a.k a.level (chunk at) c.entry_index-i.ensures c.subtable.ensures
     (ruled _ _ _ _ c.rule_of.ensures c.chunk_of-chunk.ensures) _ c.in-Table.is c.in-Down.is in
     omega (arith, small at c.count_new-count.result (here ∙ sym (lower _ _ _ _ _ _ c.count_new-count.ensures c.chunk_of-chunk.ensures)))
 
@@ -125,14 +126,14 @@ loop-region-preserved-in-Table t c =
     let a = c.args in
     let at = (goal.at.loop-region-preserved-in-Table t c).After-len in
     adds at c.count_new-count.result
-    (entry-table a.handle (st a.words.now a.ledger.now) a.k a.level (chunk at) c.entry_index-i.ensures c.subtable.ensures
+    (entry-table a.pool.now.handle (seen a.pool.now) a.k a.level (chunk at) c.entry_index-i.ensures c.subtable.ensures
     (ruled _ _ _ _ c.rule_of.ensures c.chunk_of-chunk.ensures) _ c.in-Table.is c.in-Down.is
     ∙ sym (lower _ _ _ _ _ _ c.count_new-count.ensures c.chunk_of-chunk.ensures))
 
 pub returns : goal.returns
 returns t c =
     let a = c.args in
-    let s = st a.words.now a.ledger.now in
-    counted a.level (count_at a.handle s a.k a.level) a.map c.loop-region.count c.loop-region.region-iterator c.loop-region.frame.0
+    let s = seen a.pool.now in
+    counted a.level (count_at a.pool.now.handle s a.k a.level) a.map c.loop-region.count c.loop-region.region-iterator c.loop-region.frame.0
     c.loop-region.invariant (none_left _ _ c.in-None.ensures.steps).0
-    ∙ closed_open a.handle s a.k a.level a.map (omega arith)
+    ∙ closed_open a.pool.now.handle s a.k a.level a.map (omega arith)

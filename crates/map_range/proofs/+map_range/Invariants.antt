@@ -1,5 +1,5 @@
-use Rattle.std.proofs.Common.{◌≡◌, ◌-◌, false, length}
-use Rattle.pool.specs.State.{st}
+use Rattle.std.proofs.Common.{◌≡◌, ◌-◌, false}
+use Rattle.pool.specs.Lent.{lent, Keeps}
 use Rattle.map_rules.specs.Fit.{Fit}
 use Rattle.map_rules.specs.Rules.{chunk_map}
 use Rattle.map_put.specs.Put.{each_map_chunk}
@@ -13,11 +13,10 @@ decreases-map_range l = 3 - l.level
 -- what is left fits, and makes of what is there what the whole map makes of what there was
 abbrev pub invariant-loop-region : goal.invariant-loop-region
 invariant-loop-region l = record {
+  keeps : Keeps l.initial.pool l.pool;
   level : l.region-iterator.level ≡ l.level;
   fit : Fit (chunk_map l.map l.region-iterator.range l.frame.0);
-  words : length l.words ≡ length l.initial.words;
-  ledger : length l.ledger ≡ length l.initial.ledger;
-  same : each_map_chunk l.level (map_step l.handle l.k l.level) (chunk_map l.map l.region-iterator.range l.frame.0) (st l.words l.ledger)
-      ≡ each_map_chunk l.level (map_step l.handle l.k l.level) l.map (st l.initial.words l.initial.ledger);
-  kept : l.changed ≡ false → l.ledger ≡ l.initial.ledger;
+  same : each_map_chunk l.level (map_step l.pool.handle l.k l.level) (chunk_map l.map l.region-iterator.range l.frame.0) (lent l.pool)
+      ≡ each_map_chunk l.level (map_step l.initial.pool.handle l.k l.level) l.map (lent l.initial.pool);
+  kept : l.changed ≡ false → l.pool.ledger.now ≡ l.initial.pool.ledger.now;
 }

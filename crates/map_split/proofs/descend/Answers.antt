@@ -2,7 +2,7 @@
 use Rattle.std.proofs.Common.{◌≡◌, ℕ, sym, refl, ◌∙◌}
 use Rattle.entry.specs.declared.Sub.{Sub}
 use Rattle.entry.specs.declared.Sub.TheVariants.{Table, Outside, Leaf}
-use Rattle.pool.specs.State.{st}
+use Rattle.pool.specs.Lent.{lent}
 use Rattle.entry.specs.Sub.{sub_some}
 use Rattle.map_split.specs.Split.{below-table, below_outside, below_split}
 use Rattle.map_split.proofs.descend.Goals as goal
@@ -13,10 +13,10 @@ outside (Table j) t l = absurd (t j refl)
 outside Outside t l = refl
 outside Leaf t l = absurd (l refl)
 
-pub returns-in_default-kind : goal.returns-in_default-kind
-returns-in_default-kind c =
+pub returns-in_default-kind-clause-leaves : goal.returns-in_default-kind-clause-leaves
+returns-in_default-kind-clause-leaves c =
     let a = c.args in
-    below_outside a.handle a.k a.level a.i (st a.words.now a.ledger.now) c.subtable-kind.ensures
+    below_outside a.pool.now.handle a.k a.level a.i (lent a.pool.now) c.subtable-kind.ensures
     (outside _ c.in_default.not-Table c.in_default-kind.not-Leaf)
 
 pub split_entry-requires : goal.split_entry-requires
@@ -27,16 +27,16 @@ split_entry-requires c =
       p.1,
       p.2,
       p.3,
-      λ e. sub_some a.handle.base.0 _ a.level _ p.1 e (sym c.subtable-kind.ensures ∙ c.in-Leaf.is),
+      λ e. sub_some a.pool.now.handle.base.0 _ a.level _ p.1 e (sym c.subtable-kind.ensures ∙ c.in-Leaf.is),
     )
 
-pub returns-in_default : goal.returns-in_default
-returns-in_default c =
+pub returns-in_default-clause-leaves : goal.returns-in_default-clause-leaves
+returns-in_default-clause-leaves c =
     let a = c.args in
-    c.split_entry.ensures
-    ∙ below_split a.handle a.k a.level a.i (st a.words.now a.ledger.now) c.subtable-kind.ensures c.in-Leaf.is
+    c.split_entry.ensures.leaves
+    ∙ below_split a.pool.now.handle a.k a.level a.i (lent a.pool.now) c.subtable-kind.ensures c.in-Leaf.is
 
-pub returns : goal.returns
-returns c =
+pub returns-clause-leaves : goal.returns-clause-leaves
+returns-clause-leaves c =
     let a = c.args in
-    below-table a.handle a.k a.level a.i (st a.words.now a.ledger.now) c.subtable-kind.ensures _ c.in-Table.is
+    below-table a.pool.now.handle a.k a.level a.i (lent a.pool.now) c.subtable-kind.ensures _ c.in-Table.is

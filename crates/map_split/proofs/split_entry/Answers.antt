@@ -4,7 +4,7 @@ use mathlib.Core.Path.{subst⁻¹}
 use Rattle.std.proofs.Common.{bit_and, get_or, arith}
 use Rattle.laws.specs.Size.{size_at, size_pos, size_low, size_step, size_room, size-down, down, down_paged}
 use Rattle.entry.specs.Word.{address_of, flags_of, address_below, mask_address, leaf_word, Plain, flags_plain}
-use Rattle.pool.specs.State.{st}
+use Rattle.pool.specs.Lent.{lent}
 use Rattle.pool_table.specs.Table.{rising}
 use Rattle.map_rules.specs.Fit.{leaf_most, steps_fit}
 use Rattle.map_rules.specs.Laws.{fill_leaf}
@@ -38,11 +38,11 @@ cleared level w e =
     ap₂ (λ (x g : ℕ). bit_and x (2 ^ 64 - 1 - (g - 1))) (mask_address w) e ∙ size-down level (address_of w) (wide w)
 
 -- the old word's flags fit
-plain : (c : After-granularity_at_level) → Plain (flags_of (get_or c.args.words.now (512 * c.args.k + c.args.i) 0))
-plain c = flags_plain _ (c.type_inv.words (512 * c.args.k + c.args.i)).fits (omega (arith, c.requires.4))
+plain : (c : After-granularity_at_level) → Plain (flags_of (get_or c.args.pool.now.words.now (512 * c.args.k + c.args.i) 0))
+plain c = flags_plain _ (omega arith) (omega (arith, c.requires.4))
 
 -- the new table's first word
-first : (c : After-leaf_word-first) → let w = get_or c.args.words.now (512 * c.args.k + c.args.i) 0 in
+first : (c : After-leaf_word-first) → let w = get_or c.args.pool.now.words.now (512 * c.args.k + c.args.i) 0 in
     c.leaf_word-first.result ≡ leaf_word (c.args.level + 1) (down (address_of w) (size_at c.args.level)) (flags_of w)
 first c =
     c.leaf_word-first.ensures
@@ -54,7 +54,7 @@ overflow_sub-address c = omega (arith, c.granularity_at_level.ensures, size_pos 
 pub leaf_word-first-requires : goal.leaf_word-first-requires
 leaf_word-first-requires c =
     let level = c.args.level in
-    let w = get_or c.args.words.now (512 * c.args.k + c.args.i) 0 in
+    let w = get_or c.args.pool.now.words.now (512 * c.args.k + c.args.i) 0 in
     let at = cleared level w c.granularity_at_level.ensures in (
       ap (λ (x : ℕ). x % 4096) at ∙ down_paged level (address_of w),
       subst⁻¹ (λ (x : ℕ). x < 2 ^ 48) at (top_below level w),
@@ -70,11 +70,11 @@ take_table-requires-2 c =
     let fits = subst⁻¹ (λ (n : ℕ). n < 2 ^ 64) last most in
     (p.0, omega arith, p.2, p.3, fits)
 
-pub returns : goal.returns
-returns c =
+pub returns-clause-leaves : goal.returns-clause-leaves
+returns-clause-leaves c =
     let a = c.args in
-    let s = st a.words.now a.ledger.now in
-    let valid : get_or a.words.now (512 * a.k + a.i) 0 % 2 ≡ 1 = omega arith in
-    let filled = ap₂ (rising 512) (first (goal.at.returns c).After-leaf_word-first) c.granularity_at_level-step.ensures in
-    c.take_table-2.ensures
-    ∙ split_is a.handle a.k a.level a.i s _ (filled ∙ fill_leaf a.level _ valid)
+    let s = lent a.pool.now in
+    let valid : get_or a.pool.now.words.now (512 * a.k + a.i) 0 % 2 ≡ 1 = omega arith in
+    let filled = ap₂ (rising 512) (first (goal.at.returns-clause-leaves c).After-leaf_word-first) c.granularity_at_level-step.ensures in
+    c.take_table-2.ensures.leaves
+    ∙ split_is a.pool.now.handle a.k a.level a.i s _ (filled ∙ fill_leaf a.level _ valid)

@@ -1,7 +1,8 @@
 use mathlib.Core.Path.{◌≡◌}
 use Prim.Native.Nat.{ℕ, ◌-◌, ◌+◌}
 use Rattle.laws.specs.Slot.{iter}
-use Rattle.pool.specs.State.{St, st}
+use Rattle.pool.specs.State.{St}
+use Rattle.pool.specs.Lent.{lent, Keeps}
 use Rattle.pool.specs.declared.Handle.{Handle}
 use Rattle.pool_table.specs.Table.{free_slot, free_tree}
 use Rattle.pool_table.proofs.+free.Given as goal
@@ -12,7 +13,11 @@ below level handle = λ j t. free_tree (3 - (level + 1)) handle j t
 
 abbrev pub invariant-loop-i : goal.invariant-loop-i
 invariant-loop-i l =
-    st l.words l.ledger ≡ iter (free_slot (below l.level l.handle) l.handle l.k l.level) l.i (st l.initial.words l.initial.ledger)
+    let first = l.initial.pool in
+    record {
+      keeps : Keeps first l.pool;
+      frees : lent l.pool ≡ iter (free_slot (below l.level first.handle) first.handle l.k l.level) l.i (lent first);
+    }
 
 abbrev pub decreases-free : goal.decreases-free
 decreases-free l = 3 - l.level

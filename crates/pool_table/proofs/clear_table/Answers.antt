@@ -9,10 +9,11 @@ use Rattle.pool_table.specs.Table.{clear_is}
 use Rattle.pool_table.proofs.Parts.{zeroed_part}
 use Rattle.pool_table.proofs.clear_table.Goals as goal
 
-pub returns : goal.returns
-returns c =
+pub returns-clause-leaves : goal.returns-clause-leaves
+returns-clause-leaves c =
     let a = c.args in
+    let p = a.pool.now in
     let part = c.zero in
-    ap (λ (w : List ℕ). st w (set a.ledger.now a.k 0))
-    (zeroed_part a.k a.words.now part.new.numbers (omega arith) part.ensures)
-    ∙ clear_is a.k (st a.words.now a.ledger.now)
+    ap (λ (w : List ℕ). st w (set p.ledger.now a.k 0))
+    (zeroed_part a.k p.words.now part.new.numbers (omega (arith, p.sized)) part.ensures)
+    ∙ clear_is a.k (st p.words.now p.ledger.now)

@@ -13,7 +13,7 @@ use region::MemoryRegion;
 
 // The word of table k that the address lies in.
 fn get_entry(pool: &Pool<'_>, k: usize, level: usize, va: VirtualAddress) -> u64
-    requires { (k < length pool.now.ledger.now) }
+    requires { k < length pool.now.ledger.now }
     ensures { result ≡ fetch pool.now.words.now va.0 k level }
 {
     let slot = address_slot::entry_index(level, va.0);

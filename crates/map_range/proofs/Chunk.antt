@@ -14,7 +14,8 @@ use Rattle.map_put.specs.Put.{each_map_chunk}
 use Rattle.map_put.specs.Range.{map-each-step}
 
 -- the iterator `it`, with the map of what is left, gave the chunk r, and `on` is what is left then
-module _ (m : Map) (frame : ℕ) {it on : ChunkedIterator} {r : MemoryRegion} (fit : Fit (chunk_map m it.range frame)) (step : Step it r on) where
+module _ (m : Map) (frame : ℕ) {it on : ChunkedIterator} {r : MemoryRegion} (fit : Fit (chunk_map m it.range frame))
+    (step : Step it r on) where
   pub chunk_fits : Fit (chunk_map m r frame)
   chunk_fits =
       let from = it.range.start.0 in

@@ -1,6 +1,6 @@
 use Rattle.std.proofs.Common.{◌≡◌, ◌+◌, ◌-◌}
 use Rattle.laws.specs.Slot.{iter}
-use Rattle.pool.specs.State.{st}
+use Rattle.pool.specs.Lent.{lent, Keeps}
 use Rattle.compact_spec.specs.Compact.{compact_entry, compact_table}
 use Rattle.compact.proofs.+compact_subtables.Given as goal
 
@@ -10,6 +10,10 @@ decreases-compact_subtables l = 3 - l.level
 -- one call of the level below is `compact_table` there
 abbrev pub invariant-loop-i : goal.invariant-loop-i
 invariant-loop-i l =
-    st l.words l.ledger
-    ≡ iter (compact_entry (λ j t. compact_table (3 - (l.level + 1)) l.handle j t) l.handle l.k l.level) l.i
-    (st l.initial.words l.initial.ledger)
+    let first = l.initial.pool in
+    record {
+      keeps : Keeps first l.pool;
+      compacts :
+          lent l.pool
+          ≡ iter (compact_entry (λ j t. compact_table (3 - (l.level + 1)) first.handle j t) first.handle l.k l.level) l.i (lent first);
+    }

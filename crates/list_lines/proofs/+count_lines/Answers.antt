@@ -60,7 +60,7 @@ below c j e =
 pub returns-then-level-ge-LEAF_LEVEL : goal.returns-then-level-ge-LEAF_LEVEL
 returns-then-level-ge-LEAF_LEVEL t c =
     let a = c.args in
-    c.count_pages.ensures
+    c.entries_met.ensures
     ∙ lines_pages _ _ _ a.k a.level a.region c.if-level-ge-LEAF_LEVEL.true
 
 pub returns : goal.returns

@@ -1,5 +1,5 @@
 -- `map_range`: each way through the code by its law.
-use Rattle.std.proofs.Common.{◌≡◌, ℕ, ◌+◌, ◌-◌, ◌<◌, sym, ap, ap₂, ◌∙◌, arith}
+use Rattle.std.proofs.Common.{◌≡◌, ℕ, ◌+◌, ◌-◌, ◌<◌, sym, ap, ap₂, ◌∙◌, length, arith}
 use mathlib.Core.Path.{subst⁻¹}
 use Rattle.address_slot.specs.Slot.{entry_index}
 use Rattle.region.specs.Region.{step_of, none_left}
@@ -31,6 +31,7 @@ record Facts (t : ℕ) (c : After-chunk_of-chunk t) : Type 0 where
   level : c.next.new.self.level ≡ c.args.level
   left : Fit (left_of t c)
   forwards : c.in-Some.region.start.0 < c.in-Some.region.end.0
+  inside : c.args.k < length c.loop-region.pool.ledger.now
   slot : c.entry_index-i.result < 512
   index : c.entry_index-i.result ≡ entry_index c.args.level c.chunk_of-chunk.result.region.start.0
   shape : Shaped c.loop-region.pool.handle (lent c.loop-region.pool)
@@ -55,6 +56,7 @@ facts t c =
       level = ap (λ (d : ChunkedIterator). d.level) step.rest ∙ inv.level;
       left = rest_fits a.map frame inv.fit step;
       forwards = (step_fits step).0;
+      inside = omega (arith, c.requires.1, inv.keeps.tables);
       slot = omega (arith, c.entry_index-i.ensures);
       index = c.entry_index-i.ensures ∙ ap (λ (m : Map). entry_index a.level m.region.start.0) (sym chunk);
       shape = shaped_kept a.pool.now at.pool c.requires.0 inv.keeps;
@@ -90,17 +92,17 @@ overflow_add-frame t c =
 pub overflow_add-word : goal.overflow_add-word
 overflow_add-word t c =
     let f = facts t (goal.at.overflow_add-word t c).After-chunk_of-chunk in
-    omega (arith, f.slot, f.shape.sized, c.loop-region.invariant.keeps.tables)
+    omega (arith, f.slot, f.shape.sized, f.inside)
 
 pub offset_bounds-pool-k : goal.offset_bounds-pool-k
 offset_bounds-pool-k t c =
     let f = facts t (goal.at.offset_bounds-pool-k t c).After-chunk_of-chunk in
-    omega (arith, f.slot, f.shape.sized, c.loop-region.invariant.keeps.tables)
+    omega (arith, f.slot, f.shape.sized, f.inside)
 
 pub bounds-pool-k : goal.bounds-pool-k
 bounds-pool-k t c =
     let f = facts t (goal.at.bounds-pool-k t c).After-chunk_of-chunk in
-    omega (arith, f.slot, f.shape.sized, c.loop-region.invariant.keeps.tables)
+    omega (arith, f.slot, f.shape.sized, f.inside)
 
 pub rule_of-rule-requires : goal.rule_of-rule-requires
 rule_of-rule-requires t c =
@@ -111,7 +113,7 @@ pub put_entry-changed-requires : goal.put_entry-changed-requires
 put_entry-changed-requires t c =
     let f = facts t (goal.at.put_entry-changed-requires t c).After-chunk_of-chunk in (
       f.shape,
-      omega (arith, c.loop-region.invariant.keeps.tables),
+      f.inside,
       f.slot,
       record { here = c.in_default.not-Down; high = drop_high c.args.level c.chunk_of-chunk.result _ c.rule_of-rule.ensures },
     )
@@ -136,7 +138,7 @@ loop-region-preserved-in_default t c =
 pub descend-under-requires : goal.descend-under-requires
 descend-under-requires t c =
     let f = facts t (goal.at.descend-under-requires t c).After-chunk_of-chunk in
-    (f.shape, high t (goal.at.descend-under-requires t c).In-Down, omega (arith, c.loop-region.invariant.keeps.tables), f.slot)
+    (f.shape, high t (goal.at.descend-under-requires t c).In-Down, f.inside, f.slot)
 
 pub loop-region-preserved-in_default-under : goal.loop-region-preserved-in_default-under
 loop-region-preserved-in_default-under t c =
@@ -186,8 +188,8 @@ loop-region-preserved t c =
     let rule = c.rule_of-rule.ensures in
     let keeps = keeps_on q under.new.pool lower.new.pool under.ensures.keeps lower.ensures.keeps in
     let deeper =
-        ap (λ (h : Handle). map_range (3 - (a.level + 1)) h c.in-Some-under.j c.chunk_of-chunk.result (lent under.new.pool))
-        under.ensures.keeps.handle
+    ap (λ (h : Handle). map_range (3 - (a.level + 1)) h c.in-Some-under.j c.chunk_of-chunk.result (lent under.new.pool))
+    under.ensures.keeps.handle
     in
     let step = chunk-into q.handle a.k a.level c.chunk_of-chunk.result s f.index rule c.in-Down.is found _ c.in-Some-under.is low in
     let kept = below_kept q.handle a.k a.level c.entry_index-i.result s found low in

@@ -72,7 +72,8 @@ impl Refusal {
             }
             Refusal::End(_) => "end is 0 or above 2^64 - 4096",
             Refusal::InvalidFlags(_) => "a flag argument has bit 1",
-            Refusal::FlagSet(_) => "a flag outside the set, bit 0 to set, or a bit both set and cleared",
+            Refusal::FlagSet(_) =>
+                "a flag outside the set, bit 0 to set, or a bit both set and cleared",
             Refusal::RegionBackwards(_) => "rounded end below rounded start",
             Refusal::AddressRange(_) => "an address outside the root's span",
             Refusal::Frame(_) => "frame not a multiple of 4096, or frame + length above 2^48",
@@ -93,7 +94,11 @@ impl fmt::Display for Refusal {
             Refusal::End(end) => write!(f, " (end {end:#x})"),
             Refusal::InvalidFlags(flags) => write!(f, " (flags {flags:#x})"),
             Refusal::FlagSet(flags) => write!(f, " (flags {flags:#x})"),
-            Refusal::RegionBackwards(region) => write!(f, " (start {:#x}, end {:#x})", region.start.0, region.end.0),
+            Refusal::RegionBackwards(region) => write!(
+                f,
+                " (start {:#x}, end {:#x})",
+                region.start.0, region.end.0
+            ),
             Refusal::AddressRange(address) => write!(f, " (address {:#x})", address.0),
             Refusal::Frame(frame) => write!(f, " (frame {:#x})", frame.0),
             Refusal::WantOfRoom(needed, free) => write!(f, " (needed {needed}, free {free})"),

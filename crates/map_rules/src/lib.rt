@@ -10,7 +10,8 @@ ghost use Rattle.map_rules.specs.Fit.{Fit};
 use address::PhysicalAddress;
 use region::MemoryRegion;
 
-// What to put down: the region, the frame of its first page, the flags, and whether blocks are allowed.
+// What to put down: the region, the frame of its first page, the flags, and whether blocks are allowed. Any may be asked for: `Fit` says of
+// one that was verified that it fits.
 #[derive(Clone, Copy)]
 pub struct Map {
     pub region: MemoryRegion,

@@ -1,4 +1,5 @@
-// The lent pool as one value.
+// The lent pool as one value. Its type holds `sized` and not `Shaped`, since functions that ask for no more take it too. A table's number
+// and its level stay beside it: each call makes them anew, the number from a link, the level by one more.
 ghost use Rattle.std.specs.Prelude.{◌≡◌, ◌*◌, length};
 ghost use Rattle.pool.specs.State.{st};
 

@@ -19,7 +19,8 @@ pub enum VaRange {
     Upper,
 }
 
-// What a caller keeps between calls: where the tables stand, the root's level, and its range.
+// What a caller keeps between calls: where the tables stand, the root's level, and its range. Any numbers may stand in it: refusal 1 is
+// given of those that make no pool.
 #[derive(Clone, Copy)]
 pub struct Handle {
     pub base: PhysicalAddress,

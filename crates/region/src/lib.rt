@@ -8,7 +8,8 @@ ghost use Rattle.region.specs.Chunks.{met, chunks_of};
 
 use address::VirtualAddress;
 
-// The addresses from start up to end, which is not among them.
+// The addresses from start up to end, which is not among them. Any two may be asked for: what a call needs of them is found, and then
+// stands in contracts.
 #[derive(Clone, Copy, Debug, PartialEq, Eq)]
 pub struct MemoryRegion {
     pub start: VirtualAddress,

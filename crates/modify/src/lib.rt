@@ -4,13 +4,14 @@
 
 ghost use Rattle.std.specs.Prelude.{◌≡◌, Ok, ◌-◌, ◌≤◌, ◌^◌};
 ghost use Rattle.pool.specs.State.{st};
+ghost use Rattle.pool.specs.Lent.{lent, Keeps};
 ghost use Rattle.pool.specs.Refuse.{Shaped};
 ghost use Rattle.modify.specs.Call.{modifying, edit_tables, modify_sound, modify_call};
 
 use address::VirtualAddress;
 use modify_entry::Edit;
 use modify_survey::Survey;
-use pool::{Handle, Refusal};
+use pool::{Handle, PoolMut, Refusal};
 use region::MemoryRegion;
 
 // What modify answers: the tables in use afterwards, counted off the ledger, and, live, how many numbers it listed.
@@ -22,19 +23,14 @@ pub enum Modified {
 
 // The edit from the root down.
 #[tactic(auto, unfolding(crate::specs::Call::edit_tables, crate::specs::Call::answer_of, pool::specs::Refuse::max_tables))]
-fn edit_tables(
-    words: &mut [u64],
-    ledger: &mut [u32],
-    handle: Handle,
-    edit: Edit,
-    list: &mut [u64],
-) -> Modified
-    requires { Shaped handle (st words.old ledger.old) }
-    ensures { modifying (Ok result) (st words.new ledger.new) list.new
-        ≡ edit_tables handle edit (st words.old ledger.old) list.old }
+fn edit_tables(pool: &mut PoolMut<'_>, edit: Edit, list: &mut [u64]) -> Modified
+    requires { Shaped pool.old.handle (lent pool.old) }
+    ensures keeps { Keeps pool.old pool.new }
+    ensures leaves { modifying (Ok result) (lent pool.new) list.new
+        ≡ edit_tables pool.old.handle edit (lent pool.old) list.old }
 {
-    let numbers = modify_range::modify_range(words, ledger, handle, 0, handle.level, edit, list, 0);
-    let tables = pool_ledger::count_used(ledger);
+    let numbers = modify_range::modify_range(pool, 0, pool.handle.level, edit, list, 0);
+    let tables = pool_ledger::count_used(pool.read().ledger);
     if edit.live {
         return Modified::Live(tables, numbers);
     }
@@ -43,29 +39,25 @@ fn edit_tables(
 
 // Refusals 8 to 11, then the edit.
 #[tactic(auto, unfolding(crate::specs::Call::modify_sound, pool::specs::Refuse::first_refused, pool::specs::Refuse::max_tables))]
-fn modify_sound(
-    words: &mut [u64],
-    ledger: &mut [u32],
-    handle: Handle,
-    edit: Edit,
-    list: &mut [u64],
-) -> Result<Modified, Refusal>
-    requires { Shaped handle (st words.old ledger.old) × (edit.region.end.0 - edit.region.start.0 ≤ 2 ^ 48) }
-    ensures { modifying result (st words.new ledger.new) list.new
-        ≡ modify_sound handle edit (st words.old ledger.old) list.old }
+fn modify_sound(pool: &mut PoolMut<'_>, edit: Edit, list: &mut [u64]) -> Result<Modified, Refusal>
+    requires { Shaped pool.old.handle (lent pool.old) × (edit.region.end.0 - edit.region.start.0 ≤ 2 ^ 48) }
+    ensures keeps { Keeps pool.old pool.new }
+    ensures leaves { modifying result (lent pool.new) list.new
+        ≡ modify_sound pool.old.handle edit (lent pool.old) list.old }
 {
-    if !checker::is_sound(words, ledger, handle) {
+    let seen = pool.read();
+    if !checker::is_sound(&seen) {
         return Err(Refusal::Unsound);
     }
-    let free = (ledger.len() - pool_ledger::count_used(ledger)) as u64;
+    let free = (seen.ledger.len() - pool_ledger::count_used(seen.ledger)) as u64;
     let none = Survey {
         splits: 0,
         numbers: 0,
         broken: None,
     };
-    let found = modify_survey::survey_range(words, ledger, handle, 0, handle.level, edit, none);
+    let found = modify_survey::survey_range(&seen, 0, seen.handle.level, edit, none);
     modify_verify::verify_survey(free, list.len() as u64, edit.live, found)?;
-    Ok(edit_tables(words, ledger, handle, edit, list))
+    Ok(edit_tables(pool, edit, list))
 }
 
 // Sets and clears bits in the valid blocks and pages of the region; live, lists the page number of each whose word changed. `live` stands
@@ -95,5 +87,10 @@ pub fn modify(
         live,
     };
     modify_verify::verify_edit(handle, end.0, asked)?;
-    modify_sound(words, ledger, handle, asked, list)
+    let mut pool = PoolMut {
+        words,
+        ledger,
+        handle,
+    };
+    modify_sound(&mut pool, asked, list)
 }

@@ -8,7 +8,7 @@ ghost use Rattle.map_spec.specs.Call.{map_call};
 
 use address::{PhysicalAddress, VirtualAddress};
 use map_rules::Map;
-use pool::{Handle, Refusal};
+use pool::{Handle, PoolMut, Refusal};
 use region::MemoryRegion;
 
 // The crate's two constraints; only the first is read.
@@ -39,5 +39,10 @@ pub fn map(
         blocks: constraints.0 % 2 == 0,
     };
     map_verify::verify_map(handle, end.0, asked)?;
-    map_room::map_sound(words, ledger, handle, asked)
+    let mut pool = PoolMut {
+        words,
+        ledger,
+        handle,
+    };
+    map_room::map_sound(&mut pool, asked)
 }

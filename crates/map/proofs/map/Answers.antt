@@ -1,7 +1,7 @@
 -- `map`: each way through the code by its law.
-use Rattle.std.proofs.Common.{◌≡◌, ◌%◌, sym, ap, subst, ◌∙◌, eqb, arith}
+use Rattle.std.proofs.Common.{rules, ◌≡◌, ℕ, List, ap₂, ◌%◌, sym, ap, subst, ◌∙◌, eqb, arith}
 use Rattle.pool.specs.State.{st}
-use Rattle.pool.specs.Refuse.{shaped-says}
+use Rattle.pool.specs.Refuse.{out, shaped-says}
 use Rattle.map_rules.specs.declared.Map.{Map}
 use Rattle.map_rules.specs.Fit.{Fit}
 use Rattle.map_verify.specs.Verify.{asked_map, verify_map, asked_is, asked_fit}
@@ -48,12 +48,20 @@ returns-in_err-verify_map c =
     (sym c.is_shaped.ensures ∙ c.if-not-is_shaped.false)
     (verified (goal.at.returns-in_err-verify_map c).After-verify_map) _ c.in_err-verify_map.was)
 
+pub invariant_of-pool : goal.invariant_of-pool
+invariant_of-pool c =
+    let a = c.args in
+    let shape = shaped-says a.handle (st a.words.now a.ledger.now) (rw (sym c.is_shaped.ensures ∙ c.if-not-is_shaped.false) tt) in
+    record { sized = shape.sized }
+
+-- the pool's slices end as the call leaves them
 pub returns : goal.returns
 returns c =
     let a = c.args in
     let at = goal.at.returns c in
     let s = st a.words.now a.ledger.now in
-    c.map_sound.ensures
+    ap₂ (λ (x y : List ℕ). out c.map_sound.result (st x y)) (search rules) (search rules)
+    ∙ c.map_sound.ensures.leaves
     ∙ ap (λ (m : Map). map_sound a.handle m s) (asked at.After-new)
     ∙ call-asked a.handle a.start.0 a.end.0 a.frame.0 a.flags a.constraints.0 s (sym c.is_shaped.ensures ∙ c.if-not-is_shaped.false)
     (verified at.After-verify_map) c.in_ok-verify_map.was

@@ -17,8 +17,8 @@ use Rattle.map_room.proofs.map_sound.Goals as goal
 known : (c : In-Some) → let p = c.args.pool.now in (soundb p.handle (lent p) ≡ true) × (c.in-Some.used ≡ used p.ledger.now)
 known c =
     let p = c.args.pool.now in
-    count_sound p.handle (lent p) (found c.read.result p c.read.ensures.words c.read.ensures.ledger c.read.ensures.handle c.count_sound-found.ensures)
-    _ c.in-Some.is
+    let is = found c.read.result p c.read.ensures.words c.read.ensures.ledger c.read.ensures.handle c.count_sound-found.ensures in
+    count_sound p.handle (lent p) is _ c.in-Some.is
 
 pub returns-in_default-clause-leaves : goal.returns-in_default-clause-leaves
 returns-in_default-clause-leaves c =

@@ -24,12 +24,14 @@ count_used-requires c =
 
 pub returns-then-map_range-clause-leaves : goal.returns-then-map_range-clause-leaves
 returns-then-map_range-clause-leaves c =
-    put_down_lem c.args.pool.now.handle c.args.map (lent c.args.pool.now) (mapped (goal.at.returns-then-map_range-clause-leaves c).After-map_range)
+    let p = c.args.pool.now in
+    put_down_lem p.handle c.args.map (lent p) (mapped (goal.at.returns-then-map_range-clause-leaves c).After-map_range)
     (c.count_used.ensures ∙ ap (λ (l : List ℕ). used l) c.read-then-map_range.ensures.ledger)
 
 -- the ledger is as it was, and so is its count
 pub returns-clause-leaves : goal.returns-clause-leaves
 returns-clause-leaves c =
     let untouched : c.map_range.result ≡ false = cc in
-    put_down_lem c.args.pool.now.handle c.args.map (lent c.args.pool.now) (mapped (goal.at.returns-clause-leaves c).After-map_range)
+    let p = c.args.pool.now in
+    put_down_lem p.handle c.args.map (lent p) (mapped (goal.at.returns-clause-leaves c).After-map_range)
     (c.requires.2 ∙ ap (λ (l : List ℕ). used l) (sym (c.map_range.ensures.leaves.1 untouched)))

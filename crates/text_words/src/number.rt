@@ -63,6 +63,7 @@ fn append(number: u64, byte: u8, base: u64) -> Result<u64, NumberError>
 }
 
 // The number that some digits of a base say.
+#[tactic(auto, unfolding(crate::specs::Says::number_from))]
 fn number_in(base: u64, digits: &[u8]) -> Result<u64, NumberError>
     ensures { result ≡ number_from base 0 digits.now }
 {

@@ -12,4 +12,4 @@ mod state;
 pub use answers::{Accepted, Answer, say_answer};
 pub use asking::{Ask, Unclear, asked};
 pub use commands::Command;
-pub use state::{Bench, Made};
+pub use state::{Bench, PoolShape};

@@ -1,5 +1,6 @@
 // What the bench keeps from line to line: its pool, what the last call answered, and its tallies.
-ghost use Rattle.std.specs.Prelude.{◌≡◌, ◌≢◌, ◌≤◌, IsOk, IsErr};
+ghost use Rattle.std.specs.Prelude.{◌≡◌, ◌≢◌, ◌≤◌, IsOk, IsErr, IfOk};
+ghost use Rattle.bench_session.specs.declared.asking.Unclear.TheVariants.{NoPool};
 ghost use Rattle.bench_session.specs.declared.commands.Command.TheVariants.{Make};
 ghost use Rattle.bench_view.specs.declared.TheConstants.{MOST_TABLES};
 
@@ -38,7 +39,10 @@ pub struct Bench {
 
 impl Bench {
     // The shape of the pool that a command works on: make's is the one that it asks for.
-    pub fn pool_for(&self, ask: &Ask) -> Result<PoolShape, Unclear<'static>> {
+    pub fn pool_for(&self, ask: &Ask) -> Result<PoolShape, Unclear<'static>>
+        ensures other { ask.now.command ≢ Make → IfOk result (λ shape. self.now.made ≡ Some shape) }
+        ensures none { ask.now.command ≢ Make → self.now.made ≡ None → result ≡ Err NoPool }
+    {
         if ask.command != Command::Make {
             return self.made.ok_or(Unclear::NoPool);
         }
@@ -66,7 +70,10 @@ impl Bench {
     }
 
     // Says whether the last answer is as a line expects, and what it was if it is not.
-    pub fn expect(&mut self, out: &impl Print, number: u64, values: &LineValues) -> io::Result<()> {
+    pub fn expect(&mut self, out: &impl Print, number: u64, values: &LineValues) -> io::Result<()>
+        ensures last { self.new.last ≡ self.old.last }
+        ensures made { self.new.made ≡ self.old.made }
+    {
         if self.last.is_some_and(|answer| agrees(answer, values)) {
             self.held = self.held.wrapping_add(1);
             return out.println("  as expected");
@@ -89,7 +96,10 @@ impl Bench {
         out: &impl Print,
         number: u64,
         unclear: Unclear<'_>,
-    ) -> io::Result<()> {
+    ) -> io::Result<()>
+        ensures last { self.new.last ≡ self.old.last }
+        ensures made { self.new.made ≡ self.old.made }
+    {
         self.unclear = self.unclear.wrapping_add(1);
         unclear.say(out, number)
     }

@@ -2,7 +2,7 @@
 // No function needs anything of its caller.
 use crate::room::Pool;
 use address::{PhysicalAddress, VirtualAddress};
-use bench_report::{LINE_NUMBERS, MOST_LINES};
+use bench_report::LIST_NUMBERS;
 use bench_session::{Accepted, Answer, say_answer};
 use map::Constraints;
 use modify::Modified;
@@ -100,18 +100,18 @@ impl<'a> Pool<'a> {
     // `list START END`: the entries of a region.
     pub fn list(&self, out: &impl Print, arguments: Arguments) -> io::Result<Answer> {
         let [start, end, ..] = arguments;
-        let mut lines = [[0; LINE_NUMBERS]; MOST_LINES];
+        let mut list = [0; LIST_NUMBERS];
         let listed = list::list(
             self.words,
             self.ledger,
             self.handle,
             VirtualAddress(start),
             VirtualAddress(end),
-            lines.as_flattened_mut(),
+            &mut list,
         );
         let answer = told(out, listed.map(Accepted::Listed))?;
         if let Ok(Accepted::Listed(entries)) = answer {
-            bench_report::say_lines(out, &lines, entries)?;
+            bench_report::say_lines(out, &list, entries)?;
         }
         Ok(answer)
     }

@@ -10,15 +10,15 @@ mod room;
 use bench_session::{Bench, Command, asked};
 use room::Room;
 use std::io;
-use text_script::{LINE_BYTES, MOST_LINES};
+use text_script::{LINE_BYTES, LineText, MOST_LINES};
 
-// What one line of the script does, by its number; the line is None where its bytes were too many to be kept.
+// What one line of the script does, by its number.
 fn turn(
     out: &impl Print,
     bench: &mut Bench,
     room: &mut Room,
     number: u64,
-    line: Option<&[u8]>,
+    line: LineText<'_>,
 ) -> io::Result<()> {
     let ask = match asked(line) {
         Ok(Some(ask)) => ask,
@@ -28,12 +28,12 @@ fn turn(
     if ask.command == Command::Expect {
         return bench.expect(out, number, &ask.values);
     }
-    let made = match bench.pool_for(&ask) {
-        Ok(made) => made,
+    let shape = match bench.pool_for(&ask) {
+        Ok(shape) => shape,
         Err(unclear) => return bench.complain(out, number, unclear),
     };
-    if let Some(answer) = command::run(out, &ask, &mut room.lend(made))? {
-        bench.keep(ask.command, made, answer);
+    if let Some(answer) = command::run(out, &ask, &mut room.lend(shape))? {
+        bench.keep(ask.command, shape, answer);
     }
     Ok(())
 }
@@ -45,11 +45,11 @@ fn main(rt: HostRuntime) -> io::Result<()> {
     let mut room = Room::new();
     let mut bench = Bench::default();
     for number in 1..=MOST_LINES {
-        let Some(length) = text_script::read_line(&mut input, &mut text)? else {
+        let Some(line) = text_script::read_line(&mut input, &mut text)? else {
             break;
         };
-        let line = text.get(..length);
-        rt.write_all(line.unwrap_or(&text))?;
+        let (LineText::Whole(kept) | LineText::Cut(kept)) = line;
+        rt.write_all(kept)?;
         rt.println("")?;
         turn(&rt, &mut bench, &mut room, number, line)?;
     }

@@ -1,5 +1,7 @@
 // The words and the ledger numbers that the bench has room for, and the pool that a command is lent of them.
-use bench_session::Made;
+ghost use Rattle.std.specs.Prelude.{◌≡◌, ◌*◌, length};
+
+use bench_session::PoolShape;
 use bench_view::MOST_TABLES;
 use pool::Handle;
 use text_access::face::TABLE_WORDS;
@@ -35,13 +37,17 @@ impl Room {
     }
 
     // The first tables, as many as a pool has.
-    pub fn lend(&mut self, made: Made) -> Pool<'_> {
+    pub fn lend(&mut self, shape: PoolShape) -> Pool<'_>
+        ensures words { length result.words.now ≡ 512 * shape.tables }
+        ensures ledger { length result.ledger.now ≡ shape.tables }
+        ensures handle { result.handle ≡ shape.handle }
+    {
         let words = self.words.as_mut_slice();
         let ledger = self.ledger.as_mut_slice();
         Pool {
-            words: &mut words[..TABLE_WORDS * made.tables],
-            ledger: &mut ledger[..made.tables],
-            handle: made.handle,
+            words: &mut words[..TABLE_WORDS * shape.tables],
+            ledger: &mut ledger[..shape.tables],
+            handle: shape.handle,
         }
     }
 }

@@ -72,7 +72,7 @@ impl fmt::Display for Flags {
 }
 
 // A line of a list: the region of an entry, or of some entries that are alike, their level and their word.
-#[derive(Clone, Copy, Debug, PartialEq, Eq)]
+#[derive(Clone, Copy, Debug, Default, PartialEq, Eq)]
 pub struct EntryRow {
     pub start: u64,
     pub end: u64,

@@ -1,43 +1,62 @@
 // What stands in a list that a call filled: its entries, or the page numbers of those that a live modify changed.
 use crate::entry_row::EntryRow;
 use std::io;
+use text_access::item_at;
 
 // The lines that a list has room for.
-pub const MOST_LINES: usize = 768;
+const MOST_LINES: usize = 768;
 
 // The numbers of a line: where the entry starts and ends, its word and its level.
-pub const LINE_NUMBERS: usize = 4;
+const LINE_NUMBERS: usize = 4;
 
-// Whether two lines are empty entries of one level, which share a line.
-fn are_alike(one: &[u64; LINE_NUMBERS], next: &[u64; LINE_NUMBERS]) -> bool {
-    let [_, _, word, level] = *one;
-    let [_, _, next_word, next_level] = *next;
-    word == 0 && next_word == 0 && level == next_level
+// The numbers that a list has room for.
+pub const LIST_NUMBERS: usize = MOST_LINES * LINE_NUMBERS;
+
+// The entry of a line: zeroes past the end of the list, and where no list has room for the line.
+fn row_at(list: &[u64], line: usize) -> EntryRow {
+    if MOST_LINES <= line {
+        return EntryRow {
+            entries: 1,
+            ..EntryRow::default()
+        };
+    }
+    let at = line * LINE_NUMBERS;
+    EntryRow {
+        start: item_at(list, at),
+        end: item_at(list, at + 1),
+        word: item_at(list, at + 2),
+        level: item_at(list, at + 3),
+        entries: 1,
+    }
 }
 
-// What the lines of a run say.
-fn row_of(run: &[[u64; LINE_NUMBERS]]) -> Option<EntryRow> {
-    let [start, _, word, level] = *run.first()?;
-    let [_, end, _, _] = *run.last()?;
-    Some(EntryRow {
-        start,
-        end,
-        level,
-        word,
-        entries: run.len(),
+// The row of two that follow each other, if they can share a line: they are empty entries of one level.
+fn shared(run: EntryRow, next: EntryRow) -> Option<EntryRow> {
+    (run.word == 0 && next.word == 0 && run.level == next.level).then_some(EntryRow {
+        end: next.end,
+        entries: run.entries.saturating_add(next.entries),
+        ..run
     })
 }
 
 // The first lines of a list, as many as the call counted, whose count no clause here bounds by the list; empty entries of one level that
 // follow each other share a line.
-pub fn say_lines(out: &impl Print, list: &[[u64; LINE_NUMBERS]], count: usize) -> io::Result<()> {
-    let lines = &list[..count.min(list.len())];
-    for run in lines.chunk_by(are_alike) {
-        if let Some(row) = row_of(run) {
-            out.println(row)?;
-        }
+pub fn say_lines(out: &impl Print, list: &[u64], count: usize) -> io::Result<()> {
+    if count == 0 {
+        return Ok(());
     }
-    Ok(())
+    let mut run = row_at(list, 0);
+    for line in 1..count {
+        let next = row_at(list, line);
+        run = match shared(run, next) {
+            Some(longer) => longer,
+            None => {
+                out.println(run)?;
+                next
+            }
+        };
+    }
+    out.println(run)
 }
 
 // The first page numbers of a list, a line each, as many as the call counted.

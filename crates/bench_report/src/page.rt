@@ -1,34 +1,34 @@
 // A page image: a row for each word that is not zero, its eight bytes.
+use std::array::from_fn;
 use std::{fmt, io};
 use text_access::face::PAGE_BYTES;
+use text_access::item_at;
 
 // The bytes of a row: those of a word.
 const ROW_BYTES: usize = 8;
 
 // A row: where it stands in the page, and its bytes.
 #[derive(Clone, Copy)]
-struct Row<'a> {
+struct Row {
     at: usize,
-    bytes: &'a [u8],
+    bytes: [u8; ROW_BYTES],
 }
 
-impl<'a> fmt::Display for Row<'a> {
+impl fmt::Display for Row {
     fn fmt<W: fmt::Write>(&self, f: &mut fmt::Formatter<W>) -> fmt::Result {
         write!(f, "  byte {:#05x}", self.at)?;
-        for byte in self.bytes {
+        for byte in &self.bytes {
             write!(f, " {byte:02x}")?;
         }
         Ok(())
     }
 }
 
-// The rows of a page that are not zero.
-pub fn say_page(out: &impl Print, page: &[u8; PAGE_BYTES]) -> io::Result<()> {
-    for (at, bytes) in (0..PAGE_BYTES)
-        .step_by(ROW_BYTES)
-        .zip(page.chunks(ROW_BYTES))
-    {
-        if bytes.iter().any(|&byte| byte != 0) {
+// The rows of a page that are not zero; bytes past its end are zero.
+pub fn say_page(out: &impl Print, page: &[u8]) -> io::Result<()> {
+    for at in (0..PAGE_BYTES).step_by(ROW_BYTES) {
+        let bytes = from_fn(|place| item_at(page, at + place));
+        if bytes != [0; ROW_BYTES] {
             out.println(Row { at, bytes })?;
         }
     }

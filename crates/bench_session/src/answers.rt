@@ -27,7 +27,7 @@ pub type Answer = Result<Accepted, Refusal>;
 
 impl Accepted {
     // The values of the answer, as the library's face for other languages orders them; zeroes after them.
-    pub fn values(self) -> [u64; ANSWER_VALUES] {
+    pub(crate) fn values(self) -> [u64; ANSWER_VALUES] {
         let mut values = [0; ANSWER_VALUES];
         match self {
             Accepted::Done => {}

@@ -2,14 +2,14 @@
 use crate::commands::Command;
 use bench_view::MOST_TABLES;
 use std::{fmt, io};
-use text_script::{LINE_BYTES, MOST_VALUES, Values, ValuesError, values_of};
+use text_script::{LINE_BYTES, LineText, LineValues, MOST_VALUES, ValuesError, values_of};
 use text_words::{NumberError, Words};
 
 // What a line asks: a command, with its values.
 #[derive(Clone, Copy, Debug)]
 pub struct Ask {
     pub command: Command,
-    pub values: Values,
+    pub values: LineValues,
 }
 
 impl Ask {
@@ -45,7 +45,7 @@ fn say_about<T: fmt::Display + Drop>(out: &impl Print, reason: T, about: &[u8]) 
 
 impl<'a> Unclear<'a> {
     // Says why, by the line's number.
-    pub fn say(self, out: &impl Print, number: u64) -> io::Result<()> {
+    pub(crate) fn say(self, out: &impl Print, number: u64) -> io::Result<()> {
         print!(out; "  line {number}: ")?;
         match self {
             Unclear::LineTooLong => println!(out; "a line has at most {LINE_BYTES} bytes"),
@@ -62,9 +62,12 @@ impl<'a> Unclear<'a> {
     }
 }
 
-// What a line asks, if it has a word; the line is None where its bytes were too many to be kept.
-pub fn asked(line: Option<&[u8]>) -> Result<Option<Ask>, Unclear<'_>> {
-    let mut words = Words::of(line.ok_or(Unclear::LineTooLong)?);
+// What a line asks, if it has a word.
+pub fn asked(line: LineText<'_>) -> Result<Option<Ask>, Unclear<'_>> {
+    let LineText::Whole(text) = line else {
+        return Err(Unclear::LineTooLong);
+    };
+    let mut words = Words::of(text);
     let Some(name) = words.next() else {
         return Ok(None);
     };

@@ -1,6 +1,9 @@
 // The commands of a script.
 use text_words::{Words, line_of};
 
+// How many commands there are.
+const COMMANDS: usize = 15;
+
 // A command.
 #[derive(Clone, Copy, Debug, PartialEq, Eq)]
 pub enum Command {
@@ -36,8 +39,8 @@ pub enum Command {
     Compact,
 }
 
-// Each command with the values that it takes, in the order of the enum; what may be left out stands in brackets. One text, since it is the
-// table in which a reader looks a command up.
+// Each command's name with the values that it takes, in the order of Command::ALL; what may be left out stands in brackets. One text,
+// as a person reads it: both the names and the counts are read off it.
 const USAGE: &[u8] = b"expect accepted|refused [VALUE] [VALUE] [VALUE] [VALUE] [VALUE]
 words [TABLE] [FIRST] [COUNT]
 ledger
@@ -56,35 +59,39 @@ compact
 ";
 
 impl Command {
+    // Every command, in the order of the enum.
+    const ALL: [Command; COMMANDS] = [
+        Command::Expect,
+        Command::Words,
+        Command::Ledger,
+        Command::Put,
+        Command::Enter,
+        Command::Check,
+        Command::Look,
+        Command::List,
+        Command::Image,
+        Command::Make,
+        Command::Map,
+        Command::Unmap,
+        Command::Modify,
+        Command::Live,
+        Command::Compact,
+    ];
+
     // The command of a name.
-    pub fn named(name: &[u8]) -> Option<Self> {
-        match name {
-            b"expect" => Some(Command::Expect),
-            b"words" => Some(Command::Words),
-            b"ledger" => Some(Command::Ledger),
-            b"put" => Some(Command::Put),
-            b"enter" => Some(Command::Enter),
-            b"check" => Some(Command::Check),
-            b"look" => Some(Command::Look),
-            b"list" => Some(Command::List),
-            b"image" => Some(Command::Image),
-            b"make" => Some(Command::Make),
-            b"map" => Some(Command::Map),
-            b"unmap" => Some(Command::Unmap),
-            b"modify" => Some(Command::Modify),
-            b"live" => Some(Command::Live),
-            b"compact" => Some(Command::Compact),
-            _ => None,
-        }
+    pub(crate) fn named(name: &[u8]) -> Option<Self> {
+        Command::ALL
+            .into_iter()
+            .find(|command| Words::of(command.usage()).next() == Some(name))
     }
 
     // How the command is used.
-    pub fn usage(self) -> &'static [u8] {
+    pub(crate) fn usage(self) -> &'static [u8] {
         line_of(USAGE, self as usize)
     }
 
     // Whether the command takes so many values.
-    pub fn takes(self, count: usize) -> bool {
+    pub(crate) fn takes(self, count: usize) -> bool {
         let words = Words::of(self.usage());
         let most = words.skip(1).count();
         let least = words.skip(1).filter(|word| !word.starts_with(b"[")).count();

@@ -2,7 +2,7 @@
 use crate::answers::Answer;
 use pool::Refusal;
 use text_access::face::ANSWER_VALUES;
-use text_script::{MOST_VALUES, Values};
+use text_script::LineValues;
 
 // What the word `accepted` stands for; `refused` stands for another number. A script may write the number itself.
 const ACCEPTED: u64 = 0;
@@ -28,7 +28,7 @@ fn is_expected(expected: &[Option<u64>], refusal: Refusal) -> bool {
 }
 
 // Whether an answer is what a line expects: `accepted` and its values, or `refused`, its number and its values.
-pub fn agrees(answer: Answer, values: &Values) -> bool {
+pub(crate) fn agrees(answer: Answer, values: &LineValues) -> bool {
     let verdict = values[0] == Some(ACCEPTED);
     let expected = &values[1..];
     match answer {

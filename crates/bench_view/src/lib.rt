@@ -1,5 +1,5 @@
 // What stands in the words and the ledger of a pool, in words that a person reads; and what is put there by hand.
-// Leans on text_access for the sizes. No function needs anything of its caller.
+// Leans on text_access for the sizes. No function needs anything of its caller; of what only says, safety alone is proved.
 #![tactic(auto)]
 
 ghost use Rattle.std.specs.Prelude.{◌≡◌, ◌+◌, ◌*◌, ◌<◌, ◌^◌, ◌↔◌, length, slice_set, IsOk, IfOk, OnOk, OnErr};
@@ -119,7 +119,8 @@ pub fn say<T: fmt::Display + Drop>(out: &impl Print, shown: Result<T, Missing>) 
     }
 }
 
-// Some words of a table, from the first on; the last line says that there is no such word, where one is asked for past the table.
+// Some words of a table, from the first on: nothing where no table has the first one; else the last line says that there is no
+// such word, where one is asked for past the table or the pool.
 pub fn say_words(
     out: &impl Print,
     words: &[u64],

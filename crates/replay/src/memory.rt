@@ -41,7 +41,7 @@ impl Memory {
         let list = numbers.get_mut(..entry.room())?;
         let mut loan = Loan {
             words: self.words.get_mut(..self.lent.words)?,
-            ledger: self.ledger.get_mut(..self.lent.numbers)?,
+            ledger: self.ledger.get_mut(..self.lent.ledger_numbers)?,
             handle: self.lent.handle,
         };
         let number = loan.run(entry, list, &mut values)?;

@@ -44,6 +44,8 @@ pub struct NoEntry {
 }
 
 impl From<Fault> for NoEntry {
+    ghost from_gives = { λ fault other. other.fault ≡ fault };
+
     // Of a line whose reply was not come to.
     fn from(fault: Fault) -> NoEntry {
         NoEntry {
@@ -71,7 +73,7 @@ impl TryFrom<&[u8]> for Entry {
         let kind = Kind::try_from(letter)?;
         let (call, reply) = parts_of(numbers)?;
         let mut asked = Numbers::default();
-        asked.read(call, kind.numbers())?;
+        asked.read(call, kind.asks_for())?;
         let mut told = Numbers::default();
         told.begin(0)?;
         let read = told.read(reply, NUMBERS);

@@ -1,5 +1,6 @@
 // The kinds of line that the list has, and what each says.
-ghost use Rattle.std.specs.Prelude.{◌≤◌};
+ghost use Rattle.std.specs.Prelude.{◌≡◌, ◌≤◌};
+ghost use Rattle.replay_lines.specs.Letters.{kind_of};
 ghost use Rattle.replay_lines.specs.declared.numbers.TheConstants.{NUMBERS};
 
 use crate::numbers::Fault;
@@ -51,8 +52,8 @@ impl Kind {
         Kind::Check,
     ];
 
-    // How many numbers a line of the kind has, as the head of the stored list says.
-    pub fn numbers(self) -> usize
+    // How many numbers a line of the kind asks for, as the head of the stored list says.
+    pub fn asks_for(self) -> usize
         ensures { result ≤ NUMBERS }
     {
         match self {
@@ -68,6 +69,8 @@ impl Kind {
 
 impl TryFrom<u8> for Kind {
     type Error = Fault;
+
+    ghost try_from_gives = { λ letter result. result ≡ kind_of letter };
 
     // The kind of a line by the letter that it begins with.
     fn try_from(letter: u8) -> Result<Kind, Fault> {

@@ -18,7 +18,7 @@ pub use reply::{NO_CALL, Reply, UNWRITTEN};
 use std::io;
 use std::io::Read;
 pub use tallies::{Difference, Tallies};
-use text_script::LINE_BYTES;
+use text_script::{LINE_BYTES, LineText};
 
 // What a comment begins with.
 const COMMENT: u8 = b'#';
@@ -34,27 +34,28 @@ pub enum Line {
     Other(NoEntry),
 }
 
-// A line by its bytes and its length, which is larger where not all bytes were kept.
-fn line_of(text: &[u8; LINE_BYTES], length: usize) -> Line {
-    let kept = &text[..length.min(LINE_BYTES)];
-    if kept.first() == Some(&COMMENT) {
-        return Line::Comment;
-    }
-    match Entry::try_from(kept) {
-        Ok(entry) if LINE_BYTES < length => Line::Other(NoEntry {
-            fault: Fault::TooLong,
-            said: entry.said,
-        }),
-        Ok(entry) => Line::Entry(entry),
-        Err(other) => Line::Other(other),
+impl From<LineText<'_>> for Line {
+    // The line that the bytes are that were kept; where there are more, it is none of the list.
+    fn from(text: LineText<'_>) -> Line {
+        let (LineText::Whole(kept) | LineText::Cut(kept)) = text;
+        if kept.first() == Some(&COMMENT) {
+            return Line::Comment;
+        }
+        match (Entry::try_from(kept), text) {
+            (Err(other), _) => Line::Other(other),
+            (Ok(entry), LineText::Whole(_)) => Line::Entry(entry),
+            (Ok(entry), LineText::Cut(_)) => Line::Other(NoEntry {
+                fault: Fault::TooLong,
+                said: entry.said,
+            }),
+        }
     }
 }
 
 // The next line of the input, None at its end.
 pub fn next(input: &mut impl Read) -> io::Result<Option<Line>> {
     let mut text = [0u8; LINE_BYTES];
-    let length = text_script::read_line(input, &mut text)?;
-    Ok(length.map(|length| line_of(&text, length)))
+    Ok(text_script::read_line(input, &mut text)?.map(Line::from))
 }
 
 #[cfg(test)]

@@ -36,13 +36,12 @@ fn append(number: u64, byte: u8) -> Result<u64, Fault> {
     let digit = text_words::digit_of(byte)
         .filter(|_| !byte.is_ascii_uppercase())
         .ok_or(Fault::NoDigit)?;
-    let shifted = number.checked_mul(HEXADECIMAL).ok_or(Fault::TooLarge)?;
-    shifted.checked_add(digit).ok_or(Fault::TooLarge)
+    text_words::with_digit(HEXADECIMAL, number, digit).ok_or(Fault::TooLarge)
 }
 
 impl Numbers {
     // A number begins.
-    pub fn begin(&mut self, value: u64) -> Result<(), Fault> {
+    pub(crate) fn begin(&mut self, value: u64) -> Result<(), Fault> {
         let place = self.values.get_mut(self.count).ok_or(Fault::WrongCount)?;
         *place = value;
         self.count += 1;
@@ -67,11 +66,11 @@ impl Numbers {
     }
 
     // Reads a part of a line that has so many numbers. What was read before a fault stays.
-    pub fn read(&mut self, part: &[u8], numbers: usize) -> Result<(), Fault> {
+    pub(crate) fn read(&mut self, part: &[u8], wanted: usize) -> Result<(), Fault> {
         for &byte in part {
             self.step(byte)?;
         }
-        if self.count == numbers {
+        if self.count == wanted {
             Ok(())
         } else {
             Err(Fault::WrongCount)

@@ -1,4 +1,6 @@
 // What comes back of a call.
+ghost use Rattle.std.specs.Prelude.{◌≡◌, Some, slice_get};
+
 use crate::numbers::NUMBERS;
 use std::fmt;
 use text_access::face::ANSWER_VALUES;
@@ -26,6 +28,11 @@ pub struct Reply {
 }
 
 impl From<[u64; NUMBERS]> for Reply {
+    ghost from_gives = { λ numbers reply.
+        (slice_get numbers 0 ≡ Some reply.number) × (slice_get numbers 1 ≡ slice_get reply.values 0)
+        × (slice_get numbers 2 ≡ slice_get reply.values 1) × (slice_get numbers 3 ≡ slice_get reply.values 2)
+        × (slice_get numbers 4 ≡ slice_get reply.values 3) × (slice_get numbers 5 ≡ Some reply.sum) };
+
     // The numbers of a line after its equals sign, in their order.
     fn from([number, first, second, third, fourth, sum]: [u64; NUMBERS]) -> Reply {
         Reply {

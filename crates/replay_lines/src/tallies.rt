@@ -43,7 +43,8 @@ impl Tallies {
         came: Option<Reply>,
         said: Reply,
     ) -> Option<Difference>
-        ensures agrees { IsSome kind → unwrap_or came NO_CALL ≡ said → (result ≡ None) × (self.new.different ≡ self.old.different) }
+        ensures agrees { IsSome kind → unwrap_or came NO_CALL ≡ said → result ≡ None }
+        ensures held { IsSome kind → unwrap_or came NO_CALL ≡ said → self.new.different ≡ self.old.different }
         ensures no_kind { kind ≡ None → self.old.different + 1 < 2 ^ 64 → self.new.different ≡ self.old.different + 1 }
         ensures differs { unwrap_or came NO_CALL ≢ said → self.old.different + 1 < 2 ^ 64 → self.new.different ≡ self.old.different + 1 }
         ensures first { kind ≡ None → self.old.different < MOST_SAID → IsSome result }

@@ -11,6 +11,3 @@ pub const TABLE_WORDS: usize = 512;
 
 // The bytes of a page, and so of a table's image.
 pub const PAGE_BYTES: usize = 4096;
-
-// The largest ledger number: it has 32 bits.
-pub const LARGEST_LEDGER_NUMBER: u64 = 0xFFFF_FFFF;

@@ -6,5 +6,5 @@
 mod line;
 mod values;
 
-pub use line::{LINE_BYTES, MOST_LINES, read_line};
-pub use values::{MOST_VALUES, Values, ValuesError, values_of};
+pub use line::{LINE_BYTES, LineText, MOST_LINES, read_line};
+pub use values::{LineValues, MOST_VALUES, ValuesError, values_of};

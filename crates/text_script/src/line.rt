@@ -11,9 +11,18 @@ const LONGEST: usize = 0x1_0000_0000;
 // The lines after which a program takes its input as ended, whatever follows.
 pub const MOST_LINES: u64 = 0xFFFF_FFFF;
 
-// The next line without its end: how many bytes it has, those that are not kept too, or None at the end of the input. A carriage
-// return is passed over.
-pub fn read_line(input: &mut impl Read, text: &mut [u8; LINE_BYTES]) -> io::Result<Option<usize>> {
+// The bytes of a line that were kept.
+#[derive(Clone, Copy, Debug)]
+pub enum LineText<'a> {
+    // All of them.
+    Whole(&'a [u8]),
+    // Its first LINE_BYTES bytes: it has more.
+    Cut(&'a [u8]),
+}
+
+// Reads the next line into a text, without its end: how many bytes it has, those that are not kept too, or None at the end of the
+// input. A carriage return is passed over.
+fn length_of_line(input: &mut impl Read, text: &mut [u8; LINE_BYTES]) -> io::Result<Option<usize>> {
     let mut one = [0u8; 1];
     let mut length = 0;
     for _ in 0..LONGEST {
@@ -30,4 +39,18 @@ pub fn read_line(input: &mut impl Read, text: &mut [u8; LINE_BYTES]) -> io::Resu
         }
     }
     Ok(Some(length))
+}
+
+// The next line without its end, or None at the end of the input.
+pub fn read_line<'a>(
+    input: &mut impl Read,
+    text: &'a mut [u8; LINE_BYTES],
+) -> io::Result<Option<LineText<'a>>> {
+    let Some(length) = length_of_line(input, text)? else {
+        return Ok(None);
+    };
+    Ok(Some(match text.get(..length) {
+        Some(kept) => LineText::Whole(kept),
+        None => LineText::Cut(text),
+    }))
 }

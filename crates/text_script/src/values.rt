@@ -5,7 +5,7 @@ use text_words::{NumberError, Words, number_of};
 pub const MOST_VALUES: usize = 6;
 
 // The values of a line by their place; None where the line has no more words.
-pub type Values = [Option<u64>; MOST_VALUES];
+pub type LineValues = [Option<u64>; MOST_VALUES];
 
 // Why the words after a command stand for no values.
 #[derive(Clone, Copy, Debug)]
@@ -27,7 +27,7 @@ fn value_of(word: &[u8]) -> Result<u64, NumberError> {
 }
 
 // The values that all words stand for.
-pub fn values_of(words: Words<'_>) -> Result<Values, ValuesError<'_>> {
+pub fn values_of(words: Words<'_>) -> Result<LineValues, ValuesError<'_>> {
     let mut values = [None; MOST_VALUES];
     for (place, word) in words.enumerate() {
         if MOST_VALUES <= place {

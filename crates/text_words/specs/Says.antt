@@ -35,7 +35,7 @@ on_ok next (Ok n) = next n
 on_ok next (Err e) = Err e
 
 -- a number with more bytes, the first one first
-abbrev pub number_from : ℕ → ℕ → List ℕ → Result ℕ NumberError
+unfoldable pub number_from : ℕ → ℕ → List ℕ → Result ℕ NumberError
 number_from base n [] = Ok n
 number_from base n (b ∷ bs) = on_ok (λ m. number_from base m bs) (with_byte base n b)
 

@@ -6,4 +6,4 @@ mod line;
 mod number;
 
 pub use line::{Words, line_of};
-pub use number::{NumberError, digit_of, number_of};
+pub use number::{NumberError, digit_of, number_of, with_digit};

@@ -1,5 +1,5 @@
 // The number that a word says.
-ghost use Rattle.std.specs.Prelude.{◌≡◌};
+ghost use Rattle.std.specs.Prelude.{◌≡◌, ◌+◌, ◌*◌, ◌<◌, ◌^◌, ◌↔◌, IsSome, IfSome};
 ghost use Rattle.text_words.specs.Says.{digit_of, with_byte, number_from, number_of};
 
 use std::fmt;
@@ -40,6 +40,15 @@ pub fn digit_of(byte: u8) -> Option<u64>
     }
 }
 
+// A number of some base with one more digit; None where it is above 2^64 - 1.
+pub fn with_digit(base: u64, number: u64, digit: u64) -> Option<u64>
+    ensures fits { IsSome result ↔ (number * base + digit < 2 ^ 64) }
+    ensures value { IfSome result (λ with. with ≡ number * base + digit) }
+{
+    let shifted = number.checked_mul(base)?;
+    shifted.checked_add(digit)
+}
+
 // A number with one more digit of its base; an underscore is passed over.
 fn append(number: u64, byte: u8, base: u64) -> Result<u64, NumberError>
     ensures { result ≡ with_byte base number byte }
@@ -50,11 +59,11 @@ fn append(number: u64, byte: u8, base: u64) -> Result<u64, NumberError>
     let digit = digit_of(byte)
         .filter(|&digit| digit < base)
         .ok_or(NumberError::NoNumber)?;
-    let shifted = number.checked_mul(base).ok_or(NumberError::TooLarge)?;
-    shifted.checked_add(digit).ok_or(NumberError::TooLarge)
+    with_digit(base, number, digit).ok_or(NumberError::TooLarge)
 }
 
 // The number that some digits of a base say.
+#[tactic(auto, unfolding(crate::specs::Says::number_from))]
 fn number_in(base: u64, digits: &[u8]) -> Result<u64, NumberError>
     ensures { result ≡ number_from base 0 digits.now }
 {

@@ -1,0 +1,2 @@
+-- Definitions that the contracts of `replay_lines` cite.
+pub mod Letters

@@ -1,6 +1,6 @@
 // A stored list of calls with their replies: its lines, what each lends and asks, and the tallies of what agrees.
-// Leans on text_script for a line, on text_words for a digit, on text_access for the sizes of a reply.
-// No function needs anything of its caller, and each fails only where a read fails.
+// Leans on text_script for a line, on text_words for a digit more, on text_access for the sizes of a reply.
+// No function needs anything of its caller, and each fails only where a read fails. How a whole line is read is held to the tests.
 #![tactic(auto)]
 
 mod entry;

@@ -1,5 +1,5 @@
 // The sum of what a call leaves: xorshift64 of the sum so far and the next number. Each step is one to one, so another number in
-// one place always shows. No function needs anything of its caller.
+// one place always shows. No function needs anything of its caller; only safety is proved, the sums are held to a test.
 #![tactic(auto)]
 
 // What a sum begins with.

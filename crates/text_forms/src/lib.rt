@@ -1,5 +1,5 @@
 // How a number is written: an address, the values of an answer. No function needs anything of its caller, and each fails only where
-// a write fails.
+// a write fails; only safety is proved.
 #![tactic(auto)]
 
 use std::fmt;

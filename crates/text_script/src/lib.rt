@@ -1,6 +1,6 @@
 // A script, line by line: a line's bytes, and the values that the words after a command stand for.
 // Leans on text_words for the words and a number, on std's Read for a line. No function needs anything of its caller, and each
-// ends on any bytes.
+// ends on any bytes; only safety is proved.
 #![tactic(auto)]
 
 mod line;

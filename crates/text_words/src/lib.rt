@@ -1,5 +1,5 @@
 // The words of a line, the lines of a text, and the number that a word says: decimal, or hexadecimal after 0x; underscores part
-// digits. No function needs anything of its caller, and each ends on any bytes.
+// digits. No function needs anything of its caller, and each ends on any bytes; of words and lines only safety is proved.
 #![tactic(auto)]
 
 mod line;

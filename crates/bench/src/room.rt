@@ -12,7 +12,7 @@ const TABLES: usize = MOST_TABLES as usize;
 // The words that the bench has room for.
 const WORDS: usize = TABLES * TABLE_WORDS;
 
-// The pool that a command works on.
+// The pool that a command works on. Its calls are its methods and answer in words, so it is no PoolMut of the library.
 #[derive(Drop)]
 pub struct Pool<'a> {
     pub words: &'a mut [u64],

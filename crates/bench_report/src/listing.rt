@@ -59,7 +59,7 @@ pub fn say_lines(out: &impl Print, list: &[u64], count: usize) -> io::Result<()>
     out.println(run)
 }
 
-// The first page numbers of a list, a line each, as many as the call counted.
+// The first page numbers of a list, a line each, as many as the call counted: the list is lent to the call whole.
 pub fn say_page_numbers(out: &impl Print, list: &[u64], count: usize) -> io::Result<()> {
     for number in list.iter().take(count) {
         println!(out; "  page number {number:#x}")?;

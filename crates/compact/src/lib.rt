@@ -36,7 +36,8 @@ pub fn compact_subtables(pool: &mut PoolMut<'_>, k: usize, level: usize)
     }
 }
 
-// Compacts the pool: no table but the root stays that is all zero.
+// Compacts the pool: no table but the root stays that is all zero. Words, ledger and handle
+// come one by one, as they are lent: the pool is made of them once it is shaped.
 pub fn compact(words: &mut [u64], ledger: &mut [u32], handle: Handle) -> Result<usize, Refusal>
     ensures { out result (st words.new ledger.new) ≡ compact_call handle (st words.old ledger.old) }
 {

@@ -1,7 +1,7 @@
 // The call list: the region and the pool looked at, then a line for each entry that the region meets, if there is room.
 #![tactic(auto)]
 
-ghost use Rattle.std.specs.Prelude.{◌≡◌, ◌-◌, ◌^◌, ◌≤◌, length};
+ghost use Rattle.std.specs.Prelude.{◌≡◌, ◌*◌, ◌-◌, ◌^◌, ◌≤◌, length};
 ghost use Rattle.pool.specs.State.{st};
 ghost use Rattle.list_lines.specs.Lines.{lines_from};
 ghost use Rattle.list.specs.Call.{verify_ends, listing, list_lines, list_call};
@@ -21,21 +21,27 @@ fn verify_ends(handle: Handle, start: u64, end: u64) -> Result<(), Refusal>
 }
 
 // The lines of the region down from the root, if the list has room for them.
-fn list_lines(pool: &Pool<'_>, region: MemoryRegion, list: &mut [u64]) -> Result<usize, Refusal>
-    requires { (1 ≤ length pool.now.ledger.now) × (pool.now.handle.level ≤ 3) × (region.end.0 - region.start.0 ≤ 2 ^ 48) }
+fn list_lines(
+    words: &[u64],
+    tables: usize,
+    handle: Handle,
+    region: MemoryRegion,
+    list: &mut [u64],
+) -> Result<usize, Refusal>
+    requires { (length words.now ≡ 512 * tables) × (1 ≤ tables) × (handle.level ≤ 3) × (region.end.0 - region.start.0 ≤ 2 ^ 48) }
     ensures { listing result list.new
-        ≡ list_lines
-        (lines_from pool.now.handle.base.0 (length pool.now.ledger.now) pool.now.words.now (3 - pool.now.handle.level) 0 region) list.old }
+        ≡ list_lines (lines_from handle.base.0 tables words.now (3 - handle.level) 0 region) list.old }
 {
-    let count = list_lines::count_lines(pool, 0, pool.handle.level, region);
+    let count = list_lines::count_lines(words, tables, handle, 0, handle.level, region);
     if list.len() / 4 < count {
         return Err(Refusal::Short(4 * (count as u64)));
     }
-    list_lines::visit_range(pool, 0, pool.handle.level, region, list, 0);
+    list_lines::visit_range(words, tables, handle, 0, handle.level, region, list, 0);
     Ok(count)
 }
 
 // Lists the entries that the region meets: start, end, word and level of each. Answers with the count of its lines.
+// Words, ledger and handle come one by one, as they are lent: the pool is made of them once it is shaped.
 pub fn list(
     words: &[u64],
     ledger: &[u32],
@@ -59,5 +65,11 @@ pub fn list(
     if !checker::is_sound(&pool) {
         return Err(Refusal::Unsound);
     }
-    list_lines(&pool, MemoryRegion::new(start.0, end.0), list)
+    list_lines(
+        words,
+        ledger.len(),
+        handle,
+        MemoryRegion::new(start.0, end.0),
+        list,
+    )
 }

@@ -8,36 +8,43 @@ ghost use Rattle.list_lines.specs.Lines.{line, numbers, lines_from, written, wri
 
 use address::VirtualAddress;
 use entry::Sub;
-use pool::Pool;
+use pool::Handle;
 use region::MemoryRegion;
 
 // The word of table k that the address lies in.
-fn get_entry(pool: &Pool<'_>, k: usize, level: usize, va: VirtualAddress) -> u64
-    requires { k < length pool.now.ledger.now }
-    ensures { result ≡ fetch pool.now.words.now va.0 k level }
+fn get_entry(words: &[u64], tables: usize, k: usize, level: usize, va: VirtualAddress) -> u64
+    requires { (length words.now ≡ 512 * tables) × (k < tables) }
+    ensures { result ≡ fetch words.now va.0 k level }
 {
     let slot = address_slot::entry_index(level, va.0);
-    pool.words[512 * k + slot]
+    words[512 * k + slot]
 }
 
-// How many lines the region gives in table k. A table of pages is not read for it.
-pub fn count_lines(pool: &Pool<'_>, k: usize, level: usize, region: MemoryRegion) -> usize
-    requires { (k < length pool.now.ledger.now) × (level ≤ 3)
-        × (length (lines_from pool.now.handle.base.0 (length pool.now.ledger.now) pool.now.words.now (3 - level) k region) < 2 ^ 64) }
-    ensures { result ≡ length (lines_from pool.now.handle.base.0 (length pool.now.ledger.now) pool.now.words.now (3 - level) k region) }
+// How many lines the region gives in table k. A table of pages is not read for it. No pool is asked for: a ledger is not read.
+pub fn count_lines(
+    words: &[u64],
+    tables: usize,
+    handle: Handle,
+    k: usize,
+    level: usize,
+    region: MemoryRegion,
+) -> usize
+    requires { (length words.now ≡ 512 * tables) × (k < tables) × (level ≤ 3)
+        × (length (lines_from handle.base.0 tables words.now (3 - level) k region) < 2 ^ 64) }
+    ensures { result ≡ length (lines_from handle.base.0 tables words.now (3 - level) k region) }
 {
     if address::LEAF_LEVEL <= level {
         return region.entries_met(address::LEAF_LEVEL) as usize;
     }
     let mut count = 0;
     for chunk in region.split(level) {
-        let word = get_entry(pool, k, level, chunk.start);
-        let kind = entry::subtable(pool.handle.base, pool.ledger.len(), level, word);
+        let word = get_entry(words, tables, k, level, chunk.start);
+        let kind = entry::subtable(handle.base, tables, level, word);
         let Sub::Table(j) = kind else {
             count += 1;
             continue;
         };
-        count += count_lines(pool, j, level + 1, chunk);
+        count += count_lines(words, tables, handle, j, level + 1, chunk);
     }
     count
 }
@@ -53,32 +60,33 @@ fn put_line(list: &mut [u64], to: usize, chunk: MemoryRegion, word: u64, level: 
     list[to + 3] = level as u64;
 }
 
-// Writes the lines that the region gives in table k, from a place of the list on, which is lent whole; answers with the place after them.
+// Writes the lines that the region gives in table k, from a place of the list on, and answers with the place after them: the list is lent
+// whole, and its clause speaks of it so.
 pub fn visit_range(
-    pool: &Pool<'_>,
+    words: &[u64],
+    tables: usize,
+    handle: Handle,
     k: usize,
     level: usize,
     region: MemoryRegion,
     list: &mut [u64],
     from: usize,
 ) -> usize
-    requires { (k < length pool.now.ledger.now) × (level ≤ 3)
-        × (from + 4 * length (lines_from pool.now.handle.base.0 (length pool.now.ledger.now) pool.now.words.now (3 - level) k region)
-        ≤ length list.old) }
+    requires { (length words.now ≡ 512 * tables) × (k < tables) × (level ≤ 3)
+        × (from + 4 * length (lines_from handle.base.0 tables words.now (3 - level) k region) ≤ length list.old) }
     ensures { written result list.new
-        ≡ write_lines from
-        (lines_from pool.now.handle.base.0 (length pool.now.ledger.now) pool.now.words.now (3 - level) k region) list.old }
+        ≡ write_lines from (lines_from handle.base.0 tables words.now (3 - level) k region) list.old }
 {
     let mut to = from;
     for chunk in region.split(level) {
-        let word = get_entry(pool, k, level, chunk.start);
-        let kind = entry::subtable(pool.handle.base, pool.ledger.len(), level, word);
+        let word = get_entry(words, tables, k, level, chunk.start);
+        let kind = entry::subtable(handle.base, tables, level, word);
         let Sub::Table(j) = kind else {
             put_line(list, to, chunk, word, level);
             to += 4;
             continue;
         };
-        to = visit_range(pool, j, level + 1, chunk, list, to);
+        to = visit_range(words, tables, handle, j, level + 1, chunk, list, to);
     }
     to
 }

@@ -66,7 +66,8 @@ fn walk_from(pool: &Pool<'_>, va: VirtualAddress) -> Result<Looked, Refusal>
     }
 }
 
-// What the walk of the address answers.
+// What the walk of the address answers. Words, ledger and handle
+// come one by one, as they are lent: the pool is made of them once it is shaped.
 pub fn look_up(
     words: &[u64],
     ledger: &[u32],

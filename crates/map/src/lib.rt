@@ -16,6 +16,7 @@ use region::MemoryRegion;
 pub struct Constraints(pub u64);
 
 // Puts a map down: each page of the region to its frame, ascending, with these flags. Answers with the tables in use.
+// Words, ledger and handle come one by one, as they are lent: the pool is made of them once it is shaped.
 pub fn map(
     words: &mut [u64],
     ledger: &mut [u32],

@@ -70,8 +70,8 @@ fn count_new(pool: &Pool<'_>, k: usize, level: usize, map: Map) -> u64
     count
 }
 
-// The new tables for a map in the root where they are more than are free, else 0, a count that any pool has room for. The tables are
-// looked into only where the entries that the region meets are more.
+// The new tables for a map in the root where they are more than are free, else 0, a count that any pool has room for: a number and no
+// Option, since map_room's test of it is refused by edits when turned. The tables are looked into only where the entries met are more.
 #[tactic(auto, using(crate::specs::Laws::over_none, crate::specs::Laws::over_some))]
 pub fn count_over(pool: &Pool<'_>, map: Map, free: u64) -> u64
     requires { (0 < length pool.now.ledger.now) × (pool.now.handle.level ≤ 3) × Fit map }

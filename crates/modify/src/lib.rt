@@ -61,7 +61,8 @@ fn modify_sound(pool: &mut PoolMut<'_>, edit: Edit, list: &mut [u64]) -> Result<
 }
 
 // Sets and clears bits in the valid blocks and pages of the region; live, lists the page number of each whose word changed. `live` stands
-// beside the list, as the call promises: not live, a list of any length stays as it is.
+// beside the list, as the call promises: not live, a list of any length stays as it is. Words, ledger and
+// handle come one by one, as they are lent: the pool is made of them once it is shaped.
 #[tactic(auto, unfolding(crate::specs::Call::modify_call, pool::specs::Refuse::first_refused))]
 pub fn modify(
     words: &mut [u64],

@@ -8,7 +8,8 @@ ghost use Rattle.modify_entry.specs.Own.{numbered, put_number, noted, own_range}
 use entry::Kind;
 use region::MemoryRegion;
 
-// What to do: the region, the bits to set and to clear, and whether the tables are in use meanwhile.
+// What to do: the region, the bits to set and to clear, and whether the tables are in use meanwhile. Any may be asked for: refusals 3 to 6
+// are given of those that can't be, so what is asked of its region stands in contracts, and `live` beside it, as modify is asked.
 #[derive(Clone, Copy)]
 pub struct Edit {
     pub region: MemoryRegion,

@@ -22,7 +22,7 @@ fn is_own(level: usize, region: MemoryRegion, word: u64) -> bool
 }
 
 // Every chunk of the edit in table k: first what lies in lower tables, then the table's own entries. Answers with how many numbers the list
-// has.
+// has, which is lent whole: its clause speaks of it so.
 #[tactic(auto, unfolding(address_slot::specs::Slot::entry_index))]
 pub fn modify_range(
     pool: &mut PoolMut<'_>,

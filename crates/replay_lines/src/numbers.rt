@@ -24,7 +24,7 @@ pub enum Fault {
     TooLong,
 }
 
-// The numbers that were read of a part of a line: `count` of them, zeroes after these.
+// The numbers that were read of a part of a line: `count` of them, zeroes after these. An array with its count, since nothing is allocated.
 #[derive(Clone, Copy, Debug, Default, PartialEq, Eq)]
 pub struct Numbers {
     pub values: [u64; NUMBERS],

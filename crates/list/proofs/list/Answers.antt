@@ -48,6 +48,7 @@ pub list_lines-requires : goal.list_lines-requires
 list_lines-requires c =
     let a = c.args in
     let p = shape (goal.at.list_lines-requires c).Else-not-is_shaped in (
+      p.sized,
       p.some,
       p.level,
       verified_length a.handle a.start.0 a.end.0

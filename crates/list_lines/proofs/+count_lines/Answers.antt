@@ -9,20 +9,20 @@ use lib.ListN.{length}
 use Rattle.entry.specs.Sub.{sub_found}
 use Rattle.entry.specs.declared.Sub.TheVariants.{Table}
 use Rattle.region.specs.Chunks.{chunks_of, next_gives}
-use Rattle.list_lines.specs.Lines.{Line, each, lines-table, lines_other, lines_pages}
+use Rattle.list_lines.specs.Lines.{Line, each, lines_from, lines_at, lines-table, lines_other, lines_pages}
 use Rattle.list_lines.specs.Lines.{each_none, count-step}
-use Rattle.list_lines.proofs.Chunk.{entry_lines, table_lines, lines_split}
+use Rattle.list_lines.proofs.Chunk.{lines_split}
 use Rattle.list_lines.proofs.+count_lines.Goals as goal
 
 -- no more lines than a count can say
 few : {t : ℕ} (c : After-into_iter-chunk-iterator t)
     → let a = c.args in
-    length (each (entry_lines a.pool.now a.k a.level) (chunks_of c.into_iter-chunk-iterator.result)) < 2 ^ 64
+    length (each (lines_at a.handle.base.0 a.tables a.words.now a.k a.level) (chunks_of c.into_iter-chunk-iterator.result)) < 2 ^ 64
 few c =
     let a = c.args in
-    let all = ap length (lines_split a.pool.now a.k a.level a.region (omega arith)
+    let all = ap length (lines_split a.handle.base.0 a.tables a.words.now a.k a.level a.region (omega arith)
     (c.into_iter-chunk-iterator.ensures.into_iter_gives ∙ c.split-chunk-items.ensures)) in
-    omega (arith, c.requires.2)
+    omega (arith, c.requires.3)
 
 -- a chunk, once its entry is known: it, and the chunks after it
 cut : {t : ℕ} (c : After-subtable-kind t) → chunks_of c.loop-chunk.chunk-iterator ≡ c.in-Some.chunk ∷ chunks_of c.next.new.self
@@ -32,43 +32,43 @@ cut c = next_gives c.loop-chunk.chunk-iterator _ c.in-Some.ensures.steps
 abbrev Sum : {t : ℕ} → After-subtable-kind t → ℕ → Type 0
 Sum c n =
     let a = c.args in
-    let f = entry_lines a.pool.now a.k a.level in
+    let f = lines_at a.handle.base.0 a.tables a.words.now a.k a.level in
     c.loop-chunk.count + n + length (each f (chunks_of c.next.new.self)) ≡ length (each f (chunks_of c.into_iter-chunk-iterator.result))
 
 regroup : (a n x : ℕ) {r s : ℕ} → r ≡ n + x → a + r ≡ s → a + n + x ≡ s
 regroup a n x e q = omega arith
 
 sum : {t : ℕ} (c : After-subtable-kind t) (ls : List Line)
-    → let a = c.args in entry_lines a.pool.now a.k a.level c.in-Some.chunk ≡ ls → Sum c (length ls)
+    → let a = c.args in lines_at a.handle.base.0 a.tables a.words.now a.k a.level c.in-Some.chunk ≡ ls → Sum c (length ls)
 sum c ls lines =
     let a = c.args in
-    let f = entry_lines a.pool.now a.k a.level in
+    let f = lines_at a.handle.base.0 a.tables a.words.now a.k a.level in
     regroup _ _ _ (count-step f ls (cut c) lines) c.loop-chunk.invariant
 
 one : {t : ℕ} (c : After-subtable-kind t) → ((j : ℕ) → c.subtable-kind.result ≡ Table j → ⊥) → Sum c 1
 one c none =
     let a = c.args in
     let e = no_table _ none in
-    sum c _ (lines_other _ _ _ a.k a.level _ c.get_entry-word.ensures c.subtable-kind.ensures e)
+    sum c _ (lines_other a.handle.base.0 a.tables a.words.now a.k a.level _ c.get_entry-word.ensures c.subtable-kind.ensures e)
 
 below : {t : ℕ} (c : After-subtable-kind t) (j : ℕ) → c.subtable-kind.result ≡ Table j → let a = c.args in
-    Sum c (length (table_lines a.pool.now (3 - (a.level + 1)) j c.in-Some.chunk))
+    Sum c (length (lines_from a.handle.base.0 a.tables a.words.now (3 - (a.level + 1)) j c.in-Some.chunk))
 below c j e =
     let a = c.args in
-    sum c _ (lines-table _ _ _ a.k a.level _ c.get_entry-word.ensures c.subtable-kind.ensures j e)
+    sum c _ (lines-table a.handle.base.0 a.tables a.words.now a.k a.level _ c.get_entry-word.ensures c.subtable-kind.ensures j e)
 
 pub returns-then-level-ge-LEAF_LEVEL : goal.returns-then-level-ge-LEAF_LEVEL
 returns-then-level-ge-LEAF_LEVEL t c =
     let a = c.args in
     c.entries_met.ensures
-    ∙ lines_pages _ _ _ a.k a.level a.region c.if-level-ge-LEAF_LEVEL.true
+    ∙ lines_pages a.handle.base.0 a.tables a.words.now a.k a.level a.region c.if-level-ge-LEAF_LEVEL.true
 
 pub returns : goal.returns
 returns t c =
     let a = c.args in
     let none = (next_gives c.loop-chunk.chunk-iterator _ c.in-None.ensures.steps).0 in
-    let left = ap length (each_none (entry_lines a.pool.now a.k a.level) none) in
-    let all = ap length (lines_split a.pool.now a.k a.level a.region (omega arith)
+    let left = ap length (each_none (lines_at a.handle.base.0 a.tables a.words.now a.k a.level) none) in
+    let all = ap length (lines_split a.handle.base.0 a.tables a.words.now a.k a.level a.region (omega arith)
     (c.into_iter-chunk-iterator.ensures.into_iter_gives ∙ c.split-chunk-items.ensures)) in
     omega (arith, c.loop-chunk.invariant)
 
@@ -87,7 +87,7 @@ count_lines-count-requires t c =
     let found = sub_found _ _ _ _ _ (sym c.subtable-kind.ensures ∙ c.in-Table.is) in
     let room = few at.After-into_iter-chunk-iterator in
     let lines = below at.After-subtable-kind _ c.in-Table.is in
-    (omega (arith, found.high, c.decreases), (found.below, omega (arith, found.high), omega (arith, lines, room)))
+    (omega (arith, found.high, c.decreases), (c.requires.0, found.below, omega (arith, found.high), omega (arith, lines, room)))
 
 pub overflow_add-count-in-loop-chunk : goal.overflow_add-count-in-loop-chunk
 overflow_add-count-in-loop-chunk t c =

@@ -9,9 +9,9 @@ use lib.ListN.{length}
 use Rattle.entry.specs.Sub.{sub_found}
 use Rattle.entry.specs.declared.Sub.TheVariants.{Table}
 use Rattle.region.specs.Chunks.{chunks_of, next_gives}
-use Rattle.list_lines.specs.Lines.{Line, line, each, lines-table, lines_other}
+use Rattle.list_lines.specs.Lines.{Line, line, each, lines_from, lines_at, lines-table, lines_other}
 use Rattle.list_lines.specs.Lines.{each_none, count-step, write_step, write_done, written, write_lines, Written}
-use Rattle.list_lines.proofs.Chunk.{entry_lines, table_lines, lines_split}
+use Rattle.list_lines.proofs.Chunk.{lines_split}
 use Rattle.list_lines.proofs.+visit_range.Goals as goal
 
 -- a chunk, once its entry is known: it, and the chunks after it
@@ -20,34 +20,34 @@ cut c = next_gives c.loop-chunk.chunk-iterator _ c.in-Some.ensures.steps
 
 one : {t : ℕ} (c : After-subtable-kind t) → ((j : ℕ) → c.subtable-kind.result ≡ Table j → ⊥)
     → let a = c.args in
-    entry_lines a.pool.now a.k a.level c.in-Some.chunk
+    lines_at a.handle.base.0 a.tables a.words.now a.k a.level c.in-Some.chunk
     ≡ line c.in-Some.chunk c.get_entry-word.result a.level ∷ []
 one c none =
     let a = c.args in
-    lines_other _ _ _ a.k a.level _ c.get_entry-word.ensures c.subtable-kind.ensures (no_table _ none)
+    lines_other a.handle.base.0 a.tables a.words.now a.k a.level _ c.get_entry-word.ensures c.subtable-kind.ensures (no_table _ none)
 
 below : {t : ℕ} (c : After-subtable-kind t) (j : ℕ) → c.subtable-kind.result ≡ Table j
     → let a = c.args in
-    entry_lines a.pool.now a.k a.level c.in-Some.chunk
-    ≡ table_lines a.pool.now (3 - (a.level + 1)) j c.in-Some.chunk
+    lines_at a.handle.base.0 a.tables a.words.now a.k a.level c.in-Some.chunk
+    ≡ lines_from a.handle.base.0 a.tables a.words.now (3 - (a.level + 1)) j c.in-Some.chunk
 below c j e =
     let a = c.args in
-    lines-table _ _ _ a.k a.level _ c.get_entry-word.ensures c.subtable-kind.ensures j e
+    lines-table a.handle.base.0 a.tables a.words.now a.k a.level _ c.get_entry-word.ensures c.subtable-kind.ensures j e
 
 step : {t : ℕ} (c : After-subtable-kind t) {ls : List Line}
-    → let a = c.args in let f = entry_lines a.pool.now a.k a.level in f c.in-Some.chunk ≡ ls
+    → let a = c.args in let f = lines_at a.handle.base.0 a.tables a.words.now a.k a.level in f c.in-Some.chunk ≡ ls
     → length (each f (chunks_of c.loop-chunk.chunk-iterator)) ≡ length ls + length (each f (chunks_of c.next.new.self))
-step c {ls} lines = let a = c.args in count-step (entry_lines a.pool.now a.k a.level) ls (cut c) lines
+step c {ls} lines = let a = c.args in count-step (lines_at a.handle.base.0 a.tables a.words.now a.k a.level) ls (cut c) lines
 
 -- room for the lines that remain
 room : {t : ℕ} (c : After-subtable-kind t) → let a = c.args in
-    c.loop-chunk.to + 4 * length (each (entry_lines a.pool.now a.k a.level) (chunks_of c.loop-chunk.chunk-iterator))
+    c.loop-chunk.to + 4 * length (each (lines_at a.handle.base.0 a.tables a.words.now a.k a.level) (chunks_of c.loop-chunk.chunk-iterator))
     ≤ length c.loop-chunk.list
 room c =
     let a = c.args in
-    let all = ap length (lines_split a.pool.now a.k a.level a.region (omega arith)
+    let all = ap length (lines_split a.handle.base.0 a.tables a.words.now a.k a.level a.region (omega arith)
     (c.into_iter-chunk-iterator.ensures.into_iter_gives ∙ c.split-chunk-items.ensures)) in
-    omega (arith, c.loop-chunk.invariant.0, c.loop-chunk.invariant.1, c.requires.2)
+    omega (arith, c.loop-chunk.invariant.0, c.loop-chunk.invariant.1, c.requires.3)
 
 pub loop-chunk-init : goal.loop-chunk-init
 loop-chunk-init t c = (refl, refl, refl)
@@ -56,12 +56,11 @@ pub returns : goal.returns
 unfolding write_lines
 returns t c =
     let a = c.args in
-    let f = entry_lines a.pool.now a.k a.level in
+    let f = lines_at a.handle.base.0 a.tables a.words.now a.k a.level in
     let none = (next_gives c.loop-chunk.chunk-iterator _ c.in-None.ensures.steps).0 in
     let left = ap length (each_none f none) in
-    let to : c.loop-chunk.to ≡ a.from + 4 * length (each f (chunks_of c.into_iter-chunk-iterator.result)) =
-    omega (arith, c.loop-chunk.invariant.0) in
-    let all = lines_split a.pool.now a.k a.level a.region (omega arith)
+    let to : c.loop-chunk.to ≡ a.from + 4 * length (each f (chunks_of c.into_iter-chunk-iterator.result)) = omega (arith, c.loop-chunk.invariant.0) in
+    let all = lines_split a.handle.base.0 a.tables a.words.now a.k a.level a.region (omega arith)
     (c.into_iter-chunk-iterator.ensures.into_iter_gives ∙ c.split-chunk-items.ensures) in
     ap₂ written to (sym (write_done f c.loop-chunk.to c.loop-chunk.list none) ∙ c.loop-chunk.invariant.2)
     ∙ ap (λ (ls : List Line). write_lines a.from ls a.list.now) (sym all)
@@ -83,7 +82,7 @@ loop-chunk-preserved-in_default t c =
     let at = goal.at.loop-chunk-preserved-in_default t c in
     let l = c.loop-chunk in
     let a = c.args in
-    let f = entry_lines a.pool.now a.k a.level in
+    let f = lines_at a.handle.base.0 a.tables a.words.now a.k a.level in
     let lines = one at.After-subtable-kind c.in_default.not-Table in
     let space = room at.After-subtable-kind in
     let put = write_step f _ (cut at.After-subtable-kind) lines l.to l.list space refl c.put_line.ensures in
@@ -95,7 +94,7 @@ visit_range-to-requires t c =
     let found = sub_found _ _ _ _ _ (sym c.subtable-kind.ensures ∙ c.in-Table.is) in
     let lines = step at.After-subtable-kind (below at.After-subtable-kind _ c.in-Table.is) in
     let space = room at.After-subtable-kind in
-    (omega (arith, found.high, c.decreases), (found.below, omega (arith, found.high), omega (arith, lines, space)))
+    (omega (arith, found.high, c.decreases), (c.requires.0, found.below, omega (arith, found.high), omega (arith, lines, space)))
 
 pub loop-chunk-preserved : goal.loop-chunk-preserved
 unfolding write_lines
@@ -103,7 +102,7 @@ loop-chunk-preserved t c =
     let at = goal.at.loop-chunk-preserved t c in
     let l = c.loop-chunk in
     let a = c.args in
-    let f = entry_lines a.pool.now a.k a.level in
+    let f = lines_at a.handle.base.0 a.tables a.words.now a.k a.level in
     let lines = below at.After-subtable-kind _ c.in-Table.is in
     let space = room at.After-subtable-kind in
     let to = ap (λ (x : Written). x.to) c.visit_range-to.ensures in

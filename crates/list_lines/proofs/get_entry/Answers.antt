@@ -19,18 +19,16 @@ overflow_add-result c =
     let h = slot_below c.args.level c.args.va.0 in
     omega (arith, slot (goal.at.overflow_add-result c).After-entry_index-slot)
 
-pub offset_bounds-pool-k : goal.offset_bounds-pool-k
-offset_bounds-pool-k c =
+pub offset_bounds-words-k : goal.offset_bounds-words-k
+offset_bounds-words-k c =
     let h = slot_below c.args.level c.args.va.0 in
-    omega (arith, slot (goal.at.offset_bounds-pool-k c).After-entry_index-slot)
+    omega (arith, slot (goal.at.offset_bounds-words-k c).After-entry_index-slot)
 
-pub bounds-pool-k : goal.bounds-pool-k
-bounds-pool-k c =
+pub bounds-words-k : goal.bounds-words-k
+bounds-words-k c =
     let h = slot_below c.args.level c.args.va.0 in
-    omega (arith, slot (goal.at.bounds-pool-k c).After-entry_index-slot)
+    omega (arith, slot (goal.at.bounds-words-k c).After-entry_index-slot)
 
 pub returns : goal.returns
 unfolding fetch
-returns c =
-    let a = c.args in
-    ap (λ (i : ℕ). get_or a.pool.now.words.now (512 * a.k + i) 0) (slot (goal.at.returns c).After-entry_index-slot)
+returns c = let a = c.args in ap (λ (i : ℕ). get_or a.words.now (512 * a.k + i) 0) (slot (goal.at.returns c).After-entry_index-slot)

@@ -3,7 +3,7 @@
 
 ghost use Rattle.std.specs.Prelude.{◌≡◌};
 ghost use Rattle.pool.specs.State.{st};
-ghost use Rattle.pool.specs.Lent.{seen};
+ghost use Rattle.pool.specs.Lent.{read_state};
 ghost use Rattle.pool.specs.Refuse.{Shaped};
 ghost use Rattle.pool.specs.Sound.{soundb};
 ghost use Rattle.checker.specs.Call.{sound_count, check_call};
@@ -12,8 +12,8 @@ use pool::{Handle, Pool, Refusal};
 
 // The tables in use, if the pool is sound: where every used table hangs, as many links as used tables but the root leave no other link.
 pub fn count_sound(pool: &Pool<'_>) -> Option<usize>
-    requires { Shaped pool.now.handle (seen pool.now) }
-    ensures { result ≡ sound_count pool.now.handle (seen pool.now) }
+    requires { Shaped pool.now.handle (read_state pool.now) }
+    ensures { result ≡ sound_count pool.now.handle (read_state pool.now) }
 {
     let links = checker_pass::scan_tables(pool)?;
     let used = pool_ledger::count_used(pool.ledger);
@@ -26,8 +26,8 @@ pub fn count_sound(pool: &Pool<'_>) -> Option<usize>
 // Whether the pool is sound.
 #[tactic(auto, unfolding(crate::specs::Call::sound_count))]
 pub fn is_sound(pool: &Pool<'_>) -> bool
-    requires { Shaped pool.now.handle (seen pool.now) }
-    ensures { result ≡ soundb pool.now.handle (seen pool.now) }
+    requires { Shaped pool.now.handle (read_state pool.now) }
+    ensures { result ≡ soundb pool.now.handle (read_state pool.now) }
 {
     count_sound(pool).is_some()
 }

@@ -2,7 +2,7 @@
 #![tactic(auto)]
 
 ghost use Rattle.std.specs.Prelude.{◌≡◌, ◌<◌, length};
-ghost use Rattle.pool.specs.Lent.{seen};
+ghost use Rattle.pool.specs.Lent.{read_state};
 ghost use Rattle.pool.specs.Refuse.{Shaped};
 ghost use Rattle.pool.specs.Sound.{hangsb, tableb};
 
@@ -10,8 +10,8 @@ use pool::Pool;
 
 // Whether table k's number names a slot of a used table one level higher, and that slot refers to it.
 pub fn hangs(pool: &Pool<'_>, k: usize) -> bool
-    requires { Shaped pool.now.handle (seen pool.now) × (k < length pool.now.ledger.now) }
-    ensures { result ≡ hangsb pool.now.handle.base.0 (seen pool.now) k }
+    requires { Shaped pool.now.handle (read_state pool.now) × (k < length pool.now.ledger.now) }
+    ensures { result ≡ hangsb pool.now.handle.base.0 (read_state pool.now) k }
 {
     let number = pool.ledger[k] as usize;
     if number % 8 < 4 {
@@ -37,8 +37,8 @@ pub fn hangs(pool: &Pool<'_>, k: usize) -> bool
 
 // Whether the ledger's number of table k is right: the root's at 0; any other is 0 or hangs.
 pub fn table_holds(pool: &Pool<'_>, k: usize) -> bool
-    requires { Shaped pool.now.handle (seen pool.now) × (k < length pool.now.ledger.now) }
-    ensures { result ≡ tableb pool.now.handle (seen pool.now) k }
+    requires { Shaped pool.now.handle (read_state pool.now) × (k < length pool.now.ledger.now) }
+    ensures { result ≡ tableb pool.now.handle (read_state pool.now) k }
 {
     if k == 0 {
         return pool.ledger[0] as usize == 4 + pool.handle.level;

@@ -2,7 +2,7 @@
 #![tactic(auto)]
 
 ghost use Rattle.std.specs.Prelude.{◌≡◌};
-ghost use Rattle.pool.specs.Lent.{seen};
+ghost use Rattle.pool.specs.Lent.{read_state};
 ghost use Rattle.pool.specs.Refuse.{Shaped};
 ghost use Rattle.checker_pass.specs.Pass.{tables_run};
 
@@ -11,8 +11,8 @@ use pool::Pool;
 // The links of all tables, if every number is right and every run passes. A table is read in four runs of 128 words; a run that fails ends
 // both loops.
 pub fn scan_tables(pool: &Pool<'_>) -> Option<usize>
-    requires { Shaped pool.now.handle (seen pool.now) }
-    ensures { result ≡ tables_run pool.now.handle (seen pool.now) }
+    requires { Shaped pool.now.handle (read_state pool.now) }
+    ensures { result ≡ tables_run pool.now.handle (read_state pool.now) }
 {
     let n = pool.ledger.len();
     let set = pool_handle::flag_set(pool.handle);

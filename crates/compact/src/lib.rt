@@ -3,7 +3,7 @@
 
 ghost use Rattle.std.specs.Prelude.{◌≡◌, ◌*◌, ◌-◌, ◌≤◌, ◌<◌, length};
 ghost use Rattle.pool.specs.State.{st};
-ghost use Rattle.pool.specs.Lent.{lent, Keeps};
+ghost use Rattle.pool.specs.Lent.{lent, KeepsLent};
 ghost use Rattle.pool.specs.Refuse.{out};
 ghost use Rattle.compact_spec.specs.Compact.{compact_table};
 ghost use Rattle.compact_spec.specs.Call.{compact_call};
@@ -15,7 +15,7 @@ use pool::{Handle, PoolMut, Refusal};
 #[tactic(auto, using(compact_spec::specs::Compact::compact_last))]
 pub fn compact_subtables(pool: &mut PoolMut<'_>, k: usize, level: usize)
     requires { (k < length pool.old.ledger.now) × (level ≤ 3) }
-    ensures keeps { Keeps pool.old pool.new }
+    ensures keeps { KeepsLent pool.old pool.new }
     ensures leaves { lent pool.new ≡ compact_table (3 - level) pool.old.handle k (lent pool.old) }
 {
     if address::LEAF_LEVEL <= level {

@@ -2,7 +2,7 @@
 #![tactic(auto)]
 
 ghost use Rattle.std.specs.Prelude.{◌≡◌, ◌*◌, ◌<◌, length};
-ghost use Rattle.pool.specs.Lent.{lent, Keeps};
+ghost use Rattle.pool.specs.Lent.{lent, KeepsLent};
 ghost use Rattle.compact_spec.specs.Compact.{all_zero, release_empty};
 
 use pool::PoolMut;
@@ -17,7 +17,7 @@ fn is_empty(table: &[u64]) -> bool
 // Frees table j if it is empty, and zeroes slot i of table k, which refers to it.
 pub fn release_empty(pool: &mut PoolMut<'_>, k: usize, i: usize, j: usize)
     requires { (k < length pool.old.ledger.now) × (i < 512) × (j < length pool.old.ledger.now) }
-    ensures keeps { Keeps pool.old pool.new }
+    ensures keeps { KeepsLent pool.old pool.new }
     ensures leaves { lent pool.new ≡ release_empty k i j (lent pool.old) }
 {
     let a = 512 * j;

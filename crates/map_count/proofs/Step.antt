@@ -1,7 +1,7 @@
 -- A sum over a map's chunks, one step after the other: what both loops know before each chunk, of the chunk, and after it.
 use Rattle.std.proofs.Common.{◌≡◌, ℕ, ◌+◌, ◌-◌, ◌≤◌, sym, ap, ap₂, ◌∙◌, arith}
 use Rattle.address_slot.specs.Slot.{chunk_end}
-use Rattle.region.specs.Region.{region, Step}
+use Rattle.region.specs.Region.{region, ChunkStep}
 use Rattle.region.specs.Chunks.{step_fits}
 use Rattle.region.specs.declared.MemoryRegion.{MemoryRegion}
 use Rattle.region.specs.declared.ChunkedIterator.{ChunkedIterator}
@@ -22,7 +22,7 @@ pub record Counting (level : ℕ) (f : Map → ℕ) (m : Map) (n : ℕ) (c : Chu
   pub fit : Fit (left m c frame)
   pub sum : n + sum_chunks level f (left m c frame) ≡ sum_chunks level f m
 
-module _ (level : ℕ) (f : Map → ℕ) (m : Map) (n : ℕ) {c d : ChunkedIterator} {r : MemoryRegion} (step : Step c r d) (frame : ℕ)
+module _ (level : ℕ) (f : Map → ℕ) (m : Map) (n : ℕ) {c d : ChunkedIterator} {r : MemoryRegion} (step : ChunkStep c r d) (frame : ℕ)
     (before : Counting level f m n c frame) where
   cut : region c.range.start.0 (chunk_end c.level c.range.start.0 c.range.end.0) ≡ r
   cut = sym (ap₂ region step.starts step.stops)

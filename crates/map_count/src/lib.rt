@@ -2,7 +2,7 @@
 #![tactic(auto)]
 
 ghost use Rattle.std.specs.Prelude.{◌≡◌, ◌*◌, ◌-◌, ◌≤◌, ◌<◌, length};
-ghost use Rattle.pool.specs.Lent.{seen};
+ghost use Rattle.pool.specs.Lent.{read_state};
 ghost use Rattle.map_rules.specs.Fit.{Fit};
 ghost use Rattle.map_count_spec.specs.Closed.{closed};
 ghost use Rattle.map_count.specs.Laws.{over};
@@ -16,7 +16,7 @@ use pool::Pool;
 #[tactic(auto, unfolding(address_slot::specs::Slot::entry_index))]
 fn count_last(pool: &Pool<'_>, k: usize, map: Map) -> u64
     requires { (k < length pool.now.ledger.now) × Fit map }
-    ensures { result ≡ closed 1 pool.now.handle (seen pool.now) k map }
+    ensures { result ≡ closed 1 pool.now.handle (read_state pool.now) k map }
 {
     let mut frame = map.frame;
     let mut count = 0;
@@ -40,7 +40,7 @@ fn count_last(pool: &Pool<'_>, k: usize, map: Map) -> u64
 #[tactic(auto, unfolding(address_slot::specs::Slot::entry_index))]
 fn count_new(pool: &Pool<'_>, k: usize, level: usize, map: Map) -> u64
     requires { (k < length pool.now.ledger.now) × (level ≤ 3) × Fit map }
-    ensures { result ≡ closed (3 - level) pool.now.handle (seen pool.now) k map }
+    ensures { result ≡ closed (3 - level) pool.now.handle (read_state pool.now) k map }
 {
     if address::LEAF_LEVEL <= level {
         return 0;
@@ -75,7 +75,7 @@ fn count_new(pool: &Pool<'_>, k: usize, level: usize, map: Map) -> u64
 #[tactic(auto, using(crate::specs::Laws::over_none, crate::specs::Laws::over_some))]
 pub fn count_over(pool: &Pool<'_>, map: Map, free: u64) -> u64
     requires { (0 < length pool.now.ledger.now) × (pool.now.handle.level ≤ 3) × Fit map }
-    ensures { result ≡ over free (closed (3 - pool.now.handle.level) pool.now.handle (seen pool.now) 0 map) }
+    ensures { result ≡ over free (closed (3 - pool.now.handle.level) pool.now.handle (read_state pool.now) 0 map) }
 {
     if map_count_leaf::count_most(pool.handle.level, map.region) <= free {
         return 0;

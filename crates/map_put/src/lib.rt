@@ -2,7 +2,7 @@
 #![tactic(auto)]
 
 ghost use Rattle.std.specs.Prelude.{false, ◌≡◌, ◌*◌, ◌%◌, ◌<◌, length};
-ghost use Rattle.pool.specs.Lent.{lent, Keeps};
+ghost use Rattle.pool.specs.Lent.{lent, KeepsLent};
 ghost use Rattle.pool.specs.Refuse.{Shaped};
 ghost use Rattle.map_put.specs.Put.{drop_entry, by_rule};
 ghost use Rattle.map_put.specs.Laws.{Stays};
@@ -14,7 +14,7 @@ use pool::PoolMut;
 // The subtree that a word referred to is freed.
 fn drop_entry(pool: &mut PoolMut<'_>, level: usize, word: u64)
     requires { (level < 3) }
-    ensures keeps { Keeps pool.old pool.new }
+    ensures keeps { KeepsLent pool.old pool.new }
     ensures leaves { lent pool.new
         ≡ drop_entry pool.old.handle level word (lent pool.old) }
 {
@@ -35,7 +35,7 @@ pub fn put_entry(
     changed: bool,
 ) -> bool
     requires { Shaped pool.old.handle (lent pool.old) × (k < length pool.old.ledger.now) × (i < 512) × Stays level rule }
-    ensures keeps { Keeps pool.old pool.new }
+    ensures keeps { KeepsLent pool.old pool.new }
     ensures leaves { (lent pool.new
         ≡ by_rule (λ j t. t) pool.old.handle k level i rule (lent pool.old))
         × (result ≡ false → (changed ≡ false) × (pool.new.ledger.now ≡ pool.old.ledger.now)) }

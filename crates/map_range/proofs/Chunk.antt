@@ -2,7 +2,7 @@
 use Rattle.std.proofs.Common.{◌≡◌, ℕ, ◌+◌, ◌-◌, sym, ap, ap₂, ◌∙◌, arith}
 use mathlib.Core.Path.{subst⁻¹}
 use Rattle.address_slot.specs.Slot.{chunk_end}
-use Rattle.region.specs.Region.{region, Step}
+use Rattle.region.specs.Region.{region, ChunkStep}
 use Rattle.region.specs.Chunks.{step_fits}
 use Rattle.region.specs.declared.MemoryRegion.{MemoryRegion}
 use Rattle.region.specs.declared.ChunkedIterator.{ChunkedIterator}
@@ -15,7 +15,7 @@ use Rattle.map_put.specs.Range.{map-each-step}
 
 -- the iterator `it`, with the map of what is left, gave the chunk r, and `on` is what is left then
 module _ (m : Map) (frame : ℕ) {it on : ChunkedIterator} {r : MemoryRegion} (fit : Fit (chunk_map m it.range frame))
-    (step : Step it r on) where
+    (step : ChunkStep it r on) where
   pub chunk_fits : Fit (chunk_map m r frame)
   chunk_fits =
       let from = it.range.start.0 in

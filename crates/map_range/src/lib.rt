@@ -2,7 +2,7 @@
 #![tactic(auto)]
 
 ghost use Rattle.std.specs.Prelude.{false, ◌≡◌, ◌-◌, ◌≤◌, ◌<◌, length};
-ghost use Rattle.pool.specs.Lent.{lent, Keeps};
+ghost use Rattle.pool.specs.Lent.{lent, KeepsLent};
 ghost use Rattle.pool.specs.Refuse.{Shaped};
 ghost use Rattle.map_put.specs.Put.{map_range};
 ghost use Rattle.map_rules.specs.Fit.{Fit};
@@ -13,7 +13,7 @@ use pool::PoolMut;
 // Every chunk of the map in table k, ascending. Whether a table was taken or freed.
 pub fn map_range(pool: &mut PoolMut<'_>, k: usize, level: usize, map: Map) -> bool
     requires { Shaped pool.old.handle (lent pool.old) × (k < length pool.old.ledger.now) × (level ≤ 3) × Fit map }
-    ensures keeps { Keeps pool.old pool.new }
+    ensures keeps { KeepsLent pool.old pool.new }
     ensures leaves { (lent pool.new
         ≡ map_range (3 - level) pool.old.handle k map (lent pool.old))
         × (result ≡ false → pool.new.ledger.now ≡ pool.old.ledger.now) }

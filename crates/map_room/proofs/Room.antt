@@ -1,6 +1,6 @@
 -- Refusal 9: the tables that are free, and those that the map needs.
 use Rattle.std.proofs.Common.{◌≡◌, ℕ, ◌-◌, ◌<◌, List, true, length, sym, ap₂, ◌∙◌, arith}
-use Rattle.pool.specs.Lent.{seen, lent, read_seen}
+use Rattle.pool.specs.Lent.{read_state, lent, read_lent}
 use Rattle.pool.specs.State.{St, st}
 use Rattle.pool.specs.Number.{used, free, used-free}
 use Rattle.pool.specs.Sound.{soundb}
@@ -20,14 +20,15 @@ use Rattle.map_spec.specs.Call.{map_sound, sound_full}
 use Rattle.std.specs.Prelude.{Err, Option, Some}
 
 -- a place that serves the pool as it is read serves it as it is lent
-pub served : (p : Pool) (h : Handle) (s : St) (m : Map) (k level : ℕ) → p.handle ≡ h → seen p ≡ s → Serves p.handle m (seen p) k level
+pub served : (p : Pool) (h : Handle) (s : St) (m : Map) (k level : ℕ) → p.handle ≡ h → read_state p ≡ s
+    → Serves p.handle m (read_state p) k level
     → Serves h m s k level
 served p h s m k level handle state serves = rw (sym handle, sym state) serves
 
 -- what is counted in the pool as it is read is counted in it as it is lent
 pub found : (p : Pool) (q : PoolMut) {x : Option ℕ} → p.words.now ≡ q.words.now → p.ledger.now ≡ q.ledger.now → p.handle ≡ q.handle
-    → x ≡ sound_count p.handle (seen p) → x ≡ sound_count q.handle (lent q)
-found p q words ledger handle e = e ∙ ap₂ sound_count handle (read_seen p q words ledger)
+    → x ≡ sound_count p.handle (read_state p) → x ≡ sound_count q.handle (lent q)
+found p q words ledger handle e = e ∙ ap₂ sound_count handle (read_lent p q words ledger)
 
 -- refusal 9's count, as it is computed, is document 01's in a sound pool
 pub counts : (h : Handle) (s : St) (m : Map) → Shaped h s → soundb h s ≡ true → closed (3 - h.level) h s 0 m ≡ needed (3 - h.level) h s 0 m

@@ -2,7 +2,7 @@
 #![tactic(auto)]
 
 ghost use Rattle.std.specs.Prelude.{◌≡◌, Ok};
-ghost use Rattle.pool.specs.Lent.{lent, Keeps};
+ghost use Rattle.pool.specs.Lent.{lent, KeepsLent};
 ghost use Rattle.pool.specs.Number.{used};
 ghost use Rattle.pool.specs.Refuse.{Shaped, out};
 ghost use Rattle.map_rules.specs.Fit.{Fit};
@@ -14,7 +14,7 @@ use pool::{PoolMut, Refusal};
 // The map, from the lowest table over its region, and the tables in use afterwards: counted again only where one was taken or freed.
 fn put_down(pool: &mut PoolMut<'_>, map: Map, before: usize) -> usize
     requires { Shaped pool.old.handle (lent pool.old) × Fit map × (before ≡ used pool.old.ledger.now) }
-    ensures keeps { Keeps pool.old pool.new }
+    ensures keeps { KeepsLent pool.old pool.new }
     ensures leaves { out (Ok result) (lent pool.new)
         ≡ put_down pool.old.handle map (lent pool.old) }
 {
@@ -29,7 +29,7 @@ fn put_down(pool: &mut PoolMut<'_>, map: Map, before: usize) -> usize
 #[tactic(auto, using(crate::proofs::Room::full))]
 pub fn map_sound(pool: &mut PoolMut<'_>, map: Map) -> Result<usize, Refusal>
     requires { Shaped pool.old.handle (lent pool.old) × Fit map }
-    ensures keeps { Keeps pool.old pool.new }
+    ensures keeps { KeepsLent pool.old pool.new }
     ensures leaves { out result (lent pool.new)
         ≡ map_sound pool.old.handle map (lent pool.old) }
 {

@@ -2,7 +2,7 @@
 #![tactic(auto)]
 
 ghost use Rattle.std.specs.Prelude.{◌≡◌, ◌+◌, ◌*◌, ◌%◌, ◌<◌, length, get_or};
-ghost use Rattle.pool.specs.Lent.{lent, Keeps};
+ghost use Rattle.pool.specs.Lent.{lent, KeepsLent};
 ghost use Rattle.pool.specs.Refuse.{Shaped};
 ghost use Rattle.pool_table.specs.Table.{taken};
 ghost use Rattle.map_split.specs.Split.{split_entry, below};
@@ -16,7 +16,7 @@ use pool::PoolMut;
 pub fn split_entry(pool: &mut PoolMut<'_>, k: usize, level: usize, i: usize) -> Option<usize>
     requires { Shaped pool.old.handle (lent pool.old) × (level < 3) × (k < length pool.old.ledger.now) × (i < 512)
         × (get_or pool.old.words.now (512 * k + i) 0 % 4 ≡ 3 → ⊥) }
-    ensures keeps { Keeps pool.old pool.new }
+    ensures keeps { KeepsLent pool.old pool.new }
     ensures leaves { taken result (lent pool.new)
         ≡ split_entry pool.old.handle k level i (lent pool.old) }
 {
@@ -34,7 +34,7 @@ pub fn split_entry(pool: &mut PoolMut<'_>, k: usize, level: usize, i: usize) -> 
 // The table below a slot: the one that is there, or a new one.
 pub fn descend(pool: &mut PoolMut<'_>, k: usize, level: usize, i: usize) -> Option<usize>
     requires { Shaped pool.old.handle (lent pool.old) × (level < 3) × (k < length pool.old.ledger.now) × (i < 512) }
-    ensures keeps { Keeps pool.old pool.new }
+    ensures keeps { KeepsLent pool.old pool.new }
     ensures leaves { taken result (lent pool.new)
         ≡ below pool.old.handle k level i (lent pool.old) }
 {

@@ -2,7 +2,7 @@
 #![tactic(auto)]
 
 ghost use Rattle.std.specs.Prelude.{◌<◌, length};
-ghost use Rattle.pool.specs.Lent.{seen};
+ghost use Rattle.pool.specs.Lent.{read_state};
 ghost use Rattle.pool.specs.Refuse.{Shaped};
 ghost use Rattle.map_rules.specs.Fit.{Fit};
 ghost use Rattle.map_start.specs.Start.{LeadsTo, Serves};
@@ -21,8 +21,8 @@ pub struct Place {
 // The table below table k, where the region lies in one entry and the map goes down by its link.
 #[tactic(auto, unfolding(address_slot::specs::Slot::entry_index))]
 fn next_table(pool: &Pool<'_>, k: usize, level: usize, map: Map) -> Option<usize>
-    requires { Shaped pool.now.handle (seen pool.now) × (k < length pool.now.ledger.now) × (level < 3) × Fit map }
-    ensures { LeadsTo pool.now.handle k level map (seen pool.now) result }
+    requires { Shaped pool.now.handle (read_state pool.now) × (k < length pool.now.ledger.now) × (level < 3) × Fit map }
+    ensures { LeadsTo pool.now.handle k level map (read_state pool.now) result }
 {
     let start = map.region.start.0;
     let end = map.region.end.0;
@@ -48,8 +48,8 @@ fn next_table(pool: &Pool<'_>, k: usize, level: usize, map: Map) -> Option<usize
 
 // A table from which the map does what it does from the root, as low as links and rule 5 lead.
 pub fn lowest_table(pool: &Pool<'_>, map: Map) -> Place
-    requires { Shaped pool.now.handle (seen pool.now) × Fit map }
-    ensures { Serves pool.now.handle map (seen pool.now) result.table result.level }
+    requires { Shaped pool.now.handle (read_state pool.now) × Fit map }
+    ensures { Serves pool.now.handle map (read_state pool.now) result.table result.level }
 {
     let mut table = 0;
     for level in pool.handle.level..address::LEAF_LEVEL {

@@ -4,7 +4,7 @@
 
 ghost use Rattle.std.specs.Prelude.{◌≡◌, Ok, ◌-◌, ◌≤◌, ◌^◌};
 ghost use Rattle.pool.specs.State.{st};
-ghost use Rattle.pool.specs.Lent.{lent, Keeps};
+ghost use Rattle.pool.specs.Lent.{lent, KeepsLent};
 ghost use Rattle.pool.specs.Refuse.{Shaped};
 ghost use Rattle.modify.specs.Call.{modifying, edit_tables, modify_sound, modify_call};
 
@@ -25,7 +25,7 @@ pub enum Modified {
 #[tactic(auto, unfolding(crate::specs::Call::edit_tables, crate::specs::Call::answer_of, pool::specs::Refuse::max_tables))]
 fn edit_tables(pool: &mut PoolMut<'_>, edit: Edit, list: &mut [u64]) -> Modified
     requires { Shaped pool.old.handle (lent pool.old) }
-    ensures keeps { Keeps pool.old pool.new }
+    ensures keeps { KeepsLent pool.old pool.new }
     ensures leaves { modifying (Ok result) (lent pool.new) list.new
         ≡ edit_tables pool.old.handle edit (lent pool.old) list.old }
 {
@@ -41,7 +41,7 @@ fn edit_tables(pool: &mut PoolMut<'_>, edit: Edit, list: &mut [u64]) -> Modified
 #[tactic(auto, unfolding(crate::specs::Call::modify_sound, pool::specs::Refuse::first_refused, pool::specs::Refuse::max_tables))]
 fn modify_sound(pool: &mut PoolMut<'_>, edit: Edit, list: &mut [u64]) -> Result<Modified, Refusal>
     requires { Shaped pool.old.handle (lent pool.old) × (edit.region.end.0 - edit.region.start.0 ≤ 2 ^ 48) }
-    ensures keeps { Keeps pool.old pool.new }
+    ensures keeps { KeepsLent pool.old pool.new }
     ensures leaves { modifying result (lent pool.new) list.new
         ≡ modify_sound pool.old.handle edit (lent pool.old) list.old }
 {

@@ -2,7 +2,7 @@
 #![tactic(auto)]
 
 ghost use Rattle.std.specs.Prelude.{◌≡◌, ◌-◌, ◌≤◌, ◌<◌, length};
-ghost use Rattle.pool.specs.Lent.{lent, Keeps};
+ghost use Rattle.pool.specs.Lent.{lent, KeepsLent};
 ghost use Rattle.pool.specs.Refuse.{Shaped};
 ghost use Rattle.modify_range.specs.Range.{own, work, modify_range};
 
@@ -33,7 +33,7 @@ pub fn modify_range(
     before: usize,
 ) -> usize
     requires { Shaped pool.old.handle (lent pool.old) × (k < length pool.old.ledger.now) × (level ≤ 3) }
-    ensures keeps { Keeps pool.old pool.new }
+    ensures keeps { KeepsLent pool.old pool.new }
     ensures leaves { work (lent pool.new) list.new result
         ≡ modify_range (3 - level) pool.old.handle k edit (work (lent pool.old) list.old before) }
 {

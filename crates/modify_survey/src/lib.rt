@@ -3,7 +3,7 @@
 #![tactic(auto)]
 
 ghost use Rattle.std.specs.Prelude.{◌≡◌, ◌+◌, ◌*◌, ◌-◌, ◌≤◌, ◌<◌, ◌^◌, length};
-ghost use Rattle.pool.specs.Lent.{seen};
+ghost use Rattle.pool.specs.Lent.{read_state};
 ghost use Rattle.modify_survey.specs.House.{house_rule, may_change};
 ghost use Rattle.modify_survey.specs.Survey.{splits_in, breach, survey_part, survey_whole, survey_entry, survey_range};
 ghost use Rattle.modify_survey.specs.Room.{Room};
@@ -122,7 +122,7 @@ fn survey_entry(handle: Handle, level: usize, edit: Edit, word: u64, seen: Surve
 #[tactic(auto, unfolding(address_slot::specs::Slot::entry_index))]
 pub fn survey_range(pool: &Pool<'_>, k: usize, level: usize, edit: Edit, before: Survey) -> Survey
     requires { (k < length pool.now.ledger.now) × (level ≤ 3) × Room edit.region before }
-    ensures { result ≡ survey_range (3 - level) pool.now.handle (seen pool.now) k edit before }
+    ensures { result ≡ survey_range (3 - level) pool.now.handle (read_state pool.now) k edit before }
 {
     let mut seen = before;
     for chunk in edit.region.split(level) {

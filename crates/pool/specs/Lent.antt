@@ -7,14 +7,14 @@ use Rattle.pool.specs.declared.lent.Pool.{Pool}
 use Rattle.pool.specs.declared.lent.PoolMut.{PoolMut}
 
 -- the state of a pool that is read, and of one that is written
-abbrev pub seen : Pool → St
-seen p = st p.words.now p.ledger.now
+abbrev pub read_state : Pool → St
+read_state p = st p.words.now p.ledger.now
 
 abbrev pub lent : PoolMut → St
 lent p = st p.words.now p.ledger.now
 
 -- the same lent words and ledger, as long as they were, under the same handle
-pub record Keeps (a b : PoolMut) : Type 0 where
+pub record KeepsLent (a b : PoolMut) : Type 0 where
   pub words : b.words.ghost_name ≡ a.words.ghost_name
   pub ledger : b.ledger.ghost_name ≡ a.ledger.ghost_name
   pub handle : b.handle ≡ a.handle
@@ -22,18 +22,19 @@ pub record Keeps (a b : PoolMut) : Type 0 where
   pub tables : length b.ledger.now ≡ length a.ledger.now
 
 -- what is read is what is lent
-pub read_seen : (p : Pool) (q : PoolMut) → p.words.now ≡ q.words.now → p.ledger.now ≡ q.ledger.now → seen p ≡ lent q
-read_seen p q words ledger = ap₂ st words ledger
+pub read_lent : (p : Pool) (q : PoolMut) → p.words.now ≡ q.words.now → p.ledger.now ≡ q.ledger.now → read_state p ≡ lent q
+read_lent p q words ledger = ap₂ st words ledger
 
--- a shape is seen as it is lent
-pub shaped_seen : (p : Pool) (q : PoolMut) → Shaped q.handle (lent q) → p.handle ≡ q.handle → seen p ≡ lent q → Shaped p.handle (seen p)
-shaped_seen p q shape handle state = rw (handle, state) shape
+-- a shape is read as it is lent
+pub shaped_read : (p : Pool) (q : PoolMut) → Shaped q.handle (lent q) → p.handle ≡ q.handle → read_state p ≡ lent q
+    → Shaped p.handle (read_state p)
+shaped_read p q shape handle state = rw (handle, state) shape
 
 -- nothing done keeps all, and so do two calls in turn
-pub keeps_all : (p : PoolMut) → Keeps p p
+pub keeps_all : (p : PoolMut) → KeepsLent p p
 keeps_all p = record { words = refl; ledger = refl; handle = refl; sizes = refl; tables = refl }
 
-pub keeps_on : (p q r : PoolMut) → Keeps p q → Keeps q r → Keeps p r
+pub keeps_on : (p q r : PoolMut) → KeepsLent p q → KeepsLent q r → KeepsLent p r
 keeps_on p q r before after =
     record {
       words = after.words ∙ before.words;
@@ -44,7 +45,7 @@ keeps_on p q r before after =
     }
 
 -- a shape is kept
-pub shaped_kept : (p q : PoolMut) → Shaped p.handle (lent p) → Keeps p q → Shaped q.handle (lent q)
+pub shaped_kept : (p q : PoolMut) → Shaped p.handle (lent p) → KeepsLent p q → Shaped q.handle (lent q)
 shaped_kept p q shape keeps =
     let h = keeps.handle in
     record {

@@ -2,7 +2,7 @@
 #![tactic(auto)]
 
 ghost use Rattle.std.specs.Prelude.{◌≡◌, ◌*◌, ◌<◌, ◌-◌, ◌≤◌, length};
-ghost use Rattle.pool.specs.Lent.{lent, Keeps};
+ghost use Rattle.pool.specs.Lent.{lent, KeepsLent};
 ghost use Rattle.pool_table.specs.Table.{clear, free_tree};
 
 use entry::Sub;
@@ -11,7 +11,7 @@ use pool::PoolMut;
 // Table k zero, and free.
 pub fn clear_table(pool: &mut PoolMut<'_>, k: usize)
     requires { k < length pool.old.ledger.now }
-    ensures keeps { Keeps pool.old pool.new }
+    ensures keeps { KeepsLent pool.old pool.new }
     ensures leaves { lent pool.new ≡ clear k (lent pool.old) }
 {
     let a = 512 * k;
@@ -24,7 +24,7 @@ pub fn clear_table(pool: &mut PoolMut<'_>, k: usize)
 #[tactic(auto, using(crate::specs::Table::free_last))]
 pub fn free(pool: &mut PoolMut<'_>, k: usize, level: usize)
     requires { (k < length pool.old.ledger.now) × (level ≤ 3) }
-    ensures keeps { Keeps pool.old pool.new }
+    ensures keeps { KeepsLent pool.old pool.new }
     ensures leaves { lent pool.new ≡ free_tree (3 - level) pool.old.handle k (lent pool.old) }
 {
     if address::LEAF_LEVEL <= level {

@@ -2,7 +2,7 @@
 #![tactic(auto)]
 
 ghost use Rattle.std.specs.Prelude.{◌≡◌, ◌+◌, ◌*◌, ◌≤◌, ◌<◌, ◌^◌, length};
-ghost use Rattle.pool.specs.Lent.{lent, Keeps};
+ghost use Rattle.pool.specs.Lent.{lent, KeepsLent};
 ghost use Rattle.pool.specs.Refuse.{Shaped};
 ghost use Rattle.pool_table.specs.Table.{rising, taken, take_table};
 
@@ -29,7 +29,7 @@ pub fn take_table(
 ) -> Option<usize>
     requires { Shaped pool.old.handle (lent pool.old) × (level ≤ 3) × (p < length pool.old.ledger.now) × (i < 512)
         × (first + 511 * step < 2 ^ 64) }
-    ensures keeps { Keeps pool.old pool.new }
+    ensures keeps { KeepsLent pool.old pool.new }
     ensures leaves { taken result (lent pool.new) ≡ take_table pool.old.handle p level i (rising 512 first step) (lent pool.old) }
 {
     let j = pool_ledger::lowest_free(pool.read().ledger)?;

@@ -9,7 +9,7 @@ use Rattle.laws.specs.Test.{le_or}
 use Rattle.region.specs.declared.MemoryRegion.{MemoryRegion}
 use Rattle.region.specs.declared.ChunkedIterator.{ChunkedIterator}
 use Rattle.address_slot.specs.Slot.{entry_last, chunk_end}
-use Rattle.region.specs.Region.{region_of, Parted, parted, next_chunk, next_done, next_cut, Step}
+use Rattle.region.specs.Region.{region_of, Parted, parted, next_chunk, next_done, next_cut, ChunkStep}
 use Rattle.std.specs.Iterator.{MakesProgress, item_count}
 
 -- the entries of this level that the region meets
@@ -50,7 +50,7 @@ chunk-fits level s e h =
     (omega (arith, a.1), omega arith, omega arith)
 
 -- the same of a chunk that `next` gave
-pub step_fits : {c d : ChunkedIterator} {r : MemoryRegion} → Step c r d
+pub step_fits : {c d : ChunkedIterator} {r : MemoryRegion} → ChunkStep c r d
     → (r.start.0 < r.end.0) × (r.end.0 ≤ c.range.end.0) × (r.end.0 ≤ entry_last c.level r.start.0 + 1)
 step_fits {c} t = rw (t.starts, t.stops) (chunk-fits c.level c.range.start.0 c.range.end.0 t.left)
 

@@ -59,7 +59,7 @@ next_cut c m h e =
 -- ---- a loop over the chunks, `for chunk in region.split(level)`: what each call of `next` says of the iterator before it and after it
 
 -- the iterator c gave the chunk r, and d is what is left: for the step of such a loop
-pub record Step (c : ChunkedIterator) (r : MemoryRegion) (d : ChunkedIterator) : Type 0 where
+pub record ChunkStep (c : ChunkedIterator) (r : MemoryRegion) (d : ChunkedIterator) : Type 0 where
   pub left : c.range.start.0 < c.range.end.0
   pub starts : r.start.0 ≡ c.range.start.0
   pub stops : r.end.0 ≡ chunk_end c.level c.range.start.0 c.range.end.0
@@ -67,17 +67,17 @@ pub record Step (c : ChunkedIterator) (r : MemoryRegion) (d : ChunkedIterator) :
 
 module _ (c d : ChunkedIterator) where
   -- from what `next` ensures (`steps`) where it gives a chunk
-  pub step_of : {r : MemoryRegion} → parted (Some r) d ≡ next_chunk c → Step c r d
+  pub step_of : {r : MemoryRegion} → parted (Some r) d ≡ next_chunk c → ChunkStep c r d
   step_of {r} is = go (le_or c.range.end.0 c.range.start.0)
     where
       m : ℕ
       m = chunk_end c.level c.range.start.0 c.range.end.0
 
       cut : Some r ≡ Some (region_of c.range.start.0 m) → d ≡ record { range = region_of m c.range.end.0; level = c.level }
-          → c.range.start.0 < c.range.end.0 → Step c r d
+          → c.range.start.0 < c.range.end.0 → ChunkStep c r d
       cut p q h = let same : r ≡ region_of c.range.start.0 m = cc in rw same (record { left = h; starts = refl; stops = refl; rest = q })
 
-      go : (c.range.end.0 ≤ c.range.start.0) ⊎ (c.range.start.0 < c.range.end.0) → Step c r d
+      go : (c.range.end.0 ≤ c.range.start.0) ⊎ (c.range.start.0 < c.range.end.0) → ChunkStep c r d
       go (inl h) = absurd (let none : Some r ≡ None = ap (λ (p : Parted). p.chunk) (is ∙ sym (next_done c h)) in cc)
       go (inr h) =
           let e : parted (Some r) d ≡ cut_at c.level c.range.start.0 m c.range.end.0 = is ∙ sym (next_cut c m h refl) in

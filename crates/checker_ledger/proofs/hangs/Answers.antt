@@ -9,7 +9,7 @@ use lib.ListN.{get_or}
 use Rattle.laws.specs.Test.{is_false, same_test, eq→eqb}
 use Rattle.entry.specs.Word.{link_of, link_fits}
 use Rattle.pool.specs.State.{St, number_at, word_at, used_in}
-use Rattle.pool.specs.Lent.{seen}
+use Rattle.pool.specs.Lent.{read_state}
 use Rattle.pool.specs.Number.{parent_of, slot_of}
 use Rattle.pool.specs.Sound.{hangsb, names_says, says_names}
 use Rattle.checker_ledger.specs.Hang.{Hangs, hangs_to, hangs_of}
@@ -33,33 +33,33 @@ pos n = omega arith
 pub returns-then-number-lt4 : goal.returns-then-number-lt4
 returns-then-number-lt4 c =
     let a = c.args in
-    no_hang a.pool.now.handle.base.0 (seen a.pool.now) a.k (λ p. omega (arith, (names_says _ p.named).kind))
+    no_hang a.pool.now.handle.base.0 (read_state a.pool.now) a.k (λ p. omega (arith, (names_says _ p.named).kind))
 
 pub returns-then-number-lt8 : goal.returns-then-number-lt8
 returns-then-number-lt8 c =
     let a = c.args in
-    no_hang a.pool.now.handle.base.0 (seen a.pool.now) a.k (λ p. omega (arith, (names_says _ p.named).some))
+    no_hang a.pool.now.handle.base.0 (read_state a.pool.now) a.k (λ p. omega (arith, (names_says _ p.named).some))
 
 pub returns-then-pool-parent : goal.returns-then-pool-parent
 returns-then-pool-parent c =
     let a = c.args in
-    no_hang a.pool.now.handle.base.0 (seen a.pool.now) a.k
-    (λ p. omega (arith, used_in (seen a.pool.now) _ p.parent))
+    no_hang a.pool.now.handle.base.0 (read_state a.pool.now) a.k
+    (λ p. omega (arith, used_in (read_state a.pool.now) _ p.parent))
 
 pub returns-then-above-eq0 : goal.returns-then-above-eq0
 returns-then-above-eq0 c =
     let a = c.args in
-    no_hang a.pool.now.handle.base.0 (seen a.pool.now) a.k (λ p. omega (arith, p.parent, c.if-above-eq0.true))
+    no_hang a.pool.now.handle.base.0 (read_state a.pool.now) a.k (λ p. omega (arith, p.parent, c.if-above-eq0.true))
 
 pub returns-then-number-above : goal.returns-then-number-above
 returns-then-number-above c =
     let a = c.args in
-    no_hang a.pool.now.handle.base.0 (seen a.pool.now) a.k (λ p. c.if-number-above.true (p.deeper ∙ sym (add-one _)))
+    no_hang a.pool.now.handle.base.0 (read_state a.pool.now) a.k (λ p. c.if-number-above.true (p.deeper ∙ sym (add-one _)))
 
 pub returns : goal.returns
 returns c =
     let a = c.args in
-    let s = seen a.pool.now in
+    let s = read_state a.pool.now in
     let x = number_at s a.k in
     -- the link of a table of the pool is its address + 3
     let linked : c.link.result ≡ link_of a.pool.now.handle.base.0 a.k =

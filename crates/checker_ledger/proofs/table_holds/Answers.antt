@@ -4,7 +4,7 @@ use mathlib.Core.Path.{◌≡◌, refl, sym, ap, ◌∙◌}
 use Prim.Native.Nat.{ℕ, zero, suc}
 use borrow.Author.Tests.{eq-eqb, ne_eqb}
 use Rattle.pool.specs.State.{St, number_at}
-use Rattle.pool.specs.Lent.{seen}
+use Rattle.pool.specs.Lent.{read_state}
 use Rattle.pool.specs.Number.{root_number}
 use Rattle.pool.specs.Sound.{hangsb, tableb}
 use Rattle.pool.specs.declared.Handle.{Handle}
@@ -25,15 +25,15 @@ pub returns-then-k-eq0 : goal.returns-then-k-eq0
 unfolding tableb root_number
 returns-then-k-eq0 c =
     let a = c.args in
-    sym (ap (tableb a.pool.now.handle (seen a.pool.now)) c.if-k-eq0.true)
+    sym (ap (tableb a.pool.now.handle (read_state a.pool.now)) c.if-k-eq0.true)
 
 pub returns-then-pool-k-eq0 : goal.returns-then-pool-k-eq0
 returns-then-pool-k-eq0 c =
     let a = c.args in
-    free-holds a.pool.now.handle (seen a.pool.now) a.k c.if-k-eq0.false c.if-pool-k-eq0.true
+    free-holds a.pool.now.handle (read_state a.pool.now) a.k c.if-k-eq0.false c.if-pool-k-eq0.true
 
 pub returns : goal.returns
 returns c =
     let a = c.args in
     c.hangs.ensures
-    ∙ used-holds a.pool.now.handle (seen a.pool.now) a.k c.if-k-eq0.false c.if-pool-k-eq0.false
+    ∙ used-holds a.pool.now.handle (read_state a.pool.now) a.k c.if-k-eq0.false c.if-pool-k-eq0.false

@@ -8,7 +8,7 @@ use Rattle.laws.specs.Part.{part_of, length_part}
 use Rattle.laws.specs.Sum.{sum, sum_empty, sum_more}
 use Rattle.laws.specs.Test.{all_none, all_more}
 use Rattle.pool.specs.State.{tables, number_at}
-use Rattle.pool.specs.Lent.{seen}
+use Rattle.pool.specs.Lent.{read_state}
 use Rattle.pool.specs.Refuse.{max_tables}
 use Rattle.pool.specs.Sound.{flag_set}
 use Rattle.checker_pass.specs.Pass.{run_words, run_passes, run_links, table_passes, table_links}
@@ -21,14 +21,14 @@ use Rattle.checker_pass.proofs.scan_tables.Goals as goal
 -- a run that passed: its words pass, its count is theirs and at most 128
 passed : (c : In-Some)
     → let a = c.args in
-    let s = seen a.pool.now in
+    let s = read_state a.pool.now in
     let k = c.tables.k in
     let r = c.loop-r.r in
     T (run_passes a.pool.now.handle s k r) × (c.in-Some.count ≡ run_links s k r) × (c.in-Some.count ≤ 128)
 unfolding run_passes run_links
 passed c =
     let a = c.args in
-    let s = seen a.pool.now in
+    let s = read_state a.pool.now in
     let k = c.tables.k in
     let r = c.loop-r.r in
     let size : 512 * k + 128 * r + 128 - (512 * k + 128 * r) ≡ 128 = omega arith in
@@ -45,7 +45,7 @@ tables-init c = (omega arith, all_none _, sym (sum_empty _), omega arith)
 pub loop-r-init : goal.loop-r-init
 loop-r-init c =
     let a = c.args in
-    let e = sum_empty (run_links (seen a.pool.now) c.tables.k) in
+    let e = sum_empty (run_links (read_state a.pool.now) c.tables.k) in
     (all_none _, (let q = c.tables.invariant.2 in omega arith), omega arith)
 
 pub scan_run-run-requires : goal.scan_run-run-requires
@@ -62,7 +62,7 @@ overflow_add-links c =
 pub loop-r-preserved : goal.loop-r-preserved
 loop-r-preserved c =
     let a = c.args in
-    let s = seen a.pool.now in
+    let s = read_state a.pool.now in
     let k = c.tables.k in
     let run = passed (goal.at.loop-r-preserved c).In-Some in
     let more = sum_more c.loop-r.r (run_links s k) in (
@@ -75,7 +75,7 @@ pub tables-preserved : goal.tables-preserved
 unfolding table_links
 tables-preserved c =
     let a = c.args in
-    let s = seen a.pool.now in
+    let s = read_state a.pool.now in
     let four : c.loop-r.r ≡ 4 = omega arith in
     let more = sum_more c.tables.k (table_links s) in
     let known = c.loop-r.invariant.1 in (
@@ -91,7 +91,7 @@ tables-preserved c =
 pub returns-then-n-k : goal.returns-then-n-k
 returns-then-n-k c =
     let a = c.args in
-    let s = seen a.pool.now in
+    let s = read_state a.pool.now in
     let all : c.tables.k ≡ tables s = omega arith in
     tables_passed a.pool.now.handle s c.tables.links (rw all at c.tables.invariant.1)
     (c.tables.invariant.2 ∙ ap (λ (n : ℕ). sum n (table_links s)) all)
@@ -99,7 +99,7 @@ returns-then-n-k c =
 pub returns-then-not-table_holds : goal.returns-then-not-table_holds
 returns-then-not-table_holds c =
     let a = c.args in
-    let s = seen a.pool.now in
+    let s = read_state a.pool.now in
     let k = c.tables.k in
     let fails = sym c.table_holds.ensures ∙ c.if-not-table_holds.true in
     tables_failed a.pool.now.handle s k (omega arith) (number_fails a.pool.now.handle s k fails)
@@ -108,7 +108,7 @@ pub returns-in_default : goal.returns-in_default
 unfolding run_passes
 returns-in_default c =
     let a = c.args in
-    let s = seen a.pool.now in
+    let s = read_state a.pool.now in
     let k = c.tables.k in
     let r = c.loop-r.r in
     let size : 512 * k + 128 * r + 128 - (512 * k + 128 * r) ≡ 128 = omega arith in

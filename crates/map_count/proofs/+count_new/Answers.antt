@@ -2,8 +2,8 @@
 use Rattle.std.proofs.Common.{◌≡◌, ℕ, ◌+◌, ◌^◌, ◌<◌, sym, ap, ◌∙◌, arith}
 use mathlib.Core.Path.{subst⁻¹}
 use Rattle.entry.specs.Sub.{sub-below}
-use Rattle.region.specs.Region.{Step, step_of, none_left}
-use Rattle.pool.specs.Lent.{seen}
+use Rattle.region.specs.Region.{ChunkStep, step_of, none_left}
+use Rattle.pool.specs.Lent.{read_state}
 use Rattle.pool.specs.State.{St}
 use Rattle.pool.specs.declared.Handle.{Handle}
 use Rattle.map_rules.specs.declared.Map.{Map}
@@ -24,13 +24,13 @@ lower levels h s j m n e q = e ∙ ap (closed levels h s j) q
 module _ {t : ℕ} (c : After-len t) where
   -- what one chunk counts
   abbrev counts : Map → ℕ
-  counts = count_at c.args.pool.now.handle (seen c.args.pool.now) c.args.k c.args.level
+  counts = count_at c.args.pool.now.handle (read_state c.args.pool.now) c.args.k c.args.level
 
   -- the chunk's own map
   abbrev chunk : Map
   chunk = chunk_map c.args.map c.in-Some.region c.loop-region.frame.0
 
-  taken : Step c.loop-region.region-iterator c.in-Some.region c.next.new.self
+  taken : ChunkStep c.loop-region.region-iterator c.in-Some.region c.next.new.self
   taken = step_of _ _ c.in-Some.ensures.steps
 
   one : Chunk c.args.level chunk
@@ -53,12 +53,12 @@ module _ {t : ℕ} (c : After-len t) where
       let a = c.args in
       let p = c.requires.2 in
       let most = step_most a.level counts a.map c.loop-region.count taken c.loop-region.frame.0 c.loop-region.invariant c.len.ensures e in
-      omega (arith, most, count_fit a.pool.now.handle (seen a.pool.now) a.k a.level a.map (omega arith), p.some, p.room)
+      omega (arith, most, count_fit a.pool.now.handle (read_state a.pool.now) a.k a.level a.map (omega arith), p.some, p.room)
 
 pub returns-then-level-ge-LEAF_LEVEL : goal.returns-then-level-ge-LEAF_LEVEL
 returns-then-level-ge-LEAF_LEVEL t c =
     let a = c.args in
-    closed_done a.pool.now.handle (seen a.pool.now) a.k a.level a.map (omega arith)
+    closed_done a.pool.now.handle (read_state a.pool.now) a.k a.level a.map (omega arith)
 
 pub overflow_add-frame : goal.overflow_add-frame
 overflow_add-frame t c =
@@ -71,7 +71,8 @@ loop-region-preserved t c =
     let a = c.args in
     let at = (goal.at.loop-region-preserved t c).After-len in
     skips at
-    (entry_outside a.pool.now.handle (seen a.pool.now) a.k a.level (chunk at) c.entry_index-i.ensures c.subtable.ensures c.in-Outside.is)
+    (entry_outside a.pool.now.handle (read_state a.pool.now) a.k a.level (chunk at) c.entry_index-i.ensures c.subtable.ensures
+    c.in-Outside.is)
 
 pub count_entry-count-requires : goal.count_entry-count-requires
 count_entry-count-requires t c =
@@ -81,7 +82,7 @@ pub overflow_add-count-in-Leaf : goal.overflow_add-count-in-Leaf
 overflow_add-count-in-Leaf t c =
     let a = c.args in
     let at = (goal.at.overflow_add-count-in-Leaf t c).After-len in
-    let here = entry_leaf a.pool.now.handle (seen a.pool.now) a.k a.level (chunk at) c.entry_index-i.ensures c.subtable.ensures
+    let here = entry_leaf a.pool.now.handle (read_state a.pool.now) a.k a.level (chunk at) c.entry_index-i.ensures c.subtable.ensures
     c.in-Leaf.is (omega arith) in
     omega (arith, small at c.count_entry-count.result (here ∙ sym c.count_entry-count.ensures))
 
@@ -90,7 +91,7 @@ loop-region-preserved-in-Leaf t c =
     let a = c.args in
     let at = (goal.at.loop-region-preserved-in-Leaf t c).After-len in
     adds at c.count_entry-count.result
-    (entry_leaf a.pool.now.handle (seen a.pool.now) a.k a.level (chunk at) c.entry_index-i.ensures c.subtable.ensures c.in-Leaf.is
+    (entry_leaf a.pool.now.handle (read_state a.pool.now) a.k a.level (chunk at) c.entry_index-i.ensures c.subtable.ensures c.in-Leaf.is
     (omega arith) ∙ sym c.count_entry-count.ensures)
 
 pub rule_of-requires : goal.rule_of-requires
@@ -104,7 +105,7 @@ loop-region-preserved-in_default t c =
     let at = (goal.at.loop-region-preserved-in_default t c).After-len in
     let none = no_down c.rule_of.result c.in_default.not-Down in
     skips at
-    (entry_none a.pool.now.handle (seen a.pool.now) a.k a.level (chunk at) c.entry_index-i.ensures c.subtable.ensures
+    (entry_none a.pool.now.handle (read_state a.pool.now) a.k a.level (chunk at) c.entry_index-i.ensures c.subtable.ensures
     (ruled _ _ _ _ c.rule_of.ensures c.chunk_of-chunk.ensures) none)
 
 pub count_new-count-requires : goal.count_new-count-requires
@@ -117,7 +118,7 @@ pub overflow_add-count : goal.overflow_add-count
 overflow_add-count t c =
     let a = c.args in
     let at = (goal.at.overflow_add-count t c).After-len in
-    let here = entry-table a.pool.now.handle (seen a.pool.now) a.k a.level (chunk at) c.entry_index-i.ensures c.subtable.ensures
+    let here = entry-table a.pool.now.handle (read_state a.pool.now) a.k a.level (chunk at) c.entry_index-i.ensures c.subtable.ensures
     (ruled _ _ _ _ c.rule_of.ensures c.chunk_of-chunk.ensures) _ c.in-Table.is c.in-Down.is in
     omega (arith, small at c.count_new-count.result (here ∙ sym (lower _ _ _ _ _ _ c.count_new-count.ensures c.chunk_of-chunk.ensures)))
 
@@ -126,14 +127,14 @@ loop-region-preserved-in-Table t c =
     let a = c.args in
     let at = (goal.at.loop-region-preserved-in-Table t c).After-len in
     adds at c.count_new-count.result
-    (entry-table a.pool.now.handle (seen a.pool.now) a.k a.level (chunk at) c.entry_index-i.ensures c.subtable.ensures
+    (entry-table a.pool.now.handle (read_state a.pool.now) a.k a.level (chunk at) c.entry_index-i.ensures c.subtable.ensures
     (ruled _ _ _ _ c.rule_of.ensures c.chunk_of-chunk.ensures) _ c.in-Table.is c.in-Down.is
     ∙ sym (lower _ _ _ _ _ _ c.count_new-count.ensures c.chunk_of-chunk.ensures))
 
 pub returns : goal.returns
 returns t c =
     let a = c.args in
-    let s = seen a.pool.now in
+    let s = read_state a.pool.now in
     counted a.level (count_at a.pool.now.handle s a.k a.level) a.map c.loop-region.count c.loop-region.region-iterator c.loop-region.frame.0
     c.loop-region.invariant (none_left _ _ c.in-None.ensures.steps).0
     ∙ closed_open a.pool.now.handle s a.k a.level a.map (omega arith)

@@ -1,8 +1,8 @@
 -- `count_last`: each way through the code by its law.
 use Rattle.std.proofs.Common.{ℕ, ◌<◌, ◌∙◌, arith}
 use mathlib.Core.Path.{subst⁻¹}
-use Rattle.region.specs.Region.{Step, step_of, none_left}
-use Rattle.pool.specs.Lent.{seen}
+use Rattle.region.specs.Region.{ChunkStep, step_of, none_left}
+use Rattle.pool.specs.Lent.{read_state}
 use Rattle.map_rules.specs.declared.Map.{Map}
 use Rattle.map_rules.specs.Rules.{chunk_map}
 use Rattle.map_rules.specs.Fit.{Fit}
@@ -14,13 +14,13 @@ use Rattle.map_count.proofs.count_last.Goals.{In-Some}
 
 -- what one chunk counts
 abbrev counts : In-Some → Map → ℕ
-counts c = count_at c.args.pool.now.handle (seen c.args.pool.now) c.args.k 2
+counts c = count_at c.args.pool.now.handle (read_state c.args.pool.now) c.args.k 2
 
 -- the chunk's own map
 abbrev chunk : In-Some → Map
 chunk c = chunk_map c.args.map c.in-Some.region c.loop-region.frame.0
 
-taken : (c : In-Some) → Step c.loop-region.region-iterator c.in-Some.region c.next.new.self
+taken : (c : In-Some) → ChunkStep c.loop-region.region-iterator c.in-Some.region c.next.new.self
 taken c = step_of _ _ c.in-Some.ensures.steps
 
 fits : (c : In-Some) → Fit (chunk c)
@@ -34,7 +34,7 @@ loop-region-preserved-in_default c =
     let a = c.args in
     let at = (goal.at.loop-region-preserved-in_default c).In-Some in
     step_skips 2 (counts at) a.map c.loop-region.count (taken at) c.loop-region.frame.0 c.loop-region.invariant c.len.ensures
-    (last_table a.pool.now.handle (seen a.pool.now) a.k (chunk at) c.entry_index-i.ensures c.subtable.ensures c.in_default.not-Leaf)
+    (last_table a.pool.now.handle (read_state a.pool.now) a.k (chunk at) c.entry_index-i.ensures c.subtable.ensures c.in_default.not-Leaf)
 
 pub rule_of-requires : goal.rule_of-requires
 rule_of-requires c =
@@ -48,14 +48,14 @@ loop-region-preserved-in_default-rule_of c =
     let at = (goal.at.loop-region-preserved-in_default-rule_of c).In-Some in
     let none = no_down c.rule_of.result c.in_default-rule_of.not-Down in
     step_skips 2 (counts at) a.map c.loop-region.count (taken at) c.loop-region.frame.0 c.loop-region.invariant c.len.ensures
-    (last_none a.pool.now.handle (seen a.pool.now) a.k (chunk at) c.entry_index-i.ensures c.subtable.ensures c.in-Leaf.is
+    (last_none a.pool.now.handle (read_state a.pool.now) a.k (chunk at) c.entry_index-i.ensures c.subtable.ensures c.in-Leaf.is
     (ruled _ _ _ _ c.rule_of.ensures c.chunk_of-chunk.ensures) none)
 
 pub overflow_add-count : goal.overflow_add-count
 overflow_add-count c =
     let a = c.args in
     let at = (goal.at.overflow_add-count c).In-Some in
-    let s = seen a.pool.now in
+    let s = read_state a.pool.now in
     let one = last_down a.pool.now.handle s a.k (chunk at) c.entry_index-i.ensures c.subtable.ensures c.in-Leaf.is
     (ruled _ _ _ _ c.rule_of.ensures c.chunk_of-chunk.ensures) c.in-Down.is in
     let most = step_most 2 (counts at) a.map c.loop-region.count (taken at) c.loop-region.frame.0 c.loop-region.invariant
@@ -67,13 +67,13 @@ loop-region-preserved c =
     let a = c.args in
     let at = (goal.at.loop-region-preserved c).In-Some in
     step_adds 2 (counts at) a.map c.loop-region.count (taken at) c.loop-region.frame.0 c.loop-region.invariant c.len.ensures
-    (last_down a.pool.now.handle (seen a.pool.now) a.k (chunk at) c.entry_index-i.ensures c.subtable.ensures c.in-Leaf.is
+    (last_down a.pool.now.handle (read_state a.pool.now) a.k (chunk at) c.entry_index-i.ensures c.subtable.ensures c.in-Leaf.is
     (ruled _ _ _ _ c.rule_of.ensures c.chunk_of-chunk.ensures) c.in-Down.is)
 
 pub returns : goal.returns
 returns c =
     let a = c.args in
-    let s = seen a.pool.now in
+    let s = read_state a.pool.now in
     counted 2 (count_at a.pool.now.handle s a.k 2) a.map c.loop-region.count c.loop-region.region-iterator c.loop-region.frame.0
     c.loop-region.invariant (none_left _ _ c.in-None.ensures.steps).0
     ∙ closed_open a.pool.now.handle s a.k 2 a.map (omega arith)

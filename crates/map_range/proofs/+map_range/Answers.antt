@@ -6,7 +6,7 @@ use Rattle.region.specs.Region.{step_of, none_left}
 use Rattle.region.specs.Chunks.{step_fits}
 use Rattle.region.specs.declared.ChunkedIterator.{ChunkedIterator}
 use Rattle.pool.specs.State.{St}
-use Rattle.pool.specs.Lent.{lent, Keeps, keeps_on, shaped_kept}
+use Rattle.pool.specs.Lent.{lent, KeepsLent, keeps_on, shaped_kept}
 use Rattle.pool.specs.Refuse.{Shaped}
 use Rattle.pool.specs.declared.Handle.{Handle}
 use Rattle.pool.specs.declared.lent.PoolMut.{PoolMut}
@@ -69,7 +69,7 @@ facts t c =
     }
 
 -- what is left to do after the chunk, where the step is known
-onwards : (t : ℕ) (c : After-chunk_of-chunk t) {p : PoolMut} → let a = c.args in let q = c.loop-region.pool in Keeps q p
+onwards : (t : ℕ) (c : After-chunk_of-chunk t) {p : PoolMut} → let a = c.args in let q = c.loop-region.pool in KeepsLent q p
     → lent p ≡ map_step q.handle a.k a.level c.chunk_of-chunk.result (lent q)
     → each_map_chunk a.level (map_step p.handle a.k a.level) (left_of t c) (lent p)
     ≡ each_map_chunk a.level (map_step a.pool.now.handle a.k a.level) a.map (lent a.pool.now)

@@ -1,5 +1,5 @@
 use Rattle.std.proofs.Common.{◌≡◌, ◌-◌, false}
-use Rattle.pool.specs.Lent.{lent, Keeps}
+use Rattle.pool.specs.Lent.{lent, KeepsLent}
 use Rattle.map_rules.specs.Fit.{Fit}
 use Rattle.map_rules.specs.Rules.{chunk_map}
 use Rattle.map_put.specs.Put.{each_map_chunk}
@@ -13,7 +13,7 @@ decreases-map_range l = 3 - l.level
 -- what is left fits, and makes of what is there what the whole map makes of what there was
 abbrev pub invariant-loop-region : goal.invariant-loop-region
 invariant-loop-region l = record {
-  keeps : Keeps l.initial.pool l.pool;
+  keeps : KeepsLent l.initial.pool l.pool;
   level : l.region-iterator.level ≡ l.level;
   fit : Fit (chunk_map l.map l.region-iterator.range l.frame.0);
   same : each_map_chunk l.level (map_step l.pool.handle l.k l.level) (chunk_map l.map l.region-iterator.range l.frame.0) (lent l.pool)

@@ -1,6 +1,6 @@
 -- `map_sound`: each way through the code by its law.
 use Rattle.std.proofs.Common.{◌≡◌, true, ◌-◌, ap₂, ◌∙◌, arith}
-use Rattle.pool.specs.Lent.{lent, read_seen}
+use Rattle.pool.specs.Lent.{lent, read_lent}
 use Rattle.pool.specs.State.{St}
 use Rattle.pool.specs.Number.{used, used-free}
 use Rattle.pool.specs.Sound.{soundb}
@@ -40,7 +40,7 @@ returns-clause-leaves c =
     let a = c.args in
     let p = a.pool.now in
     let is = known (goal.at.returns-clause-leaves c).In-Some in
-    let state = read_seen c.read-2.result p c.read-2.ensures.words c.read-2.ensures.ledger in
+    let state = read_lent c.read-2.result p c.read-2.ensures.words c.read-2.ensures.ledger in
     c.put_down.ensures.leaves
     ∙ sound_mapped p.handle a.map (lent p) is.0
     (ap₂ (λ (h : Handle) (s : St). closed (3 - h.level) h s 0 a.map) c.read-2.ensures.handle state

@@ -1,6 +1,6 @@
 -- `put_down`: each way through the code by its law.
 use Rattle.std.proofs.Common.{◌≡◌, false, List, ℕ, ◌-◌, sym, ap, ◌∙◌, arith}
-use Rattle.pool.specs.Lent.{lent, read_seen}
+use Rattle.pool.specs.Lent.{lent, read_lent}
 use Rattle.pool.specs.Number.{used}
 use Rattle.pool.specs.Refuse.{max_tables}
 use Rattle.map_put.specs.Put.{map_range}
@@ -14,7 +14,7 @@ mapped : (c : After-map_range) → let a = c.args in
     lent c.map_range.new.pool ≡ map_range (3 - a.pool.now.handle.level) a.pool.now.handle 0 a.map (lent a.pool.now)
 mapped c =
     let p = c.args.pool.now in
-    let state = read_seen c.read.result p c.read.ensures.words c.read.ensures.ledger in
+    let state = read_lent c.read.result p c.read.ensures.words c.read.ensures.ledger in
     c.map_range.ensures.leaves.0 ∙ (served c.read.result p.handle (lent p) _ _ _ c.read.ensures.handle state c.lowest_table-place.ensures).0
 
 pub count_used-requires : goal.count_used-requires

@@ -3,11 +3,11 @@ use Rattle.std.proofs.Common.{◌≡◌, ◌+◌, ℕ, ◌-◌, ◌<◌, sym, ap
 use mathlib.Core.Path.{subst⁻¹}
 use Rattle.entry.specs.Sub.{sub_found}
 use Rattle.region.specs.declared.MemoryRegion.{MemoryRegion}
-use Rattle.region.specs.Region.{Step, step_of}
+use Rattle.region.specs.Region.{ChunkStep, step_of}
 use Rattle.region.specs.Chunks.{step_fits}
 use Rattle.region.specs.Each.{each_left, left_step, left_done, left_all}
 use Rattle.pool.specs.State.{St, word_at}
-use Rattle.pool.specs.Lent.{seen}
+use Rattle.pool.specs.Lent.{read_state}
 use Rattle.pool.specs.declared.Handle.{Handle}
 use Rattle.modify_entry.specs.Word.{chunk_edit}
 use Rattle.modify_entry.specs.declared.Edit.{Edit}
@@ -20,7 +20,7 @@ use Rattle.modify_survey.proofs.+survey_range.Goals.{In-Some}
 module _ {t : ℕ} (c : In-Some t) where
   -- the lent pool
   abbrev state : St
-  state = seen c.args.pool.now
+  state = read_state c.args.pool.now
 
   abbrev handle : Handle
   handle = c.args.pool.now.handle
@@ -30,7 +30,7 @@ module _ {t : ℕ} (c : In-Some t) where
   step = survey_step handle state c.args.k c.args.level c.args.edit
 
   -- the chunk that is at hand
-  taken : Step c.loop-chunk.chunk-iterator c.in-Some.chunk c.next.new.self
+  taken : ChunkStep c.loop-chunk.chunk-iterator c.in-Some.chunk c.next.new.self
   taken = step_of _ _ c.in-Some.ensures.steps
 
   some : c.in-Some.chunk.start.0 < c.in-Some.chunk.end.0
@@ -101,7 +101,7 @@ loop-chunk-preserved-in-Table t c =
 pub returns : goal.returns
 returns t c =
     let a = c.args in
-    let s = seen a.pool.now in
+    let s = read_state a.pool.now in
     let f = survey_step a.pool.now.handle s a.k a.level a.edit in
     let whole = c.into_iter-chunk-iterator.ensures.into_iter_gives ∙ c.split-chunk-items.ensures in
     left_done f _ _ c.in-None.ensures.steps c.loop-chunk.seen ∙ c.loop-chunk.invariant.1 ∙ left_all f a.level a.edit.region whole a.before

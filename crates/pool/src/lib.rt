@@ -1,8 +1,9 @@
 // The pool: 512 words for each table, and a ledger number for each table (document 01, "Pool and ledger").
 #![tactic(auto)]
 
-ghost use Rattle.std.specs.Prelude.{◌≡◌};
+ghost use Rattle.std.specs.Prelude.{◌≡◌, Some};
 ghost use Rattle.pool.specs.Refuse.{number};
+ghost use Rattle.pool.specs.Words.{meaning, refusal_text};
 
 mod lent;
 
@@ -65,7 +66,9 @@ impl Refusal {
     }
 
     // When it is given.
-    fn meaning(self) -> &'static str {
+    fn meaning(self) -> &'static str
+        ensures { result.now ≡ meaning self }
+    {
         match self {
             Refusal::Shape => {
                 "n is 0 or above 4096, lengths disagree, base not a multiple of 4096 or its end above 2^48, root level above 3, \
@@ -88,22 +91,24 @@ impl Refusal {
 
 // Its number, when it is given, and what it carries.
 impl fmt::Display for Refusal {
+    ghost output = { λ r. Some (refusal_text r) };
+
     fn fmt<W: fmt::Write>(&self, f: &mut fmt::Formatter<W>) -> fmt::Result {
         write!(f, "refused {}: {}", self.number(), self.meaning())?;
         match *self {
             Refusal::Shape | Refusal::Unsound => Ok(()),
-            Refusal::End(end) => write!(f, " (end {end:#x})"),
-            Refusal::InvalidFlags(flags) => write!(f, " (flags {flags:#x})"),
-            Refusal::FlagSet(flags) => write!(f, " (flags {flags:#x})"),
+            Refusal::End(end) => write!(f, " (end 0x{end:x})"),
+            Refusal::InvalidFlags(flags) => write!(f, " (flags 0x{flags:x})"),
+            Refusal::FlagSet(flags) => write!(f, " (flags 0x{flags:x})"),
             Refusal::RegionBackwards(region) => write!(
                 f,
-                " (start {:#x}, end {:#x})",
+                " (start 0x{:x}, end 0x{:x})",
                 region.start.0, region.end.0
             ),
-            Refusal::AddressRange(address) => write!(f, " (address {:#x})", address.0),
-            Refusal::Frame(frame) => write!(f, " (frame {:#x})", frame.0),
+            Refusal::AddressRange(address) => write!(f, " (address 0x{:x})", address.0),
+            Refusal::Frame(frame) => write!(f, " (frame 0x{:x})", frame.0),
             Refusal::WantOfRoom(needed, free) => write!(f, " (needed {needed}, free {free})"),
-            Refusal::HouseRule(word) => write!(f, " (word {word:#x})"),
+            Refusal::HouseRule(word) => write!(f, " (word 0x{word:x})"),
             Refusal::Short(needed) => write!(f, " (needed {needed})"),
         }
     }

@@ -13,8 +13,11 @@ fn fill(table: &mut [u64], first: u64, step: u64)
     requires { (length table.old ≡ 512) × (first + 511 * step < 2 ^ 64) }
     ensures { table.new ≡ rising 512 first step }
 {
-    for (i, entry) in table.iter_mut().enumerate() {
-        *entry = first + step * (i as u64);
+    let mut word = first;
+    // A running sum, and not first + step * i: a product for each word takes three times as long.
+    for i in 0..512 {
+        table[i] = word;
+        word = word.wrapping_add(step);
     }
 }
 

@@ -26,9 +26,9 @@ returns-in-RegionBackwards-clause-writes g c plain ok =
     told _ c.args.self.now c.number.ensures c.meaning.ensures (sym (ap carried_text c.in-RegionBackwards.is))
     (c.write.ensures.writes plain (search rules))
     (λ p.
-      let start = c.in_radix-in-RegionBackwards.ensures in
-      let end = c.in_radix-in-RegionBackwards-2.ensures in
-      (rw (start, end) at c.write-in-RegionBackwards.ensures.writes) p ok)
+    let start = c.in_radix-in-RegionBackwards.ensures in
+    let end = c.in_radix-in-RegionBackwards-2.ensures in
+    (rw (start, end) at c.write-in-RegionBackwards.ensures.writes) p ok)
 
 pub returns-in-AddressRange-clause-writes : goal.returns-in-AddressRange-clause-writes
 returns-in-AddressRange-clause-writes g c plain ok =

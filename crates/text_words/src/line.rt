@@ -2,9 +2,12 @@
 ghost use Rattle.std.specs.Prelude.{length};
 ghost use Rattle.std.specs.Iterator.{at_most};
 
-// A line of a text, counted from 0; an empty one past the last, for which no caller asks.
+// A line of a text, counted from 0; an empty one past the last that a newline ends, for which no caller asks.
 pub fn line_of(text: &[u8], number: usize) -> &[u8] {
-    text.split(|&byte| byte == b'\n').nth(number).unwrap_or(&[])
+    text.split_inclusive(|&byte| byte == b'\n')
+        .nth(number)
+        .and_then(|line| line.strip_suffix(b"\n"))
+        .unwrap_or(&[])
 }
 
 // Whether a byte parts words.

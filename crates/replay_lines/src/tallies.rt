@@ -31,7 +31,7 @@ impl Tallies {
     {
         if let Some(kind) = kind {
             let tally = &mut self.lines[kind as usize];
-            *tally = tally.saturating_add(1);
+            *tally = tally.wrapping_add(1);
         }
     }
 
@@ -55,7 +55,7 @@ impl Tallies {
         if kind.is_some() && came == said {
             return None;
         }
-        self.different = self.different.saturating_add(1);
+        self.different = self.different.wrapping_add(1);
         (self.different <= MOST_SAID).then_some(Difference { came, said })
     }
 }

@@ -1,5 +1,5 @@
 -- `count_new`: each way through the code by its law.
-use Rattle.std.proofs.Common.{◌≡◌, ℕ, ◌+◌, ◌^◌, ◌<◌, sym, ap, ◌∙◌, arith}
+use Rattle.std.proofs.Common.{◌≡◌, ℕ, ◌+◌, ◌-◌, ◌^◌, ◌<◌, refl, sym, ap, ◌∙◌, arith}
 use mathlib.Core.Path.{subst⁻¹}
 use Rattle.entry.specs.Sub.{sub-below}
 use Rattle.region.specs.Region.{ChunkStep, step_of, none_left}
@@ -15,13 +15,13 @@ use Rattle.map_count.specs.Laws.{count_at, closed_done, closed_open, count_fit, 
 use Rattle.map_count_leaf.proofs.Tags.{no_down}
 use Rattle.map_count.proofs.Step.{Counting, step_chunk, step_fit, step_adds, step_skips, step_most, counted, ruled}
 use Rattle.map_count.proofs.+count_new.Goals as goal
-use Rattle.map_count.proofs.+count_new.Goals.{After-len}
+use Rattle.map_count.proofs.+count_new.Goals.{In-Some}
 
 -- what a table below answers, asked of the chunk's map
 lower : (levels : ℕ) (h : Handle) (s : St) (j : ℕ) (m n : Map) {x : ℕ} → x ≡ closed levels h s j m → m ≡ n → x ≡ closed levels h s j n
 lower levels h s j m n e q = e ∙ ap (closed levels h s j) q
 
-module _ {t : ℕ} (c : After-len t) where
+module _ {t : ℕ} (c : In-Some t) where
   -- what one chunk counts
   abbrev counts : Map → ℕ
   counts = count_at c.args.pool.now.handle (read_state c.args.pool.now) c.args.k c.args.level
@@ -40,19 +40,19 @@ module _ {t : ℕ} (c : After-len t) where
   fits = step_fit c.args.level counts c.args.map c.loop-region.count taken c.loop-region.frame.0 c.loop-region.invariant
 
   skips : counts chunk ≡ 0
-      → Counting c.args.level counts c.args.map c.loop-region.count c.next.new.self (c.loop-region.frame.0 + c.len.result)
-  skips = step_skips c.args.level counts c.args.map c.loop-region.count taken c.loop-region.frame.0 c.loop-region.invariant c.len.ensures
+      → Counting c.args.level counts c.args.map c.loop-region.count c.next.new.self (c.loop-region.frame.0 + (c.in-Some.region.end.0 - c.in-Some.region.start.0))
+  skips = step_skips c.args.level counts c.args.map c.loop-region.count taken c.loop-region.frame.0 c.loop-region.invariant refl
 
   adds : (x : ℕ) → counts chunk ≡ x
-      → Counting c.args.level counts c.args.map (c.loop-region.count + x) c.next.new.self (c.loop-region.frame.0 + c.len.result)
+      → Counting c.args.level counts c.args.map (c.loop-region.count + x) c.next.new.self (c.loop-region.frame.0 + (c.in-Some.region.end.0 - c.in-Some.region.start.0))
   adds x =
-      step_adds c.args.level counts c.args.map c.loop-region.count taken c.loop-region.frame.0 c.loop-region.invariant c.len.ensures
+      step_adds c.args.level counts c.args.map c.loop-region.count taken c.loop-region.frame.0 c.loop-region.invariant refl
 
   small : (x : ℕ) → counts chunk ≡ x → c.loop-region.count + x < 2 ^ 64
   small x e =
       let a = c.args in
       let p = c.requires.2 in
-      let most = step_most a.level counts a.map c.loop-region.count taken c.loop-region.frame.0 c.loop-region.invariant c.len.ensures e in
+      let most = step_most a.level counts a.map c.loop-region.count taken c.loop-region.frame.0 c.loop-region.invariant refl e in
       omega (arith, most, count_fit a.pool.now.handle (read_state a.pool.now) a.k a.level a.map (omega arith), p.some, p.room)
 
 pub returns-then-level-ge-LEAF_LEVEL : goal.returns-then-level-ge-LEAF_LEVEL
@@ -60,28 +60,31 @@ returns-then-level-ge-LEAF_LEVEL t c =
     let a = c.args in
     closed_done a.pool.now.handle (read_state a.pool.now) a.k a.level a.map (omega arith)
 
+pub overflow_sub-frame : goal.overflow_sub-frame
+overflow_sub-frame t c = let at = (goal.at.overflow_sub-frame t c).In-Some in omega (arith, (one at).some)
+
 pub overflow_add-frame : goal.overflow_add-frame
 overflow_add-frame t c =
     let step = step_of _ _ c.in-Some.ensures.steps in
     let f = (step_fit _ _ _ _ step _ c.loop-region.invariant).room in
-    omega (arith, c.len.ensures)
+    omega (arith, f)
 
 pub loop-region-preserved : goal.loop-region-preserved
 loop-region-preserved t c =
     let a = c.args in
-    let at = (goal.at.loop-region-preserved t c).After-len in
+    let at = (goal.at.loop-region-preserved t c).In-Some in
     skips at
     (entry_outside a.pool.now.handle (read_state a.pool.now) a.k a.level (chunk at) c.entry_index-i.ensures c.subtable.ensures
     c.in-Outside.is)
 
 pub count_entry-count-requires : goal.count_entry-count-requires
 count_entry-count-requires t c =
-    let at = (goal.at.count_entry-count-requires t c).After-len in (fits at, one at, omega arith)
+    let at = (goal.at.count_entry-count-requires t c).In-Some in (fits at, one at, omega arith)
 
 pub overflow_add-count-in-Leaf : goal.overflow_add-count-in-Leaf
 overflow_add-count-in-Leaf t c =
     let a = c.args in
-    let at = (goal.at.overflow_add-count-in-Leaf t c).After-len in
+    let at = (goal.at.overflow_add-count-in-Leaf t c).In-Some in
     let here = entry_leaf a.pool.now.handle (read_state a.pool.now) a.k a.level (chunk at) c.entry_index-i.ensures c.subtable.ensures
     c.in-Leaf.is (omega arith) in
     omega (arith, small at c.count_entry-count.result (here ∙ sym c.count_entry-count.ensures))
@@ -89,20 +92,20 @@ overflow_add-count-in-Leaf t c =
 pub loop-region-preserved-in-Leaf : goal.loop-region-preserved-in-Leaf
 loop-region-preserved-in-Leaf t c =
     let a = c.args in
-    let at = (goal.at.loop-region-preserved-in-Leaf t c).After-len in
+    let at = (goal.at.loop-region-preserved-in-Leaf t c).In-Some in
     adds at c.count_entry-count.result
     (entry_leaf a.pool.now.handle (read_state a.pool.now) a.k a.level (chunk at) c.entry_index-i.ensures c.subtable.ensures c.in-Leaf.is
     (omega arith) ∙ sym c.count_entry-count.ensures)
 
 pub rule_of-requires : goal.rule_of-requires
 rule_of-requires t c =
-    let at = (goal.at.rule_of-requires t c).After-len in
+    let at = (goal.at.rule_of-requires t c).In-Some in
     subst⁻¹ (λ (m : Map). Fit m × (m.region.start.0 < m.region.end.0)) c.chunk_of-chunk.ensures (fits at, (one at).some)
 
 pub loop-region-preserved-in_default : goal.loop-region-preserved-in_default
 loop-region-preserved-in_default t c =
     let a = c.args in
-    let at = (goal.at.loop-region-preserved-in_default t c).After-len in
+    let at = (goal.at.loop-region-preserved-in_default t c).In-Some in
     let none = no_down c.rule_of.result c.in_default.not-Down in
     skips at
     (entry_none a.pool.now.handle (read_state a.pool.now) a.k a.level (chunk at) c.entry_index-i.ensures c.subtable.ensures
@@ -110,14 +113,14 @@ loop-region-preserved-in_default t c =
 
 pub count_new-count-requires : goal.count_new-count-requires
 count_new-count-requires t c =
-    let at = (goal.at.count_new-count-requires t c).After-len in
+    let at = (goal.at.count_new-count-requires t c).In-Some in
     let inside = sub-below c.args.pool.now.handle.base.0 _ c.args.level _ _ (sym c.subtable.ensures ∙ c.in-Table.is) in
     (omega arith, (inside, omega arith, subst⁻¹ Fit c.chunk_of-chunk.ensures (fits at)))
 
 pub overflow_add-count : goal.overflow_add-count
 overflow_add-count t c =
     let a = c.args in
-    let at = (goal.at.overflow_add-count t c).After-len in
+    let at = (goal.at.overflow_add-count t c).In-Some in
     let here = entry-table a.pool.now.handle (read_state a.pool.now) a.k a.level (chunk at) c.entry_index-i.ensures c.subtable.ensures
     (ruled _ _ _ _ c.rule_of.ensures c.chunk_of-chunk.ensures) _ c.in-Table.is c.in-Down.is in
     omega (arith, small at c.count_new-count.result (here ∙ sym (lower _ _ _ _ _ _ c.count_new-count.ensures c.chunk_of-chunk.ensures)))
@@ -125,7 +128,7 @@ overflow_add-count t c =
 pub loop-region-preserved-in-Table : goal.loop-region-preserved-in-Table
 loop-region-preserved-in-Table t c =
     let a = c.args in
-    let at = (goal.at.loop-region-preserved-in-Table t c).After-len in
+    let at = (goal.at.loop-region-preserved-in-Table t c).In-Some in
     adds at c.count_new-count.result
     (entry-table a.pool.now.handle (read_state a.pool.now) a.k a.level (chunk at) c.entry_index-i.ensures c.subtable.ensures
     (ruled _ _ _ _ c.rule_of.ensures c.chunk_of-chunk.ensures) _ c.in-Table.is c.in-Down.is

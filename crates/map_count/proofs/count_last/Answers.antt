@@ -1,5 +1,5 @@
 -- `count_last`: each way through the code by its law.
-use Rattle.std.proofs.Common.{ℕ, ◌<◌, ◌∙◌, arith}
+use Rattle.std.proofs.Common.{ℕ, ◌<◌, refl, ◌∙◌, arith}
 use mathlib.Core.Path.{subst⁻¹}
 use Rattle.region.specs.Region.{ChunkStep, step_of, none_left}
 use Rattle.pool.specs.Lent.{read_state}
@@ -26,14 +26,20 @@ taken c = step_of _ _ c.in-Some.ensures.steps
 fits : (c : In-Some) → Fit (chunk c)
 fits c = step_fit 2 (counts c) c.args.map c.loop-region.count (taken c) c.loop-region.frame.0 c.loop-region.invariant
 
+pub overflow_sub-frame : goal.overflow_sub-frame
+overflow_sub-frame c =
+    let at = (goal.at.overflow_sub-frame c).In-Some in
+    let one = step_chunk 2 (counts at) c.args.map c.loop-region.count (taken at) c.loop-region.frame.0 c.loop-region.invariant in
+    omega (arith, one.some)
+
 pub overflow_add-frame : goal.overflow_add-frame
-overflow_add-frame c = let f = (fits (goal.at.overflow_add-frame c).In-Some).room in omega (arith, c.len.ensures)
+overflow_add-frame c = let f = (fits (goal.at.overflow_add-frame c).In-Some).room in omega (arith, f)
 
 pub loop-region-preserved-in_default : goal.loop-region-preserved-in_default
 loop-region-preserved-in_default c =
     let a = c.args in
     let at = (goal.at.loop-region-preserved-in_default c).In-Some in
-    step_skips 2 (counts at) a.map c.loop-region.count (taken at) c.loop-region.frame.0 c.loop-region.invariant c.len.ensures
+    step_skips 2 (counts at) a.map c.loop-region.count (taken at) c.loop-region.frame.0 c.loop-region.invariant refl
     (last_table a.pool.now.handle (read_state a.pool.now) a.k (chunk at) c.entry_index-i.ensures c.subtable.ensures c.in_default.not-Leaf)
 
 pub rule_of-requires : goal.rule_of-requires
@@ -47,7 +53,7 @@ loop-region-preserved-in_default-rule_of c =
     let a = c.args in
     let at = (goal.at.loop-region-preserved-in_default-rule_of c).In-Some in
     let none = no_down c.rule_of.result c.in_default-rule_of.not-Down in
-    step_skips 2 (counts at) a.map c.loop-region.count (taken at) c.loop-region.frame.0 c.loop-region.invariant c.len.ensures
+    step_skips 2 (counts at) a.map c.loop-region.count (taken at) c.loop-region.frame.0 c.loop-region.invariant refl
     (last_none a.pool.now.handle (read_state a.pool.now) a.k (chunk at) c.entry_index-i.ensures c.subtable.ensures c.in-Leaf.is
     (ruled _ _ _ _ c.rule_of.ensures c.chunk_of-chunk.ensures) none)
 
@@ -59,14 +65,14 @@ overflow_add-count c =
     let one = last_down a.pool.now.handle s a.k (chunk at) c.entry_index-i.ensures c.subtable.ensures c.in-Leaf.is
     (ruled _ _ _ _ c.rule_of.ensures c.chunk_of-chunk.ensures) c.in-Down.is in
     let most = step_most 2 (counts at) a.map c.loop-region.count (taken at) c.loop-region.frame.0 c.loop-region.invariant
-    c.len.ensures one in
+    refl one in
     omega (arith, most, count_fit a.pool.now.handle s a.k 2 a.map (omega arith), c.requires.1.some, c.requires.1.room)
 
 pub loop-region-preserved : goal.loop-region-preserved
 loop-region-preserved c =
     let a = c.args in
     let at = (goal.at.loop-region-preserved c).In-Some in
-    step_adds 2 (counts at) a.map c.loop-region.count (taken at) c.loop-region.frame.0 c.loop-region.invariant c.len.ensures
+    step_adds 2 (counts at) a.map c.loop-region.count (taken at) c.loop-region.frame.0 c.loop-region.invariant refl
     (last_down a.pool.now.handle (read_state a.pool.now) a.k (chunk at) c.entry_index-i.ensures c.subtable.ensures c.in-Leaf.is
     (ruled _ _ _ _ c.rule_of.ensures c.chunk_of-chunk.ensures) c.in-Down.is)
 

@@ -30,6 +30,10 @@ module _ {t : ℕ} (c : In-Some t) where
   abbrev chunk : Map
   chunk = chunk_map c.args.map c.in-Some.region c.loop-region.frame.0
 
+  -- how far the frame rises
+  abbrev bytes : ℕ
+  bytes = c.in-Some.region.end.0 - c.in-Some.region.start.0
+
   taken : ChunkStep c.loop-region.region-iterator c.in-Some.region c.next.new.self
   taken = step_of _ _ c.in-Some.ensures.steps
 
@@ -40,11 +44,11 @@ module _ {t : ℕ} (c : In-Some t) where
   fits = step_fit c.args.level counts c.args.map c.loop-region.count taken c.loop-region.frame.0 c.loop-region.invariant
 
   skips : counts chunk ≡ 0
-      → Counting c.args.level counts c.args.map c.loop-region.count c.next.new.self (c.loop-region.frame.0 + (c.in-Some.region.end.0 - c.in-Some.region.start.0))
+      → Counting c.args.level counts c.args.map c.loop-region.count c.next.new.self (c.loop-region.frame.0 + bytes)
   skips = step_skips c.args.level counts c.args.map c.loop-region.count taken c.loop-region.frame.0 c.loop-region.invariant refl
 
   adds : (x : ℕ) → counts chunk ≡ x
-      → Counting c.args.level counts c.args.map (c.loop-region.count + x) c.next.new.self (c.loop-region.frame.0 + (c.in-Some.region.end.0 - c.in-Some.region.start.0))
+      → Counting c.args.level counts c.args.map (c.loop-region.count + x) c.next.new.self (c.loop-region.frame.0 + bytes)
   adds x =
       step_adds c.args.level counts c.args.map c.loop-region.count taken c.loop-region.frame.0 c.loop-region.invariant refl
 
